@@ -72,70 +72,73 @@ namespace kfifo {
 
 // What a call of the queue answered.
 enum class Answer : std::uint8_t {
-    done = KFIFO_JUDGE_DONE,   // of a push: the item is in the queue
-    full = KFIFO_JUDGE_FULL,   // of a push: there was no room, and nothing was changed
-    got = KFIFO_JUDGE_GOT,     // of a pop: an item was taken
-    empty = KFIFO_JUDGE_EMPTY, // of a pop: there was no item
+    done = KFIFO_JUDGE_DONE,   // of a put: the item is in the queue
+    full = KFIFO_JUDGE_FULL,   // of a put: there was no room, and nothing was changed
+    got = KFIFO_JUDGE_GOT,     // of a get: an item was taken
+    empty = KFIFO_JUDGE_EMPTY, // of a get: there was no item
     busy = KFIFO_JUDGE_BUSY,   // the call gave up because of other threads, and changed nothing
     worn = KFIFO_JUDGE_WORN    // the queue can never again take such a call, and nothing was changed
 };
 
-// What a pop may return where a std::optional says too little, as for a queue that may answer busy.
+// What a get may return where a std::optional says too little, as for a queue that may answer busy.
 struct Popped {
     Answer answer = Answer::empty;
     std::uint64_t item = 0; // only of Answer::got
 };
 
-// Which threads may make which calls. With one_of_each two threads run: thread 0 pops, and thread 1 pushes.
+// Which threads may make which calls. With one_of_each two threads run: thread 0 gets, and thread 1 puts.
 enum class Callers {
-    any,          // each thread may push and pop
-    one_producer, // thread 1 alone pushes, and all others pop
-    one_consumer, // thread 0 alone pops, and all others push
+    any,          // each thread may put and get
+    one_producer, // thread 1 alone puts, and all others get
+    one_consumer, // thread 0 alone gets, and all others put
     one_of_each
 };
 
 // What a check does. Each round draws one value of `threads`, `calls` and `capacities`, so a value that stands twice is
 // drawn twice as often.
 struct CheckOptions {
-    std::uint32_t k = 1;      // a pop may return any of the k oldest items, 1 to 64; 1 is plain FIFO
-    double seconds = 5;       // how long rounds go on; 0: until `rounds` is reached
-    std::uint64_t rounds = 0; // how many rounds there are; 0: until `seconds` are over
-    std::uint64_t seed = 0;   // what the rounds are drawn from; 0: another seed in each run, which the report names
+    std::string name = "queue"; // of the queue, in the report
+    std::uint32_t k = 1;        // a get may return any of the k oldest items, 1 to 64; 1 is plain FIFO
+    double seconds = 5;         // how long rounds go on; 0: until `rounds` is reached
+    std::uint64_t rounds = 0;   // how many rounds there are; 0: until `seconds` are over
+    std::uint64_t seed = 0;     // what the rounds are drawn from; 0: another seed in each run, which the report names
     std::vector<unsigned> threads = {3, 4, 4, 8};     // 2 to 64 in each round
     std::vector<unsigned> calls = {50, 100, 200};     // of each thread in a round, at least 1
     std::vector<unsigned> capacities = {2, 4, 8, 64}; // for a maker that takes a capacity, at least 1
     Callers callers = Callers::any;
-    std::uint32_t different_items = 0; // 0: each push has an item of its own; n: items repeat, drawn from 1 to n
-    bool signals = true;               // in one round of four a timer's signal interrupts threads inside calls
-    bool fail_undecided = false;       // whether a round without a verdict is a failure; it is counted in any case
+    std::uint32_t repeated = 0;   // 0: each put has an item of its own; n: items repeat, drawn from 1 to n
+    bool signals = true;          // in one round of four a timer's signal interrupts threads inside calls
+    bool undecided_fails = false; // whether a round without a verdict is a failure; it is counted in any case
     bool least = false;           // whether the least k of some rounds is looked for, as is always done where k > 1
-    std::uint64_t tries = 100000; // how many choices the judge's search takes back before it says undecided
-    double hang_seconds = 0.5;    // processor time after which a call hangs; a call that sleeps has ten times as long
-    bool in_process = false;      // no child process, for sanitizers and debuggers; a hang then ends in std::abort
-    bool quiet = false;           // no line of progress, which else is shown where standard error is a terminal
+    std::uint64_t tries = KFIFO_JUDGE_TRIES; // how many choices the search for an order may take back in a round
+    double hang_seconds = 0.5; // processor time after which a call hangs; a call that sleeps has ten times as long
+    bool in_process = false;   // no child process, for sanitizers and debuggers; a hang then ends in std::abort
+    bool quiet = false;        // no line of progress, which else is shown where standard error is a terminal
     std::string files = "kfifo_check"; // a failure writes this name with .csv and .svg; empty: no files
 };
 
 // How a check ended.
 enum class Outcome {
-    passed,    // each round has a legal order, or was undecided where options.fail_undecided is not set, but not all
+    passed,    // each round has a legal order, or was undecided where options.undecided_fails is not set, but not all
     no_order,  // a round has no legal order: the queue is not a FIFO queue for this k
     hang,      // a call did not return
     crash,     // the child process died by a signal, or ended by itself
-    threw,     // the maker, a push or a pop threw an exception
-    undecided, // the judge found neither an order nor evidence, and options.fail_undecided is set
-    no_verdict // this says nothing of the queue: a round could not be judged, as where a push answers got, the check
-               // could not go on, no pop took an item, or each round was undecided
+    threw,     // the maker, a put or a get threw an exception
+    undecided, // no round has a verdict, or one has none and options.undecided_fails is set
+    no_verdict // this says nothing of the queue: a round could not be judged, as where a put answers got, the check
+               // could not go on, or no get took an item
 };
 
 // What a check found.
 struct CheckReport {
     Outcome outcome = Outcome::passed;
-    std::string text;                 // the whole report, of one or more lines; the last has no line feed
-    std::string reason;               // of no_order, undecided and no_verdict: what the judge printed
-    std::uint64_t rounds = 0;         // how many were judged
-    std::uint64_t calls = 0;          // in these rounds
-    std::uint64_t undecided = 0;      // rounds without a verdict
+    std::string text;     // the whole report, of one or more lines; the last has no line feed
+    std::string reason;   // of no_order, undecided and no_verdict: what the judge printed
+    std::string headline; // of no_order: what the evidence says of the queue, in words
+    kfifo_judge_evidence evidence = KFIFO_JUDGE_NO_EVIDENCE; // of no_order: the kind of evidence
+    std::uint64_t rounds = 0;                                // how many were judged
+    std::uint64_t calls = 0;                                 // in these rounds
+    std::uint64_t undecided = 0;                             // rounds without a verdict
     double overlapping = 0;           // the share of calls that overlap another one, in a sample of rounds, 0 to 1
     double seconds = 0;               // how long the check took
     std::uint64_t seed = 0;           // draws the same designs again; the schedules will differ
@@ -161,7 +164,7 @@ class CheckFailed : public std::runtime_error {
 namespace checking {
 
 constexpr unsigned MAX_THREADS = 64;
-constexpr std::size_t MAX_CALLS = 65536;     // of a round: so many can be judged
+constexpr std::size_t MAX_CALLS = 65536;     // of a round
 constexpr unsigned SLOTS = 8;                // how many rounds are run before they are judged together
 constexpr unsigned ROUNDS_OF_A_QUEUE = 2000; // after so many rounds a queue gives way to a new one
 constexpr std::uint32_t MAX_ITEM = 16777215;
@@ -368,12 +371,7 @@ struct Design {
 };
 
 inline std::string text(const Design &design) {
-    static const char *const mixes[] = {"pushes and pops alternate",
-                                        "some threads push and the others pop",
-                                        "bursts",
-                                        "nearly empty",
-                                        "nearly full",
-                                        "half full"};
+    static const char *const mixes[] = {"alternating", "apart", "bursts", "nearly empty", "nearly full", "half full"};
     static const char *const callers[] = {"", "one producer", "one consumer", "one producer and one consumer"};
     return std::to_string(design.threads) + " threads, " + std::to_string(design.calls) + " calls each, " +
            (design.callers == Callers::any ? mixes[int(design.mix)] : callers[int(design.callers)]) + ", " +
@@ -555,8 +553,8 @@ class Log {
 inline Answer answer_of(bool done) noexcept { return done ? Answer::done : Answer::full; }
 inline Answer answer_of(Answer answer) noexcept { return answer; }
 inline Popped popped_of(const Popped &popped) noexcept { return popped; }
-template <class Item> Popped popped_of(const std::optional<Item> &item) noexcept {
-    static_assert(std::is_integral_v<Item> || std::is_enum_v<Item>, "a pop returns a std::optional of a whole number");
+template <class Item, class = std::enable_if_t<std::is_integral_v<Item> || std::is_enum_v<Item>>>
+Popped popped_of(const std::optional<Item> &item) noexcept {
     return item ? Popped{Answer::got, static_cast<std::uint64_t>(*item)} : Popped{Answer::empty, 0};
 }
 
@@ -564,8 +562,8 @@ template <class Item> Popped popped_of(const std::optional<Item> &item) noexcept
 struct Task {
     const Design &design;
     unsigned thread;
-    std::uint32_t first_item;      // the thread's items begin here
-    std::uint32_t different_items; // or, where items repeat, are drawn from 1 to this
+    std::uint32_t first_item; // the thread's items begin here
+    std::uint32_t repeated;   // or, where items repeat, are drawn from 1 to this
 };
 
 // A queue, with what each thread gives to push and pop.
@@ -595,7 +593,6 @@ template <class Make> decltype(auto) make_queue(Make &make, std::size_t capacity
 // Holds what the maker returns, which need not be movable.
 template <class Make> struct Held {
     using Made = decltype(make_queue(std::declval<Make &>(), 0));
-    static_assert(!std::is_reference_v<Made>, "the maker returns a queue, or a unique_ptr to one, and no reference");
     Held(Make &make, std::size_t capacity) : made(make_queue(make, capacity)) {}
     Made made;
     auto &queue() { return inside(made); }
@@ -603,6 +600,59 @@ template <class Make> struct Held {
 
 // For queues without handles: the thread's calls go to the queue itself.
 struct NoHandles {};
+
+// Whether what a push or a pop returns tells what it did.
+template <class Result, class = void> constexpr bool tells_put = false;
+template <class Result>
+constexpr bool tells_put<Result, std::void_t<decltype(answer_of(std::declval<Result>()))>> = true;
+template <class Result, class = void> constexpr bool tells_take = false;
+template <class Result>
+constexpr bool tells_take<Result, std::void_t<decltype(popped_of(std::declval<Result>()))>> = true;
+
+// Whether push and pop can be called with a queue, or with a handle, of this type.
+template <class Target, class Push, class Pop> constexpr bool can_call() {
+    constexpr bool pushes = std::is_invocable_v<Push &, Target &, std::uint32_t>;
+    constexpr bool pops = std::is_invocable_v<Pop &, Target &>;
+    static_assert(pushes, "push has to take (queue, std::uint32_t item), or the handle in place of the queue");
+    static_assert(pops, "pop has to take (queue), or the handle in place of the queue");
+    if constexpr (pushes && pops) {
+        constexpr bool puts = tells_put<std::invoke_result_t<Push &, Target &, std::uint32_t>>;
+        constexpr bool takes = tells_take<std::invoke_result_t<Pop &, Target &>>;
+        static_assert(puts, "push has to return bool, whether the item is in the queue, or kfifo::Answer");
+        static_assert(takes, "pop has to return a std::optional of a whole number, or kfifo::Popped");
+        return puts && takes;
+    }
+    return false;
+}
+
+// Whether the functions of a check can be called as it calls them. What cannot is told by one line, and nothing of it
+// is compiled further.
+template <class Make, class Handle, class Push, class Pop> constexpr bool can_check() {
+    constexpr bool makes = std::is_invocable_v<Make &, std::size_t> || std::is_invocable_v<Make &>;
+    static_assert(makes, "the maker has to take (std::size_t capacity) or nothing, and to return a new queue, or a "
+                         "std::unique_ptr or std::shared_ptr to one");
+    if constexpr (makes) {
+        using Made = decltype(make_queue(std::declval<Make &>(), 0));
+        constexpr bool is_queue = !std::is_reference_v<Made> && !std::is_void_v<Made>;
+        static_assert(is_queue, "the maker has to return a queue, or a std::unique_ptr or std::shared_ptr to one, and "
+                                "no reference");
+        if constexpr (is_queue) {
+            using Queue = std::remove_reference_t<decltype(inside(std::declval<Made &>()))>;
+            if constexpr (std::is_same_v<Handle, NoHandles>) {
+                return can_call<Queue, Push, Pop>();
+            } else {
+                constexpr bool hands = std::is_invocable_v<Handle &, Queue &, unsigned>;
+                static_assert(hands,
+                              "handle has to take (queue, unsigned thread), and to return what push and pop get");
+                if constexpr (hands) {
+                    using Own = std::remove_reference_t<std::invoke_result_t<Handle &, Queue &, unsigned>>;
+                    return can_call<std::remove_reference_t<decltype(inside(std::declval<Own &>()))>, Push, Pop>();
+                }
+            }
+        }
+    }
+    return false;
+}
 
 template <class Make, class Handle, class Push, class Pop> class Subject final : public Instance {
     using Queue = std::remove_reference_t<decltype(std::declval<Held<Make> &>().queue())>;
@@ -652,7 +702,7 @@ template <class Make, class Handle, class Push, class Pop> class Subject final :
 
   private:
     static std::uint32_t item(const Task &task, Random &random, std::uint32_t used) noexcept {
-        if (task.different_items > 0) return 1 + std::uint32_t(random.below(task.different_items));
+        if (task.repeated > 0) return 1 + std::uint32_t(random.below(task.repeated));
         return task.first_item + used;
     }
     auto &target(unsigned thread) {
@@ -984,14 +1034,16 @@ class Verdict {
     Verdict &operator=(const Verdict &) = delete;
     ~Verdict() { kfifo_judge_clear(&report); }
     kfifo_judge_status status() const noexcept { return report.status; }
+    kfifo_judge_evidence evidence() const noexcept { return report.evidence; }
     std::string text() const { return report.text ? report.text : "the judge ran out of memory\n"; }
+    std::string headline() const { return report.headline ? report.headline : ""; }
 
   private:
     kfifo_judge_report report{};
 };
 
 inline bool is_bad(kfifo_judge_status status, const CheckOptions &options) noexcept {
-    return status != KFIFO_JUDGE_LEGAL && (status != KFIFO_JUDGE_UNDECIDED || options.fail_undecided);
+    return status != KFIFO_JUDGE_LEGAL && (status != KFIFO_JUDGE_UNDECIDED || options.undecided_fails);
 }
 
 // ---- The rounds ----
@@ -1143,7 +1195,7 @@ class Conductor {
         note_clock(board.lanes[thread]);
         run_on(design.pinned ? std::vector<int>{allowed[thread % allowed.size()]} : allowed);
         Random own(design.seed + std::uint64_t(thread) * 0x632be59bd9b4e019);
-        const Task task{design, thread, kept.next_item + thread * settings.room, options.different_items};
+        const Task task{design, thread, kept.next_item + thread * settings.room, options.repeated};
         Log log(board.lanes[thread], memory.log(index, thread), clock, thread, slot.number);
         std::uint32_t used = 0;
         const std::string who = "thread " + std::to_string(thread);
@@ -1237,7 +1289,7 @@ class Conductor {
         kfifo_judge_report report{};
         if (kfifo_least_calls(calls.data(), calls.size(), options.tries, &report) == KFIFO_JUDGE_LEGAL) {
             board.least_rounds++;
-            raise(board.least_at_least, report.at_least);
+            raise(board.least_at_least, static_cast<std::uint32_t>(report.at_least));
             raise(board.least_at_most, report.at_most);
             if (report.at_most == 0) board.least_unknown++;
         }
@@ -1311,15 +1363,20 @@ class Reporter {
         // A round that was played before may already show what led to a hang or a crash, and says more.
         if (const std::optional<unsigned> bad = bad_slot()) return bad_round(*bad);
         // The thread whose call threw waits for the others, which looks like a hang of that call.
-        if (ended == Ended::hang && !board.has_note)
-            hang();
-        else if (ended == Ended::hang || ended == Ended::threw)
+        if (ended == Ended::hang && !board.has_note) {
+            end(Outcome::hang, "a call did not return");
+            return finish_with_round(hanging());
+        }
+        if (ended == Ended::hang || ended == Ended::threw) {
             end(Outcome::threw, "an exception came out of " + note());
-        else if (ended == Ended::broken)
+            return finish_with_round("");
+        }
+        if (ended == Ended::broken) {
             end(Outcome::no_verdict, "the check could not go on: " + note());
-        else
-            end(Outcome::crash, crash(status));
-        return finish_with_round();
+            return finish_with_round("");
+        }
+        end(Outcome::crash, death(status));
+        return finish_with_round(dying());
     }
 
   private:
@@ -1334,34 +1391,38 @@ class Reporter {
         report.least_at_most = board.least_unknown > 0 ? 0 : board.least_at_most.load();
     }
     std::string note() const { return std::string(board.note, strnlen(board.note, sizeof board.note)); }
+    // The first line of the report.
     void end(Outcome outcome, const std::string &line) {
         report.outcome = outcome;
-        report.text = "kfifo: " + line;
+        report.text =
+            "kfifo check of " + settings.options.name + " for k = " + std::to_string(settings.options.k) + ": " + line;
+    }
+    void add(const std::string &lines) {
+        if (!lines.empty()) report.text += "\n" + lines;
+        while (report.text.back() == '\n') report.text.pop_back();
     }
 
+    // The last line.
     std::string counts() const {
-        std::string text = "rounds " + grouped(report.rounds) + ", undecided " + grouped(report.undecided) +
-                           ", calls " + grouped(report.calls) + ", overlapping " +
-                           rounded(100 * report.overlapping, 0) + " %, " + rounded(report.seconds, 2) + " s, seed " +
-                           std::to_string(report.seed);
+        std::string text = std::to_string(report.rounds) + " rounds, " + std::to_string(report.calls) + " calls, " +
+                           rounded(100 * report.overlapping, 0) + " % overlapping, " +
+                           std::to_string(report.undecided) + " undecided, seed " + std::to_string(report.seed);
         if (report.least_at_least == 0) return text;
-        text += "\nleast k of some rounds, " + grouped(board.least_rounds) + " of them: at least " +
-                std::to_string(report.least_at_least) + ", at most ";
+        text += "; of a sample the least k is at least " + std::to_string(report.least_at_least) + " and at most ";
         return text + (report.least_at_most > 0 ? std::to_string(report.least_at_most) : "unknown");
     }
 
     // A check that could not have found a fault has not passed.
     CheckReport no_fault() {
         if (report.rounds == report.undecided)
-            end(Outcome::no_verdict, "no round has a verdict");
+            end(Outcome::undecided, "no round has a verdict");
         else if (!board.has_got)
-            end(Outcome::no_verdict, "no pop took an item, so this says nothing of the queue");
+            end(Outcome::no_verdict, "no get took an item, so nothing was tested");
         else
-            end(Outcome::passed,
-                "no fault was found; each round with a verdict is legal for k = " + std::to_string(settings.options.k));
-        report.text += "\n" + counts();
+            end(Outcome::passed, "no fault found");
         if (report.overlapping < 0.2)
-            report.text += "\nfew calls overlapped, so few faults could show: the threads need more processors";
+            add("few calls overlapped, so few faults could show: the threads need more processors");
+        add(counts());
         return report;
     }
 
@@ -1382,27 +1443,33 @@ class Reporter {
         const std::vector<kfifo_judge_call> calls = calls_of(memory, index);
         const Verdict verdict(calls, settings.options);
         report.reason = verdict.text();
-        if (verdict.status() == KFIFO_JUDGE_NO_ORDER)
-            end(Outcome::no_order, "a round of this queue has no legal order\n" + report.reason);
-        else if (verdict.status() == KFIFO_JUDGE_UNDECIDED)
-            end(Outcome::undecided, "a round of this queue is undecided\n" + report.reason);
-        else
-            end(Outcome::no_verdict, "this says nothing of the queue: a round could not be judged\n" + report.reason +
-                                         "a push answers done, full, busy or worn, a pop got, empty, busy or worn");
-        while (!report.text.empty() && report.text.back() == '\n') report.text.pop_back();
-        return finish(index, calls, KFIFO_DRAW_EVIDENCE);
+        report.headline = verdict.headline();
+        report.evidence = verdict.evidence();
+        std::string details = report.reason;
+        if (verdict.status() == KFIFO_JUDGE_NO_ORDER) {
+            end(Outcome::no_order, "no legal order: " + report.headline);
+        } else if (verdict.status() == KFIFO_JUDGE_UNDECIDED) {
+            end(Outcome::undecided, "a round is undecided");
+        } else {
+            end(Outcome::no_verdict, "a log cannot be judged: the check or its functions are wrong, not the queue");
+            details += "a put answers done, full, busy or worn, a get got, empty, busy or worn";
+        }
+        return finish(index, calls, KFIFO_DRAW_EVIDENCE, details);
     }
 
-    void hang() {
-        end(Outcome::hang, "a call did not return");
+    // What each thread was in that was in a call.
+    std::string hanging() const {
+        std::string text;
         for (unsigned lane = 0; lane < memory.lanes(); lane++)
             if (what_of(board.lanes[lane].now) != Doing::nothing)
-                report.text += "\n  " + text_of(lane) + ", for " + rounded(double(board.lanes[lane].spent) / 1e9, 2) +
-                               " s of processor time and " + rounded(double(board.lanes[lane].lasted) / 1e9, 2) +
-                               " s in all";
+                text += text_of(lane) + ", for " + rounded(double(board.lanes[lane].spent) / 1e9, 2) +
+                        " s of processor time and " + rounded(double(board.lanes[lane].lasted) / 1e9, 2) +
+                        " s in all\n";
+        return text;
     }
 
-    std::string crash(int status) const {
+    // How the process ended, in words.
+    std::string death(int status) const {
         std::string text = "the process that made the calls ";
         if (WIFSIGNALED(status))
             text += "died by signal " + std::to_string(WTERMSIG(status)) + " (" + strsignal(WTERMSIG(status)) + ")";
@@ -1410,51 +1477,54 @@ class Reporter {
             text += "ended with status " + std::to_string(WEXITSTATUS(status));
         else
             text += "ended before its time"; // or its status is not known, where the caller ignores SIGCHLD
-        if (board.has_note) text += ": " + note();
-        bool is_in_call = false;
-        for (unsigned lane = 0; lane < memory.lanes(); lane++)
-            if (what_of(board.lanes[lane].now) != Doing::nothing) {
-                text += "\n  " + text_of(lane);
-                is_in_call = true;
-            }
-        return text + (is_in_call ? "" : "\n  no thread was in a call of the queue");
+        return board.has_note ? text + ": " + note() : text;
     }
 
-    // As "thread 2 was in the push of item 17".
+    // What each thread was in when the process ended.
+    std::string dying() const {
+        std::string text;
+        for (unsigned lane = 0; lane < memory.lanes(); lane++)
+            if (what_of(board.lanes[lane].now) != Doing::nothing) text += text_of(lane) + "\n";
+        return text.empty() ? "no thread was in a call of the queue" : text;
+    }
+
+    // As "thread 2 was in a put of item 17".
     std::string text_of(unsigned lane) const {
         const std::uint64_t now = board.lanes[lane].now;
         const std::string thread = "thread " + std::to_string(lane == settings.threads ? 0 : lane) + " was in ";
         switch (what_of(now)) {
-        case Doing::push: return thread + "the push of item " + std::to_string(item_of(now));
+        case Doing::push: return thread + "a put of item " + std::to_string(item_of(now));
         case Doing::making: return thread + "the maker of the queue";
         case Doing::destroying: return thread + "the destructor of the queue";
-        default: return thread + "a pop" + (lane == settings.threads ? ", to empty the queue after the round" : "");
+        default: return thread + "a get" + (lane == settings.threads ? ", to empty the queue after the round" : "");
         }
     }
 
     // Ends the report with the round that was being played, if there is one.
-    CheckReport finish_with_round() {
+    CheckReport finish_with_round(const std::string &details) {
         for (unsigned index = 0; index < SLOTS; index++)
             if (board.slots[index].state == SlotState::playing)
-                return finish(index, unfinished_calls_of(memory, index), KFIFO_DRAW_ALL);
-        report.text += "\n" + counts();
+                return finish(index, unfinished_calls_of(memory, index), KFIFO_DRAW_ALL, details);
+        add(details);
+        add(counts());
         return report;
     }
 
-    CheckReport finish(unsigned index, const std::vector<kfifo_judge_call> &calls, kfifo_draw_part part) {
+    CheckReport finish(unsigned index, const std::vector<kfifo_judge_call> &calls, kfifo_draw_part part,
+                       const std::string &details) {
         const Slot &slot = board.slots[index];
-        report.text += "\nround " + grouped(slot.number) + ": " + text(slot.design) + "; times are " +
-                       (board.has_ticks ? "ticks of the processor's counter" : "nanoseconds") + "\n" + counts();
+        add("round " + std::to_string(slot.number) + ": " + text(slot.design) + "; times are " +
+            (board.has_ticks ? "ticks of the processor's counter" : "nanoseconds"));
+        add(details);
         if (!settings.options.files.empty()) write_files(calls, part);
+        add(counts());
         return report;
     }
 
     void write_files(const std::vector<kfifo_judge_call> &calls, kfifo_draw_part part) {
         const std::string log = settings.options.files + ".csv", picture = settings.options.files + ".svg";
         if (write_log(log, calls)) report.log = log;
-        report.text += report.log.empty() ? "\nthe log could not be written to " + log
-                                          : "\nlog: " + log + "   (kfifo judge -k " +
-                                                std::to_string(settings.options.k) + " < " + log + ")";
+        add((report.log.empty() ? "not written: " : "log: ") + log);
         kfifo_judge_report drawn{};
         if (kfifo_draw_calls(calls.data(), calls.size(), settings.options.k, part, KFIFO_DRAW_SVG, &drawn) ==
             KFIFO_JUDGE_DRAWN) {
@@ -1462,8 +1532,7 @@ class Reporter {
             out.write(drawn.text, std::streamsize(drawn.length));
             out.close();
             if (out) report.picture = picture;
-            report.text +=
-                report.picture.empty() ? "\nthe picture could not be written to " + picture : "\npicture: " + picture;
+            add((report.picture.empty() ? "not written: " : "picture: ") + picture);
         }
         kfifo_judge_clear(&drawn);
     }
@@ -1507,6 +1576,7 @@ inline void check_options(const CheckOptions &of) {
         return !values.empty() &&
                std::all_of(values.begin(), values.end(), [=](unsigned it) { return least <= it && it <= most; });
     };
+    refuse_if(of.name.empty(), "the name is not empty");
     refuse_if(of.k < 1 || of.k > 64, "k is 1 to 64");
     refuse_if(!all(of.threads, 2, MAX_THREADS), "threads are 2 to 64");
     refuse_if(!all(of.calls, 1, 30000), "the calls of a thread are 1 to 30,000");
@@ -1514,7 +1584,7 @@ inline void check_options(const CheckOptions &of) {
     refuse_if(!(of.seconds >= 0 && of.seconds < 1e9), "the seconds are 0 to 1,000,000,000");
     refuse_if(of.seconds == 0 && of.rounds == 0, "there is neither a limit of time nor one of rounds");
     refuse_if(!(of.hang_seconds > 0 && of.hang_seconds < 1e6), "the time of a hang is more than 0");
-    refuse_if(of.different_items > MAX_ITEM, "different items are at most 16,777,215");
+    refuse_if(of.repeated > MAX_ITEM, "repeated is at most 16,777,215");
     refuse_if(int(of.callers) < 0 || int(of.callers) > int(Callers::one_of_each), "there are no such callers");
 }
 
@@ -1618,12 +1688,16 @@ inline CheckReport run_apart(const Settings &settings, const Maker &make, const 
 
 template <class Make, class Handle, class Push, class Pop>
 CheckReport run(Make &make, Handle &handle, Push &push, Pop &pop, const CheckOptions &options) {
-    const Settings settings = settings_of(options, std::is_invocable_v<Make &, std::size_t>);
-    const SharedMemory memory(settings);
-    const Maker maker = [&](std::size_t capacity, unsigned threads) -> std::unique_ptr<Instance> {
-        return std::make_unique<Subject<Make, Handle, Push, Pop>>(make, handle, push, pop, capacity, threads);
-    };
-    return options.in_process ? run_here(settings, maker, memory) : run_apart(settings, maker, memory);
+    if constexpr (can_check<Make, Handle, Push, Pop>()) {
+        const Settings settings = settings_of(options, std::is_invocable_v<Make &, std::size_t>);
+        const SharedMemory memory(settings);
+        const Maker maker = [&](std::size_t capacity, unsigned threads) -> std::unique_ptr<Instance> {
+            return std::make_unique<Subject<Make, Handle, Push, Pop>>(make, handle, push, pop, capacity, threads);
+        };
+        return options.in_process ? run_here(settings, maker, memory) : run_apart(settings, maker, memory);
+    } else {
+        std::abort(); // no such program is built
+    }
 }
 
 } // namespace checking

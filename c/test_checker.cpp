@@ -9,8 +9,11 @@
 #include "checker/queues.hpp"
 #include "kfifo_test.hpp"
 
+#include <algorithm>
 #include <cstdio>
 #include <cstring>
+#include <fstream>
+#include <iterator>
 #include <map>
 #include <stdexcept>
 #include <string>
@@ -36,19 +39,16 @@ const std::map<Found, const char *> NAMES = {
 };
 
 Found found_by(const CheckReport &report) {
-    static const std::map<const char *, Found> signs = {
-        {"which no call before its end put", NEVER_PUT},
-        {"which was taken more often than put", TWICE},
-        {"found nothing, while there were items", EMPTY},
-        {"older item", OVERTAKEN},
-    };
     if (report.passed()) return NOTHING;
     if (report.outcome == Outcome::hang) return HANG;
-    if (report.outcome != Outcome::no_order) return OTHER;
-    const std::string line = report.reason.substr(0, report.reason.find("\n  "));
-    for (const auto &sign : signs)
-        if (line.find(sign.first) != line.npos) return sign.second;
-    return OTHER;
+    switch (report.evidence) {
+    case KFIFO_JUDGE_NEVER_PUT: return NEVER_PUT;
+    case KFIFO_JUDGE_TAKEN_TWICE: return TWICE;
+    case KFIFO_JUDGE_NOT_EMPTY: return EMPTY;
+    case KFIFO_JUDGE_TOO_YOUNG:
+    case KFIFO_JUDGE_OLDER_LEFT: return OVERTAKEN;
+    default: return OTHER;
+    }
 }
 
 using Run = CheckReport (*)(const CheckOptions &);
@@ -214,7 +214,7 @@ template <class Kind, std::uint32_t k, unsigned threads> CheckReport run_changin
     of_these.k = k + threads - 1;
     of_these.threads = {threads};
     of_these.capacities = {2, 4, 8, 16};
-    of_these.fail_undecided = true;
+    of_these.undecided_fails = true;
     using Queue = Changing<Kind>;
     using Handle = std::pair<Queue *, unsigned>;
     return kfifo::run_check_with_handles(
@@ -300,6 +300,40 @@ const Row ROWS[] = {
     changing("kfifo-1-changing-cells-16", run_changing<OfCells, 1, 16>),
 };
 
+// What may be found of the faulty queues that the checks for C++, Rust and Python have in common, from the table that
+// their tests share.
+const std::map<std::string, unsigned> &shared_faults() {
+    static const std::map<std::string, unsigned> faults = [] {
+        static const Found kinds[] = {OTHER, NEVER_PUT, TWICE, EMPTY, OVERTAKEN};
+        std::map<std::string, unsigned> read;
+        std::ifstream table("checker/faulty_queues.csv");
+        std::string line;
+        for (std::getline(table, line); std::getline(table, line);) {
+            const std::size_t comma = line.find(',');
+            for (const char kind : line.substr(comma + 1))
+                if (kind != ' ') read[line.substr(0, comma)] |= kinds[kind - '0'];
+        }
+        return read;
+    }();
+    return faults;
+}
+
+// What may be found of a queue. A hang is no evidence, so the table does not have it.
+unsigned faults_of(const Row &row) {
+    const auto shared = shared_faults().find(row.name);
+    return shared == shared_faults().end() ? row.faults : shared->second | (row.faults & HANG);
+}
+
+// Whether each queue of the table has a row.
+bool has_shared_queues() {
+    const auto is_row = [](const auto &shared) {
+        return std::any_of(std::begin(ROWS), std::end(ROWS), [&](const Row &row) { return shared.first == row.name; });
+    };
+    const bool has = shared_faults().size() >= 5 && std::all_of(shared_faults().begin(), shared_faults().end(), is_row);
+    if (!has) std::puts("checker/faulty_queues.csv: FAILED: it is not there, or has a queue that no row has");
+    return has;
+}
+
 std::string names_of(unsigned faults) {
     std::string names;
     for (const auto &name : NAMES)
@@ -329,7 +363,7 @@ bool is_busy(const CheckReport &report) { return double(report.calls) < 500000 *
 
 // Whether nothing was found since threads take turns on a processor, so that a race hardly ever shows.
 bool had_no_race(const Row &row, const CheckReport &report) {
-    return row.faults != NOTHING && report.passed() && report.overlapping < 0.05;
+    return faults_of(row) != NOTHING && report.passed() && report.overlapping < 0.05;
 }
 
 // Whether the generations of the queue did not change often, though they should.
@@ -338,8 +372,9 @@ bool had_few_changes(const Row &row) { return row.is_changing && used().changes(
 // Whether a check of the queue finds what it should. Prints a line, and the whole report where it does not.
 bool is_right(const Row &row, double seconds) {
     used() = Used();
+    const unsigned faults = faults_of(row);
     CheckReport report = row.run(options_of(row, seconds));
-    if (row.faults != NOTHING && found_by(report) == NOTHING && is_busy(report)) report = row.run(options_of(row, 60));
+    if (faults != NOTHING && found_by(report) == NOTHING && is_busy(report)) report = row.run(options_of(row, 60));
     for (int more = 0; more < 20 && report.passed() && had_few_changes(row); more++)
         report = row.run(options_of(row, 3));
     if (had_no_race(row, report)) {
@@ -347,16 +382,15 @@ bool is_right(const Row &row, double seconds) {
         return true;
     }
     const Found found = found_by(report);
-    const bool is_right = row.faults == NOTHING ? found == NOTHING && report.rounds > 0 && !had_few_changes(row)
-                                                : (found & row.faults) != 0;
+    const bool is_right =
+        faults == NOTHING ? found == NOTHING && report.rounds > 0 && !had_few_changes(row) : (found & faults) != 0;
     std::printf("%s: %s: found %s in %.2f s, %llu rounds, %.0f %% of the calls overlapping\n", row.name,
                 is_right ? "passed" : "FAILED", NAMES.at(found), report.seconds, (unsigned long long)report.rounds,
                 100 * report.overlapping);
     if (row.is_changing)
         std::printf("  at least %.0f changes of generations, least k of the rounds %u to %u\n", used().changes(),
                     report.least_at_least, report.least_at_most);
-    if (!is_right)
-        std::printf("  wanted %s\n%s\n", row.faults ? names_of(row.faults).c_str() : "nothing", report.text.c_str());
+    if (!is_right) std::printf("  wanted %s\n%s\n", faults ? names_of(faults).c_str() : "nothing", report.text.c_str());
     std::fflush(stdout);
     return is_right;
 }
@@ -423,7 +457,7 @@ int main(int count, char **words) {
     if (mode == "--measure")
         std::printf("| Queue | Time to the first fault, median | Worst | Calls judged a second | Overlapping calls | "
                     "Found |\n|---|---|---|---|---|---|\n");
-    int passed = 0, failed = 0;
+    int passed = 0, failed = has_shared_queues() ? 0 : 1;
     for (const Row &row : ROWS) {
         if (!is_wanted(row, names, !mode.empty())) continue;
         if (row.run == nullptr) {

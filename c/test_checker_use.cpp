@@ -161,7 +161,8 @@ void options_out_of_range() {
     refused([](auto &of) { of.seconds = std::stod("nan"); }, "the seconds");
     refused([](auto &of) { of.seconds = 0, of.rounds = 0; }, "neither");
     refused([](auto &of) { of.hang_seconds = 0; }, "the time of a hang");
-    refused([](auto &of) { of.different_items = 16777216; }, "different items");
+    refused([](auto &of) { of.repeated = 16777216; }, "repeated");
+    refused([](auto &of) { of.name = ""; }, "the name");
     refused([](auto &of) { of.threads = {64}, of.calls = {1000}; }, "too many calls");
 }
 
@@ -169,7 +170,7 @@ void limits_and_counts() {
     const CheckReport rounds = run(Fault::none, some(40));
     expect(rounds.passed() && is_whole(rounds, some(40)) && rounds.calls > rounds.rounds * 150, "a limit of rounds",
            rounds);
-    const std::string said = "rounds " + std::to_string(rounds.rounds) + ", ";
+    const std::string said = "\n" + std::to_string(rounds.rounds) + " rounds, ";
     expect(rounds.seed != 0 && rounds.log.empty() && has(rounds.text, said), "what is said of a pass", rounds);
     expect(rounds.least_at_least == 0, "the least k only where it is asked for", rounds);
     CheckOptions options = some(0);
@@ -274,7 +275,7 @@ void items() {
     const CheckReport distinct = kfifo::run_check([] { return Counting(); }, pushes(1), pop, some(200));
     expect(distinct.passed(), "distinct items", distinct);
     CheckOptions options = some(40);
-    options.different_items = 3;
+    options.repeated = 3;
     const CheckReport repeated = kfifo::run_check([] { return Counting(); }, pushes(1), pop, options);
     expect(repeated.outcome == Outcome::threw && has(repeated.text, "an item came again"), "repeated items", repeated);
     const CheckReport few = kfifo::run_check([] { return Queue(); },
@@ -292,6 +293,8 @@ void no_order() {
     expect(lost.outcome == Outcome::no_order && has(lost.text, "no legal order"), "a lost item", lost);
     expect(has(lost.reason, "no order for k = 1\n") && names_fault(lost, " put ", "00 from "), "its reason", lost);
     expect(has(lost.text, lost.reason.substr(0, lost.reason.size() - 1)), "the reason in the report", lost);
+    const std::string head = "kfifo check of queue for k = 1: no legal order: " + lost.headline + "\n";
+    expect(lost.evidence == KFIFO_JUDGE_NOT_EMPTY && lost.text.rfind(head, 0) == 0, "its headline", lost);
     expect(has(lost.text, "seed " + std::to_string(lost.seed)) && has(lost.text, " threads, "), "its round", lost);
     expect(has(content(lost.picture), "<svg"), "the picture of it", lost);
     const std::string log = content(lost.log);
@@ -308,7 +311,7 @@ void no_order() {
     expect(wide.log.empty() && wide.picture.empty(), "no files", wide);
     options.files = "/no/such/folder/log";
     const CheckReport unwritten = run(Fault::lost, options);
-    expect(unwritten.log.empty() && has(unwritten.text, "could not be written"), "files that cannot be", unwritten);
+    expect(unwritten.log.empty() && has(unwritten.text, "not written: "), "files that cannot be", unwritten);
 }
 
 // A last in, first out queue of four places never passes over more than three items.
@@ -350,8 +353,7 @@ void wrong_use() {
     const CheckReport answer =
         kfifo::run_check([] { return Queue(); }, [](Queue &, std::uint32_t) { return Answer::got; },
                          [](Queue &queue) { return queue.pop(); }, some(1000));
-    expect(answer.outcome == Outcome::no_verdict && has(answer.text, "says nothing of the queue"), "a push that got",
-           answer);
+    expect(answer.outcome == Outcome::no_verdict && has(answer.text, "not the queue"), "a push that got", answer);
     const CheckReport maker =
         kfifo::run_check([]() -> std::unique_ptr<Queue> { throw std::runtime_error("no queue today"); },
                          [](Queue &queue, std::uint32_t item) { return queue.push(item); },
@@ -359,15 +361,15 @@ void wrong_use() {
     expect(maker.outcome == Outcome::threw && has(maker.text, "the maker: no queue today"), "a maker throws", maker);
     const CheckReport full = kfifo::run_check([] { return Queue(); }, [](Queue &, std::uint32_t) { return false; },
                                               [](Queue &queue) { return queue.pop(); }, some(20));
-    expect(full.outcome == Outcome::no_verdict && has(full.text, "no pop took an item"), "an idle queue", full);
+    expect(full.outcome == Outcome::no_verdict && has(full.text, "no get took an item"), "an idle queue", full);
 }
 
 void other_verdicts() {
     pretended = KFIFO_JUDGE_UNDECIDED;
     const CheckReport all = run(Fault::none, some(20));
-    expect(all.outcome == Outcome::no_verdict && all.undecided == all.rounds, "each round is undecided", all);
+    expect(all.outcome == Outcome::undecided && all.undecided == all.rounds, "each round is undecided", all);
     CheckOptions options = some(20);
-    options.fail_undecided = true;
+    options.undecided_fails = true;
     const CheckReport first = run(Fault::none, options);
     expect(first.outcome == Outcome::undecided && first.undecided == 1, "an undecided round is a failure", first);
     expect(has(first.text, "undecided for k = 1") && has(content(first.log), "enq"), "its log", first);
@@ -397,7 +399,7 @@ void threw() {
 void ends_of_the_child() {
     const CheckReport crash = run(Fault::crashes, some(1000));
     expect(crash.outcome == Outcome::crash && has(crash.text, "died by signal 11"), "a crash", crash);
-    expect(names_fault(crash, "was in the push of item ", "00"), "where it crashed", crash);
+    expect(names_fault(crash, "was in a put of item ", "00"), "where it crashed", crash);
     expect(has_unfinished(crash), "the log of a crash", crash);
     const CheckReport end = run(Fault::at_its_end, some(10));
     expect(end.outcome == Outcome::crash && has(end.text, "was in the destructor of the queue"), "a last crash", end);
@@ -408,7 +410,7 @@ void ends_of_the_child() {
     for (const Fault fault : {Fault::spins, Fault::sleeps}) {
         const CheckReport hang = run(fault, options);
         expect(hang.outcome == Outcome::hang, "a hang", hang);
-        expect(names_fault(hang, "was in the push of item ", "00, for "), "where it hangs", hang);
+        expect(names_fault(hang, "was in a put of item ", "00, for "), "where it hangs", hang);
         expect(has_unfinished(hang), "the log of a hang", hang);
         expect(hang.seconds >= 0.1 && hang.seconds < 60, "the time of a hang", hang);
     }
@@ -437,7 +439,7 @@ void hang_in_process() {
     int status = 0;
     waitpid(child, &status, 0);
     expect(WIFSIGNALED(status) && WTERMSIG(status) == SIGABRT, "the process is aborted");
-    expect(has(said, "was in the push of item ") && has(said, "cannot be stopped"), said.c_str());
+    expect(has(said, "was in a put of item ") && has(said, "cannot be stopped"), said.c_str());
 }
 
 void in_process() {

@@ -29,6 +29,9 @@ Any other exception fails the check, and so does a call that does not return.
 """
 from __future__ import annotations
 
+import _thread
+import collections
+import concurrent.futures
 import ctypes
 import ctypes.util
 import enum
@@ -46,11 +49,13 @@ import threading
 import time
 import traceback
 from dataclasses import dataclass, field
-from typing import Any, Callable, Iterable, NamedTuple, Optional
+from typing import Any, Callable, Iterable, Iterator, NamedTuple, Optional
 
-MAX_CALLS = 65_536
+MAX_CALLS = 16_777_215
 MAX_ITEM = 16_777_215
 TRIES = 1_000_000
+
+_BATCH = 16  # how many logs an executor gets at a time
 
 # The numbers of the header `c/kfifo_judge.h`.
 _OPS = ("put", "get")
@@ -60,6 +65,8 @@ _ANSWER_NUMBERS = {answer: number for number, answer in enumerate(_ANSWERS)}
 _LEGAL, _NO_ORDER, _UNDECIDED, _DRAWN, _FAULT, _BAD_CALL, _NO_MEMORY = range(7)
 # The layout of a `kfifo_judge_call`: first, last, item, thread, op, answer.
 _CALL = struct.Struct("@QQQIBBxx")
+# The layout of a `kfifo_judge_named`: number, line, and the call.
+_NAMED = struct.Struct("@NQQQQIBBxx")
 
 
 class LibraryMissing(RuntimeError):
@@ -94,13 +101,27 @@ class Call(NamedTuple):
     answer: str  # of a put "done" or "full", of a get "got" or "empty", of both "busy" or "worn", "" if unfinished
 
 
+class NamedCall(NamedTuple):
+    """A call that a reason names."""
+
+    number: int  # in ascending order of first time, from 0
+    line: int  # of the log that it stands in, from 1; 0 of a record
+    call: Call  # its item is 0 where it is a get that found nothing, its last time where it is unfinished
+
+
 @dataclass(frozen=True)
 class Verdict:
     """What the judge says of a log. `text` is what the program `kfifo judge` prints of it."""
 
     status: str  # "legal" or "no order", which are proved, or "undecided"
     text: str
-    named: tuple[int, ...] = ()  # the calls that the reason names, numbered in ascending order of first time, from 0
+    calls: int = 0  # how many were judged
+    left: int = 0  # how many items are left at their end
+    evidence: int = 0  # of "no order", the number of the kind of its evidence, 1 to 7, as docs/JUDGE.md has it; else 0
+    evidence_name: str = ""  # and its name, as "too young"
+    headline: str = ""  # and what it says of the queue, as "item 2 came out, and item 1, which went in before, had not"
+    named: tuple[NamedCall, ...] = ()  # and the calls that it rests on, in the order of the text
+    least: Optional[tuple[int, Optional[int]]] = None  # and the bounds of the least k, where the text says them
 
 
 @dataclass(frozen=True)
@@ -121,8 +142,13 @@ class _Report(ctypes.Structure):
         ("place", ctypes.c_uint64),
         ("text", ctypes.c_void_p),
         ("length", ctypes.c_size_t),
-        ("named", ctypes.POINTER(ctypes.c_size_t)),
+        ("evidence", ctypes.c_int),
+        ("headline", ctypes.c_void_p),
+        ("headline_length", ctypes.c_size_t),
+        ("named", ctypes.c_void_p),
         ("named_count", ctypes.c_size_t),
+        ("calls", ctypes.c_size_t),
+        ("left", ctypes.c_size_t),
         ("at_least", ctypes.c_size_t),
         ("at_most", ctypes.c_uint32),
     )
@@ -161,6 +187,8 @@ def _with_types(library: ctypes.CDLL) -> ctypes.CDLL:
     library.kfifo_draw_calls.argtypes = draw_types
     library.kfifo_judge_clear.argtypes = [report]
     library.kfifo_judge_clear.restype = None
+    library.kfifo_judge_evidence_name.argtypes = [ctypes.c_int]
+    library.kfifo_judge_evidence_name.restype = ctypes.c_char_p
     return library
 
 
@@ -169,9 +197,29 @@ class _Answer(NamedTuple):
 
     status: int
     text: str
-    named: tuple[int, ...]
+    evidence: int
+    headline: str
+    named: tuple[NamedCall, ...]
+    calls: int
+    left: int
     at_least: int
     at_most: int
+
+    def bounds(self) -> Optional[tuple[int, Optional[int]]]:
+        return (self.at_least, self.at_most or None) if self.at_least else None
+
+
+def _text_at(place: Optional[int], length: int) -> str:
+    return ctypes.string_at(place, length).decode(errors="replace") if place else ""
+
+
+def _named_in(report: _Report) -> tuple[NamedCall, ...]:
+    """The calls that a report names."""
+    data = ctypes.string_at(report.named, report.named_count * _NAMED.size) if report.named_count else b""
+    return tuple(
+        NamedCall(number, line, Call(thread, _OPS[op], item, first, last, _ANSWERS[answer]))
+        for number, line, first, last, item, thread, op, answer in _NAMED.iter_unpack(data)
+    )
 
 
 def _ask(function: str, *arguments: Any) -> _Answer:
@@ -180,9 +228,9 @@ def _ask(function: str, *arguments: Any) -> _Answer:
     report = _Report()
     status = getattr(library, function)(*arguments, ctypes.byref(report))
     try:
-        text = ctypes.string_at(report.text, report.length).decode(errors="replace") if report.text else ""
-        named = tuple(report.named[: report.named_count]) if report.named_count else ()
-        answer = _Answer(status, text, named, report.at_least, report.at_most)
+        text, headline = _text_at(report.text, report.length), _text_at(report.headline, report.headline_length)
+        found = (report.calls, report.left, report.at_least, report.at_most)
+        answer = _Answer(status, text, report.evidence, headline, _named_in(report), *found)
         number, place = report.fault, report.place
     finally:
         library.kfifo_judge_clear(ctypes.byref(report))
@@ -207,16 +255,30 @@ def _packed(calls: Iterable[Call]) -> tuple[bytes, int]:
     return b"".join(parts), len(parts)
 
 
+def _is_whole(number: Any, least: int, most: int) -> bool:
+    """Whether this is a whole number in this range."""
+    return isinstance(number, int) and least <= number <= most
+
+
 def _needs_k(k: int, tries: int) -> None:
-    if not 1 <= k <= 64:
-        raise ValueError("k is not 1 to 64")
-    if not 0 <= tries < 2**64:
-        raise ValueError("tries is not 0 to 2**64 - 1")
+    if not _is_whole(k, 1, 64):
+        raise ValueError(f"k is {k!r}, but has to be a whole number from 1 to 64")
+    if not _is_whole(tries, 0, 2**64 - 1):
+        raise ValueError(f"tries is {tries!r}, but has to be a whole number from 0 to 2**64 - 1")
 
 
 def _verdict(answer: _Answer) -> Verdict:
-    names = {_LEGAL: "legal", _NO_ORDER: "no order", _UNDECIDED: "undecided"}
-    return Verdict(names[answer.status], answer.text, answer.named)
+    return Verdict(
+        status={_LEGAL: "legal", _NO_ORDER: "no order", _UNDECIDED: "undecided"}[answer.status],
+        text=answer.text,
+        calls=answer.calls,
+        left=answer.left,
+        evidence=answer.evidence,
+        evidence_name=_library().kfifo_judge_evidence_name(answer.evidence).decode(),
+        headline=answer.headline,
+        named=answer.named,
+        least=answer.bounds(),
+    )
 
 
 def judge(calls: Iterable[Call], k: int = 1, tries: int = TRIES) -> Verdict:
@@ -225,8 +287,9 @@ def judge(calls: Iterable[Call], k: int = 1, tries: int = TRIES) -> Verdict:
     k is 1 to 64; `tries` is how many choices the search may take back. Raises Fault where the calls are no log, and
     ValueError where an argument is out of range.
 
-    >>> judge([Call(0, "put", 1, 10, 20, "done"), Call(1, "get", 0, 30, 40, "empty")]).status
-    'no order'
+    >>> verdict = judge([Call(0, "put", 1, 10, 20, "done"), Call(1, "get", 0, 30, 40, "empty")])
+    >>> verdict.status, verdict.headline, [named.line for named in verdict.named]
+    ('no order', 'a get found nothing, while the queue held item 1', [3, 2])
     """
     _needs_k(k, tries)
     return _verdict(_ask("kfifo_judge_calls", *_packed(calls), k, tries))
@@ -242,7 +305,10 @@ def judge_text(text: str, k: int = 1, tries: int = TRIES) -> Verdict:
 def least(calls: Iterable[Call], tries: int = TRIES) -> Least:
     """Between which bounds the least k lies for which these calls have a legal order. Raises as judge does."""
     _needs_k(1, tries)
-    answer = _ask("kfifo_least_calls", *_packed(calls), tries)
+    return _least(_ask("kfifo_least_calls", *_packed(calls), tries))
+
+
+def _least(answer: _Answer) -> Least:
     if answer.status == _NO_ORDER:
         return Least(None, None, answer.text)
     return Least(answer.at_least, answer.at_most or None, answer.text)
@@ -259,6 +325,56 @@ def draw(calls: Iterable[Call], k: int = 1, part: str = "evidence", style: str =
     if part not in parts or style not in styles:
         raise ValueError('a part is "all" or "evidence", and a style "svg" or "text"')
     return _ask("kfifo_draw_calls", *_packed(calls), k, parts.index(part), styles.index(style)).text
+
+
+class JudgedLog(NamedTuple):
+    """What the judge says of a log in a file, or why it says nothing."""
+
+    path: str
+    verdict: Optional[Verdict]
+    fault: str  # why there is no verdict: the file cannot be read, or is no log; empty where there is one
+
+
+def judge_logs(
+    paths: Iterable[Any], executor: Optional[concurrent.futures.Executor] = None, k: int = 1, tries: int = TRIES
+) -> Iterator[JudgedLog]:
+    """Judges logs in CSV and records in JSON, each in a file, and returns what is found in the order of the paths.
+
+    The executor runs batches of them: threads of this process where it is left out, for the judge lets other threads
+    run; or concurrent.futures.ProcessPoolExecutor; or a cluster's, whose machines have this file, the library and the
+    logs. Raises ValueError where k or tries is out of range.
+
+    >>> [judged.fault for judged in judge_logs(["no/such/log.csv"])]
+    ["[Errno 2] No such file or directory: 'no/such/log.csv'"]
+    """
+    _needs_k(k, tries)
+    names = [os.fspath(path) for path in paths]
+    batches = [names[at : at + _BATCH] for at in range(0, len(names), _BATCH)]
+    return _judged_batches(batches, executor, k, tries)
+
+
+def _judged_batches(
+    batches: list[list[str]], executor: Optional[concurrent.futures.Executor], k: int, tries: int
+) -> Iterator[JudgedLog]:
+    own = concurrent.futures.ThreadPoolExecutor(os.cpu_count()) if executor is None else None
+    try:
+        for judged in [(own or executor).submit(_judge_files, batch, k, tries) for batch in batches]:
+            yield from judged.result()
+    finally:
+        if own:
+            own.shutdown(wait=True)
+
+
+def _judge_files(paths: list[str], k: int, tries: int) -> list[JudgedLog]:
+    """Judges a batch of files, wherever an executor runs it."""
+    found = []
+    for path in paths:
+        try:
+            data = pathlib.Path(path).read_bytes()
+            found.append(JudgedLog(path, _verdict(_ask("kfifo_judge_text", data, len(data), k, tries)), ""))
+        except (OSError, Fault) as fault:
+            found.append(JudgedLog(path, None, str(fault)))
+    return found
 
 
 def csv(calls: Iterable[Call]) -> str:
@@ -287,9 +403,14 @@ _CAPACITIES = (2, 4, 8, 64)
 _KEPT_ROUNDS = 2_000  # faults of an index that wraps show in an old queue alone
 _MOST_BEFORE = 32  # how many items are put before a round that begins half full
 _SPARE = 64  # how many more calls than there are items may be needed to empty a queue
+_MAX_ROUND_CALLS = 65_536
 _SAMPLED, _SAMPLED_FOR_K = 8, 16  # of how many rounds one is looked at for overlaps, and for its least k
 _WAIT_FACTOR = 10  # how many times as long as in processor time a call may take on the clock
 _LOOK = 0.02  # seconds between two looks at the threads
+_LATE = 10  # how many times as much may lie between two looks, as time in which the threads could run
+_MOST_PENDING = 64  # how many rounds an executor may have to judge
+_TO_JUDGE = 10.0  # seconds in which an executor ends rounds that nobody asks for any more
+_TO_END = 1.0  # seconds in which a worker that hangs in Python's code has to end
 _MIXES = ("alternating", "apart", "bursts", "nearly empty", "nearly full", "half full")
 # Seconds after which a thread gives way to another. None leaves the interpreter's own, 5 ms: longer than most rounds.
 _INTERVALS = (None, 1e-4, 1e-5, 1e-6, 1e-6)
@@ -316,24 +437,36 @@ class Options:
     bytecode_switches: bool = True  # whether a fifth of the rounds is traced: threads give way between bytecodes
     tries: int = TRIES  # how many choices the search for an order may take back in a round
     quiet: bool = False  # whether nothing is printed
+    executor: Optional[concurrent.futures.Executor] = None  # what judges rounds: None is this thread, in between
 
     def check(self) -> None:
         """Raises ValueError where an option is out of range."""
         _needs_k(self.k, self.tries)
-        if not 2 <= self.most_threads() <= 64:
-            raise ValueError("the number of threads is not 2 to 64")
-        if self.calls is not None and self.calls < 1:
-            raise ValueError("there are no calls")
-        if 2 * self.most_calls() + _SPARE > MAX_CALLS:
-            raise ValueError("a round would have more calls than can be judged")
+        self._check_ranges()
+        if 2 * self.most_calls() + _SPARE > _MAX_ROUND_CALLS:
+            text = f"{self.calls} calls of each of {self.most_threads()} threads are more than the {_MAX_ROUND_CALLS}"
+            raise ValueError(f"{text} of a round, with those that empty the queue: take fewer")
         if self.one_producer and self.one_consumer and self.most_threads() != 2:
-            raise ValueError("with one producer and one consumer there are two threads")
-        if self.repeated is not None and not 1 <= self.repeated <= MAX_ITEM:
-            raise ValueError("the number of different items is not 1 to 16,777,215")
-        if not self.hang_seconds > 0:
-            raise ValueError("the time after which a call hangs is not over 0")
-        if not self.name or "/" in self.name or "\0" in self.name:
-            raise ValueError("the name is empty, or cannot stand in the name of a file")
+            raise ValueError(f"threads is {self.threads}, but has to be 2 with one producer and one consumer")
+        if not isinstance(self.name, str) or not self.name or "/" in self.name or "\0" in self.name:
+            allowed = "a text for the names of files: not empty, without /"
+            raise ValueError(f"name is {self.name!r}, but has to be {allowed}")
+
+    def _check_ranges(self) -> None:
+        """Raises ValueError where a number is out of range."""
+        for name, least, most in (("threads", 2, 64), ("calls", 1, _MAX_ROUND_CALLS), ("repeated", 1, MAX_ITEM)):
+            number = getattr(self, name)
+            if number is not None and not _is_whole(number, least, most):
+                allowed = f"a whole number from {least:,} to {most:,}, or None"
+                raise ValueError(f"{name} is {number!r}, but has to be {allowed}")
+        if self.rounds is not None and not (isinstance(self.rounds, int) and self.rounds >= 1):
+            raise ValueError(f"rounds is {self.rounds!r}, but has to be a whole number from 1 on, or None")
+        if self.seed is not None and not isinstance(self.seed, int):
+            raise ValueError(f"seed is {self.seed!r}, but has to be a whole number, or None")
+        if not (isinstance(self.seconds, (int, float)) and self.seconds >= 0):
+            raise ValueError(f"seconds is {self.seconds!r}, but has to be a number from 0 on")
+        if not (isinstance(self.hang_seconds, (int, float)) and self.hang_seconds > 0):
+            raise ValueError(f"hang_seconds is {self.hang_seconds!r}, but has to be a number over 0")
 
     def most_threads(self) -> int:
         """The greatest number of threads in a round."""
@@ -446,10 +579,13 @@ class _Lane:
         self.inbox: queue.SimpleQueue[Optional[Callable[[_Lane], None]]] = queue.SimpleQueue()
         self.fence = threading.Lock()
         self.done = done
+        self.clock: Optional[int] = None  # that of this thread's processor time, where the system has one
         self.thread = threading.Thread(target=self._work, name=f"kfifo-{number}", daemon=True)
         self.thread.start()
 
     def _work(self) -> None:
+        if hasattr(time, "pthread_getcpuclockid"):
+            self.clock = time.pthread_getcpuclockid(threading.get_ident())
         try:
             while True:
                 job = self.inbox.get()  # a worker sleeps here between rounds
@@ -457,12 +593,22 @@ class _Lane:
                     return
                 try:
                     job(self)
-                except Exception:
+                except _Stopped:
+                    raise
+                except BaseException:  # SystemExit too, and what a test framework fails by: the queue raised it
                     self.error = traceback.format_exc()
                 self.phase = "had ended its calls"
                 self.done.put(self.number)
         except _Stopped:
             pass  # it hung in a call, and the report has named it
+
+    def processor_time(self) -> float:
+        """The processor time of this thread in seconds; 0 where the system does not say."""
+        # The clock was asked for by the thread itself: to ask for that of a thread that has ended is undefined.
+        try:
+            return 0.0 if self.clock is None else time.clock_gettime(self.clock)
+        except OSError:
+            return 0.0
 
     def _before(self) -> int:
         """The time before a call, greater than that at which the thread's call before it ended.
@@ -601,6 +747,8 @@ class Report:
     seed: int
     outcome: str = "passed"  # "no order", "undecided", "hang", "raised", "nothing taken" or "fault"
     text: str = ""  # the judge's reason, or what the threads were in
+    headline: str = ""  # of "no order", what the evidence says of the queue
+    evidence: int = 0  # and the number of its kind, 1 to 7, as docs/JUDGE.md has it
     rounds: int = 0
     calls: int = 0
     taken: int = 0  # how many gets took an item
@@ -620,7 +768,7 @@ class Report:
     def _head(self) -> str:
         return {
             "passed": "no fault found",
-            "no order": f"no legal order: {_fault_named_in(self.text)}",
+            "no order": f"no legal order: {self.headline}",
             "undecided": "a round is undecided",
             "hang": "a call did not return",
             "raised": "a call raised an exception that is none of a queue's",
@@ -631,33 +779,17 @@ class Report:
     def __str__(self) -> str:
         lines = [f"kfifo check of {self.name} for k = {self.k}: {self._head()}"]
         if self.failed_round:
-            lines.append(f"{self.failed_round}, seed {self.seed}")
+            lines.append(self.failed_round)
         if self.text:
             lines.append(self.text.rstrip())
         lines += [f"{word}: {path}" for word, path in (("log", self.log), ("picture", self.picture)) if path]
         if self.unwritten:
             lines.append(f"not written: {self.unwritten}")
         last = f"{self.rounds} rounds, {self.calls} calls, {100 * self.overlapping:.0f} % overlapping"
-        last += f", {self.undecided} undecided"
+        last += f", {self.undecided} undecided, seed {self.seed}"
         if self.least:
             last += f"; of a sample the least k is at least {self.least[0]} and at most {self.least[1]}"
         return "\n".join(lines + [last])
-
-
-def _fault_named_in(text: str) -> str:
-    """What a queue did wrong, from the line of the reason that names the evidence."""
-    names = {
-        "which no call before its end put": "an item from nowhere, or got before it was put",
-        "taken more often than put": "an item was got twice",
-        "found nothing": "an Empty that came too early, or a lost item",
-        "while 1 older item was there": "an item overtook an older one",
-        "older items were there": "an item overtook too many older ones",
-        "when more gets of it had ended": "an item was got twice, or before it was put again",
-        "were left: calls": "an item overtook older ones",
-        "was left: calls": "an item overtook an older one",
-    }
-    line = (text.splitlines() + ["", ""])[1]
-    return next((name for part, name in names.items() if part in line), "the reason follows")
 
 
 _files = itertools.count()
@@ -679,26 +811,40 @@ class _Watch:
         self.lanes = lanes
         self.limit = limit
         self.seen: dict[int, tuple[tuple[str, int], float, float]] = {}
+        self.waited = 0.0
+        self.looked = time.monotonic()
 
     def sees_hang(self) -> bool:
         """Whether a thread is in a call that has taken too long."""
+        # Where this thread looks late, the process may have been stopped, and the others with it.
+        now = time.monotonic()
+        self.waited += min(now - self.looked, _LATE * _LOOK)
+        self.looked = now
         hangs = False
         for lane in self.lanes:
-            where = (lane.phase, len(lane.log))
-            now, used = time.monotonic(), _processor_time(lane.thread)
+            where, used = (lane.phase, len(lane.log)), lane.processor_time()
             seen = self.seen.get(lane.number)
             if seen is None or seen[0] != where:
-                self.seen[lane.number] = (where, now, used)
+                self.seen[lane.number] = (where, self.waited, used)
             elif lane.phase == "calling":
-                hangs |= used - seen[2] >= self.limit or now - seen[1] >= _WAIT_FACTOR * self.limit
+                hangs |= used - seen[2] >= self.limit or self.waited - seen[1] >= _WAIT_FACTOR * self.limit
         return hangs
 
 
-def _processor_time(thread: threading.Thread) -> float:
-    """The processor time of a thread that has not ended, in seconds; 0 where the system does not say."""
-    if not hasattr(time, "pthread_getcpuclockid") or thread.ident is None:
-        return 0.0
-    return time.clock_gettime(time.pthread_getcpuclockid(thread.ident))
+class _Pending(NamedTuple):
+    """A round that is judged."""
+
+    number: int
+    design: _Design
+    calls: list[Call]
+    judging: concurrent.futures.Future[tuple[Verdict, Optional[Least]]]
+
+
+def _judge_round(packed: bytes, count: int, k: int, tries: int, wants_least: bool) -> tuple[Verdict, Optional[Least]]:
+    """Judges the calls of a round, wherever an executor runs it."""
+    verdict = _verdict(_ask("kfifo_judge_calls", packed, count, k, tries))
+    has_least = wants_least and verdict.status != "no order"
+    return verdict, _least(_ask("kfifo_least_calls", packed, count, tries)) if has_least else None
 
 
 class _Check:
@@ -713,6 +859,7 @@ class _Check:
         self.done: queue.SimpleQueue[int] = queue.SimpleQueue()
         self.lanes = [_Lane(number, put, get, self.done) for number in range(options.most_threads())]
         self.kept: dict[int, _Kept] = {}
+        self.pending: collections.deque[_Pending] = collections.deque()
         self.sampled = self.overlapped = 0
         self.told = time.monotonic()
 
@@ -726,11 +873,16 @@ class _Check:
                 is_last = self.options.rounds is not None and self.report.rounds >= self.options.rounds
                 if is_last or time.monotonic() - start >= self.options.seconds:
                     break
+            self._collect(0)
         finally:
             sys.setswitchinterval(interval)
             for lane in self.lanes:
                 lane.inbox.put(None)
+            # The executor may end after this: it has no round of this check any more.
+            concurrent.futures.wait([it.judging for it in self.pending], timeout=_TO_JUDGE)
         self.report.overlapping = self.overlapped / max(self.sampled, 1)
+        if self.report.passed and self.report.undecided == self.report.rounds:
+            self.report.outcome, self.report.text = "undecided", "no round has a verdict"
         if self.report.passed and not self.report.taken:
             self.report.outcome = "nothing taken"
         if self.report.passed and not self.options.quiet:
@@ -761,7 +913,7 @@ class _Check:
         has_failed = any(lane.error for lane in lanes)
         hangs = hangs or (not has_failed and self._run_jobs(lanes[:1], turn.empty))
         self.report.rounds += 1
-        self._end_round(design, lanes, hangs)
+        self._end_round(turn, lanes, hangs)
         if not lanes[0].is_empty:
             self.kept.pop(design.capacity, None)
 
@@ -784,7 +936,8 @@ class _Check:
                     return True
         return False
 
-    def _end_round(self, design: _Design, lanes: list[_Lane], hangs: bool) -> None:
+    def _end_round(self, turn: _Round, lanes: list[_Lane], hangs: bool) -> None:
+        design = turn.design
         calls = [call for lane in lanes for call in list(lane.log)]
         begun = [(lane.number, lane.begun) for lane in lanes if lane.begun]
         calls += [Call(number, op, item, first, 0, "") for number, (op, item, first) in begun]
@@ -792,32 +945,58 @@ class _Check:
         self.report.calls += len(calls)
         self.report.taken += sum(call.answer == "got" for call in calls)
         errors = [lane for lane in lanes if lane.error]
-        if errors:
-            self._fail("raised", f"thread {errors[0].number}:\n{errors[0].error}", design, calls)
+        if errors or hangs:
+            self._collect(0)  # a round before this one may already have no order, and says more
+        if not self.report.passed:
+            pass
+        elif errors:
+            text = f"thread {errors[0].number}:\n{errors[0].error}"
+            self._fail("raised", text, self.report.rounds, design, calls)
         elif hangs:
-            self._fail("hang", _describe(lanes), design, calls)
+            self._fail("hang", _describe(lanes), self.report.rounds, design, calls)
         else:
             self._judge(design, calls)
         if hangs:
+            turn.start.abort()  # who waits for the others to begin goes on, and ends at its first call
             _stop(lanes)
 
     def _judge(self, design: _Design, calls: list[Call]) -> None:
-        if self.report.rounds % _SAMPLED == 1:
+        number, options = self.report.rounds, self.options
+        if number % _SAMPLED == 1:
             self._count_overlaps(calls)
+        wants_least = options.k > 1 and number % _SAMPLED_FOR_K == 1
+        arguments = (*_packed(calls), options.k, options.tries, wants_least)
+        judging: concurrent.futures.Future[tuple[Verdict, Optional[Least]]]
+        if options.executor is not None:
+            judging = options.executor.submit(_judge_round, *arguments)
+        else:
+            judging = concurrent.futures.Future()
+            try:
+                judging.set_result(_judge_round(*arguments))
+            except Exception as fault:
+                judging.set_exception(fault)
+        self.pending.append(_Pending(number, design, calls, judging))
+        self._collect(_MOST_PENDING)
+
+    def _collect(self, most: int) -> None:
+        """Looks at the rounds that have been judged, in their order, and waits until no more than these are left."""
+        while self.report.passed and self.pending and (len(self.pending) > most or self.pending[0].judging.done()):
+            self._look_at(self.pending.popleft())
+
+    def _look_at(self, judged: _Pending) -> None:
         try:
-            verdict = judge(calls, self.options.k, self.options.tries)
+            verdict, found = judged.judging.result()
         except Fault as fault:
-            self._fail("fault", str(fault), design, calls)
+            self._fail("fault", str(fault), judged.number, judged.design, judged.calls)
             return
         if verdict.status == "undecided":
             self.report.undecided += 1
         if verdict.status == "no order" or (verdict.status == "undecided" and self.options.undecided_fails):
-            self._fail(verdict.status, verdict.text, design, calls)
-        elif self.options.k > 1 and self.report.rounds % _SAMPLED_FOR_K == 1:
-            found = least(calls, self.options.tries)
-            if found.at_least is not None and found.at_most is not None:
-                low, high = self.report.least or (1, 1)
-                self.report.least = (max(low, found.at_least), max(high, found.at_most))
+            self.report.headline, self.report.evidence = verdict.headline, verdict.evidence
+            self._fail(verdict.status, verdict.text, judged.number, judged.design, judged.calls)
+        elif found and found.at_least is not None and found.at_most is not None:
+            low, high = self.report.least or (1, 1)
+            self.report.least = (max(low, found.at_least), max(high, found.at_most))
 
     def _count_overlaps(self, calls: list[Call]) -> None:
         latest = 0
@@ -826,13 +1005,13 @@ class _Check:
             latest = max(latest, call.last)
         self.sampled += len(calls)
 
-    def _fail(self, outcome: str, text: str, design: _Design, calls: list[Call]) -> None:
+    def _fail(self, outcome: str, text: str, number: int, design: _Design, calls: list[Call]) -> None:
         report = self.report
         report.outcome, report.text = outcome, text
         capacity = f", capacity {design.capacity}" if self.options.sized else ""
         switches = ", switches between bytecodes" if design.traced else ""
         made = f"{design.threads} threads, {design.calls} calls each, {design.mix}"
-        report.failed_round = f"round {report.rounds}: {made}{capacity}{switches}"
+        report.failed_round = f"round {number}: {made}{capacity}{switches}"
         folder = pathlib.Path(self.options.folder or tempfile.gettempdir())
         stem = folder / f"kfifo-{report.name}-{os.getpid()}-{next(_files)}"
         try:
@@ -891,10 +1070,44 @@ def _stop(lanes: list[_Lane]) -> None:
     """
     for lane in lanes:
         lane.put = lane.get = _refuse
-    for lane in lanes:
-        if lane.phase == "calling" and lane.thread.ident is not None:
-            ident = ctypes.c_ulong(lane.thread.ident)
-            ctypes.pythonapi.PyThreadState_SetAsyncExc(ident, ctypes.py_object(_Stopped))
+    stuck = [lane.thread for lane in lanes if lane.phase == "calling"]
+    stopped = _thread.allocate_lock()
+    stopped.acquire()
+    # This thread may be traced, by a debugger, say. It could not go on while the flag of _stop_each is set.
+    _thread.start_new_thread(_stop_each, (stuck, stopped))
+    stopped.acquire()
+
+
+def _stop_each(stuck: list[threading.Thread], stopped: Any) -> None:
+    """Raises _Stopped in these threads, and takes it back where a thread sleeps, and so does not end.
+
+    An exception that waits for its thread keeps a flag of the whole interpreter set, with which Python 3.11 never gets
+    past the beginning of a function that is traced, in any thread. To take it back leaves the flag set: that is cleared
+    where an exception is raised, for which this thread takes one itself.
+    """
+    try:
+        for thread in stuck:
+            _raise_in(thread.ident, _Stopped)
+        end = time.monotonic() + _TO_END
+        while time.monotonic() < end and any(thread.is_alive() for thread in stuck):
+            time.sleep(0.001)
+        for thread in stuck:
+            if thread.is_alive():
+                _raise_in(thread.ident, None)
+        try:
+            _raise_in(threading.get_ident(), _Stopped)
+            while True:  # until it is raised: at the end of this loop's body at the latest
+                time.sleep(0)
+        except _Stopped:
+            pass
+    finally:
+        stopped.release()
+
+
+def _raise_in(ident: Optional[int], kind: Optional[type[BaseException]]) -> None:
+    """Has the interpreter raise this in a thread, or nothing that was to be raised."""
+    exception = None if kind is None else ctypes.py_object(kind)
+    ctypes.pythonapi.PyThreadState_SetAsyncExc(ctypes.c_ulong(ident or 0), exception)
 
 
 def run_check(make: Make, put: Put, get: Get, **options: Any) -> Report:

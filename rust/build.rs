@@ -12,7 +12,9 @@ fn installed() -> Option<PathBuf> {
         .output()
         .ok()?;
     let folder = String::from_utf8(output.stdout).ok()?;
-    Some(PathBuf::from(folder.trim()))
+    Some(folder.trim())
+        .filter(|it| !it.is_empty())
+        .map(PathBuf::from)
 }
 
 /// The folder of the repository where `make -C c` puts the library for a processor; for ARM it is `make -C c aarch64`.
@@ -42,40 +44,48 @@ fn link_judge(beside: &Path) {
     println!("cargo:rustc-link-lib=static=kfifo_judge");
 }
 
+/// The folder that has the library: the one that KFIFO_LIB_DIR names, or where it names none the first that has it of
+/// those where it may be. The error says where it was sought.
+fn folder_of_library() -> Result<PathBuf, String> {
+    if let Some(named) = env::var_os("KFIFO_LIB_DIR").map(PathBuf::from) {
+        if named.join("libkfifo.a").exists() {
+            return Ok(named);
+        }
+        let named = named.display();
+        return Err(format!(
+            "KFIFO_LIB_DIR is {named}, and that folder has no libkfifo.a."
+        ));
+    }
+    let here = PathBuf::from(env::var_os("CARGO_MANIFEST_DIR").unwrap_or_default());
+    let target = env::var("CARGO_CFG_TARGET_ARCH").unwrap_or_default();
+    let folders: Vec<_> = [here.join(built_for(&target)), here.join("../../../lib")]
+        .into_iter()
+        .chain(installed())
+        .collect();
+    let found = folders.iter().find(|it| it.join("libkfifo.a").exists());
+    found.cloned().ok_or_else(|| {
+        let sought: Vec<_> = folders.iter().map(|it| it.display().to_string()).collect();
+        format!("There is no libkfifo.a in {}.", sought.join(", "))
+    })
+}
+
 fn main() {
     println!("cargo:rerun-if-env-changed=KFIFO_LIB_DIR");
-    let here = env::var("CARGO_MANIFEST_DIR").unwrap_or_default();
-    let target = env::var("CARGO_CFG_TARGET_ARCH").unwrap_or_default();
-    let folder = match env::var_os("KFIFO_LIB_DIR") {
-        Some(folder) => Some(PathBuf::from(folder)),
-        None => [
-            Some(Path::new(&here).join(built_for(&target))),
-            Some(Path::new(&here).join("../../../lib")),
-            installed(),
-        ]
-        .into_iter()
-        .flatten()
-        .find(|it| it.join("libkfifo.a").exists()),
-    };
-    match folder {
-        Some(folder) if folder.join("libkfifo.a").exists() => {
-            println!(
-                "cargo:rerun-if-changed={}",
-                folder.join("libkfifo.a").display()
-            );
-            println!("cargo:rustc-link-search=native={}", folder.display());
-            println!("cargo:rustc-link-lib=static=kfifo");
-            if env::var_os("CARGO_FEATURE_JUDGE").is_some() {
-                link_judge(&folder);
-            }
-        }
-        _ => {
-            eprintln!(
-                "libkfifo.a was not found. It lies in the lib/ of a release; in the repository `make -C c` \
-                 builds it and `make -C c install` installs it,"
-            );
-            eprintln!("or set KFIFO_LIB_DIR to the folder that holds it.");
-            exit(1);
-        }
+    let folder = folder_of_library().unwrap_or_else(|why| {
+        eprintln!("{why}");
+        eprintln!(
+            "It lies in the lib/ of a release; in the repository `make -C c` builds it and `make -C c install` \
+             installs it, or set KFIFO_LIB_DIR to the folder that holds it."
+        );
+        exit(1);
+    });
+    println!(
+        "cargo:rerun-if-changed={}",
+        folder.join("libkfifo.a").display()
+    );
+    println!("cargo:rustc-link-search=native={}", folder.display());
+    println!("cargo:rustc-link-lib=static=kfifo");
+    if env::var_os("CARGO_FEATURE_JUDGE").is_some() {
+        link_judge(&folder);
     }
 }

@@ -66,8 +66,9 @@ pub enum PushError<T> {
     /// The versions of the queue's words are used up, and there was no memory for its next generation. Have what is
     /// left by [`Queue::into_values`](crate::Queue::into_values), and open another queue.
     Worn(T),
-    /// The handle has no token, and found none in the pool: its values, as many as it has tokens, are all still in the
-    /// queue.
+    /// The handle has no token, and found none in the pool: they are with values in the queue, or the other handles
+    /// keep them, up to 15 each. With the tokens of [`Queue::new`](crate::Queue::new) it comes only where these would
+    /// have been more than [`MAX_TOKENS`](crate::MAX_TOKENS), or for a moment while others push and pop.
     NoToken(T),
     /// The time of a call that waits was up.
     TimedOut(T),
@@ -158,8 +159,8 @@ pub enum PopError {
     /// The call used up its rounds. It makes two more than there are segments, so another thread changed the queue
     /// meanwhile.
     Busy,
-    /// The versions of the queue's words are used up, and there was no memory for its next generation.
-    /// [`Queue::into_values`](crate::Queue::into_values) gives back what is left.
+    /// The versions of the queue's words are used up, and there was no memory for its next generation. Values may be
+    /// left that no pop reaches: [`Queue::into_values`](crate::Queue::into_values) gives them back.
     Worn,
     /// The time of a call that waits was up.
     TimedOut,

@@ -1,4 +1,4 @@
-//! A bounded lock-free k-FIFO queue of values, for many threads: a value that is taken is one of the k oldest.
+//! A bounded k-FIFO queue of values without locks, for many threads: a value that is taken is one of the k oldest.
 //!
 //! A value lies in a *cell*, which a handle has alone while it moves the value in or out. The cells are made with the
 //! queue. A queue does not wear out: before the versions of its words are used up, it goes on in its next *generation*,
@@ -103,7 +103,7 @@ impl Default for Versions {
 /// Each thread makes its calls by a [`Handle`] of its own. The queue goes with the last of the `Queue` and its handles,
 /// and the values that are left in it are dropped then.
 ///
-/// It has a cell for each token of each handle, with room for a `T` and a flag. So a queue of large values takes less
+/// It has a cell for each token of each handle, with room for a `T`. So a queue of large values takes less
 /// memory with fewer tokens ([`Queue::with_tokens`]), or as a `Queue<Box<T>>`.
 ///
 /// ```
@@ -138,27 +138,25 @@ pub struct Queue<T> {
 impl<T> Queue<T> {
     /// Opens a queue of `segments` segments, 2 to 1,024, of k slots, 1 to 64, with `handles` handles, 1 to 64.
     ///
-    /// Each handle has a token for each slot and one more, 1,024 at most, so that a queue that is full says so.
+    /// Each handle has a token for each slot, one more, and 15 for each other handle, which may keep 15 between its
+    /// calls: so a push finds one until the queue is full. Where that would be more than [`MAX_TOKENS`], each handle has
+    /// 1,024, and a push may be refused as [`PushError::NoToken`] with `1,024 - 15 * (handles - 1)` values of its handle
+    /// in the queue.
     ///
     /// ```
     /// let queue = kfifo::Queue::<u64>::new(4, 256, 8)?;
     /// # Ok::<(), kfifo::OpenError>(())
     /// ```
     pub fn new(k: u32, segments: u32, handles: usize) -> Result<Queue<T>, OpenError> {
-        let enough = u64::from(k) * u64::from(segments) + 1;
-        Queue::with_tokens(
-            k,
-            segments,
-            handles,
-            enough.min(u64::from(MAX_TOKENS)) as u32,
-        )
+        Queue::with_tokens(k, segments, handles, enough_tokens(k, segments, handles))
     }
 
     /// As [`Queue::new`], with a number of tokens a handle, 1 to 1,024.
     ///
-    /// A value in the queue has a token. The handle that takes the value gets the token, and returns it to the pool
-    /// where it then has more than it began with. So the values that one handle has put and nobody has taken are
-    /// about `tokens` at most.
+    /// A value in the queue has a token. The handle that takes the value gets the token. Where it then has 16 more than
+    /// it began with (or `tokens / handles`, if that is less), it returns these to the pool, where others find them.
+    /// So a handle can always have `tokens - 15 * (handles - 1)` values in the queue, and may be refused as
+    /// [`PushError::NoToken`] with more.
     ///
     /// The queue takes memory for `handles * tokens` values when it is opened.
     ///
@@ -213,7 +211,8 @@ impl<T> Queue<T> {
         })
     }
 
-    /// A handle that nobody has; none where each is in use. A handle that is dropped can be had again.
+    /// A handle that nobody has; none where each was in use at one moment. A handle that is dropped can be had again.
+    /// So a thread always finds one where there are as many handles as threads and no thread has two.
     ///
     /// ```
     /// let queue = kfifo::Queue::<u64>::new(4, 64, 1)?;
@@ -337,6 +336,9 @@ impl<T> Handle<T> {
     /// opens a generation.
     ///
     /// What this thread wrote before is seen by the thread that takes the value.
+    ///
+    /// Where there was no memory for the next generation until the reserve was used up, pops may no longer reach a
+    /// value that a push has put: they return [`PopError::Worn`], and [`Queue::into_values`] gives it back.
     ///
     /// ```
     /// let queue = kfifo::Queue::new(4, 64, 1)?;
@@ -481,6 +483,14 @@ impl<T> Handle<T> {
     pub fn finish(&self) {
         self.shared.finish();
     }
+}
+
+/// Tokens a handle with which a push finds one until the queue is full, or else as many as there can be.
+fn enough_tokens(k: u32, segments: u32, handles: usize) -> u32 {
+    // Each other handle keeps up to 15 more than it began with. More than 64 handles are refused.
+    let kept = 15 * handles.clamp(1, 65) as u64 - 15;
+    let enough = u64::from(k) * u64::from(segments) + 1 + kept;
+    enough.min(u64::from(MAX_TOKENS)) as u32
 }
 
 /// A time in nanoseconds. One beyond the clock, some 584 years, is for ever.

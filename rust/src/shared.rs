@@ -5,7 +5,8 @@ use crate::error::{OpenError, PopError, PushError};
 use crate::ffi;
 use std::cell::UnsafeCell;
 use std::mem::ManuallyDrop;
-use std::sync::atomic::{AtomicBool, Ordering};
+use std::process::abort;
+use std::sync::atomic::{AtomicU64, Ordering};
 
 /// The passes of a queue, which are closed when they are dropped.
 struct Passes(Box<[UnsafeCell<ffi::Pass>]>);
@@ -62,10 +63,34 @@ impl Drop for Passes {
     }
 }
 
+/// A call by a pass, from its beginning to its end.
+struct InCall<'a> {
+    all: &'a AtomicU64,
+    bit: u64,
+}
+
+impl Drop for InCall<'_> {
+    fn drop(&mut self) {
+        if cfg!(debug_assertions) {
+            self.all.fetch_and(!self.bit, Ordering::Relaxed);
+        }
+    }
+}
+
+/// Ends the program, since the handle with this number was used as no safe code can.
+#[cold]
+fn misused(number: usize, call: &str, what: &str) -> ! {
+    eprintln!("kfifo: {call} of handle {number}, which {what}");
+    abort()
+}
+
 /// When it is dropped, the values that are left are dropped with their cells, and the queue is closed with its passes.
 pub(crate) struct Shared<T> {
     passes: Passes,
-    in_use: Box<[AtomicBool]>,
+    /// A bit for each pass that nobody has.
+    free: AtomicU64,
+    /// A bit for each pass that is in a call, in a debug build.
+    in_call: AtomicU64,
     cells: Cells<T>,
     /// How many cells there are.
     count: usize,
@@ -92,25 +117,54 @@ impl<T> Shared<T> {
         // The library has looked at the numbers, so that the sizes below are in bounds.
         Ok(Shared {
             passes,
-            in_use: (0..handles).map(|_| AtomicBool::new(false)).collect(),
+            free: AtomicU64::new(u64::MAX >> (64 - handles)),
+            in_call: AtomicU64::new(0),
             cells: Cells::new(handles, tokens).ok_or(OpenError::OutOfMemory)?,
             count: handles * tokens as usize,
             waits: ffi::Waits::open(),
         })
     }
 
-    /// The number of a pass that nobody has, which is then in use.
+    /// The number of a pass that nobody has, which is then in use; none where each was in use at one moment.
     pub(crate) fn borrow_pass(&self) -> Option<usize> {
-        // Acquire here and release below suffice: all steps that the pass made come before those that it makes next,
-        // also in the one order of all sequentially consistent steps. The contracts of the running queue ask for no
-        // more: they speak of a pass, not of threads.
-        self.in_use
-            .iter()
-            .position(|it| !it.swap(true, Ordering::Acquire))
+        let mut free = self.free.load(Ordering::Relaxed);
+        while free != 0 {
+            let lowest = free & free.wrapping_neg();
+            // Acquire here and release below suffice: all steps that the pass made come before those that it makes
+            // next, also in the one order of all sequentially consistent steps. The contracts of the running queue ask
+            // for no more: they speak of a pass, not of threads.
+            free = self.free.fetch_and(!lowest, Ordering::Acquire);
+            if free & lowest != 0 {
+                return Some(lowest.trailing_zeros() as usize);
+            }
+            // Another thread's step took that pass meanwhile. So some thread goes on.
+        }
+        None
     }
 
     pub(crate) fn return_pass(&self, number: usize) {
-        self.in_use[number].store(false, Ordering::Release);
+        drop(self.enter(number, "the drop"));
+        let free = self.free.fetch_or(1 << number, Ordering::Release);
+        if cfg!(debug_assertions) && free & 1 << number != 0 {
+            misused(number, "the drop", "was dropped before: it was copied");
+        }
+    }
+
+    /// Marks the pass while a call runs by it, in a debug build. Only `unsafe` code lets two threads use a handle, or a
+    /// handle and its copy.
+    fn enter(&self, number: usize, call: &str) -> InCall<'_> {
+        let bit = 1 << number;
+        if cfg!(debug_assertions) && self.in_call.fetch_or(bit, Ordering::Relaxed) & bit != 0 {
+            misused(
+                number,
+                call,
+                "is in another call: one at a time uses a handle",
+            );
+        }
+        InCall {
+            all: &self.in_call,
+            bit,
+        }
     }
 
     /// Says that no more values will come, and wakes all that wait.
@@ -265,6 +319,7 @@ impl<T> Shared<T> {
         value: T,
         nanoseconds: Option<u64>,
     ) -> Result<(), PushError<T>> {
+        let _call = self.enter(number, "a push");
         let value = ManuallyDrop::new(value);
         // SAFETY: the caller says that nobody else uses the pass. The value is given up below after DONE, which ends
         // the calls.
@@ -300,6 +355,7 @@ impl<T> Shared<T> {
         number: usize,
         nanoseconds: Option<u64>,
     ) -> Result<T, PopError> {
+        let _call = self.enter(number, "a pop");
         let mut cell = 0;
         // SAFETY: as in `push`. GOT ends the calls.
         let mut receive = || unsafe { self.receive(number, &mut cell) };
@@ -366,6 +422,10 @@ impl<T> Shared<T> {
         cells
     }
 }
+
+#[cfg(all(test, debug_assertions))]
+#[path = "../tests/unit/misuse.rs"]
+mod misuse;
 
 #[cfg(test)]
 #[path = "../tests/unit/worn.rs"]

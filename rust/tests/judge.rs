@@ -5,8 +5,9 @@
 mod queues;
 
 use kfifo::judge::{
-    Answer, BadOption, Call, Fault, Least, Op, Options, Outcome, Part, Put, Report, Style, TRIES,
-    Verdict, draw, judge, judge_text, least, run_check, run_check_handles, run_check_sized,
+    Answer, BadOption, Call, Fault, Least, NamedCall, Op, Options, Outcome, Part, Put, Report,
+    Style, TRIES, Verdict, draw, judge, judge_text, least, run_check, run_check_handles,
+    run_check_sized,
 };
 use queues::{Linked, Locked, Pair, Ring, RingFault, Stack, TestOutside, Wrapping};
 use std::path::{Path, PathBuf};
@@ -15,11 +16,26 @@ use std::sync::{Mutex, MutexGuard, PoisonError, mpsc};
 use std::time::{Duration, Instant};
 use std::{env, fs, thread};
 
-/// How the reasons for the evidences begin, or go on.
-const NOWHERE: &str = "which no call before its end put";
-const TWICE: &str = "taken more often than put";
-const EMPTY: &str = "found nothing";
-const OVERTAKEN: &str = "while 1 older item was there";
+/// The kinds of evidence, as `docs/JUDGE.md` has them.
+const NOWHERE: u32 = 1;
+const TWICE: u32 = 2;
+const OVERTAKEN: u32 = 4;
+
+/// The kinds of evidence that may be found of a faulty queue, from the table that the tests in C++ and Python share.
+fn faults(queue: &str) -> Vec<u32> {
+    let table = Path::new(env!("CARGO_MANIFEST_DIR")).join("../c/checker/faulty_queues.csv");
+    let table = fs::read_to_string(table).expect("the table can be read");
+    let row = table
+        .lines()
+        .find_map(|line| line.strip_prefix(queue)?.strip_prefix(','));
+    row.expect("the table has the queue")
+        .split(' ')
+        .map(|kind| kind.parse().expect("a kind is a number"))
+        .collect()
+}
+
+/// What the judge says of a stack, but for its items.
+const OVERTAKING: [&str; 2] = [" came out, and item ", ", which went in before, had not"];
 
 /// Held by the check that runs.
 fn turn() -> MutexGuard<'static, ()> {
@@ -28,23 +44,23 @@ fn turn() -> MutexGuard<'static, ()> {
 }
 
 /// How long a check may take where other programs use the processors. It takes a fraction of that on an idle machine.
-const AT_MOST: Duration = Duration::from_secs(60);
+const AT_MOST: f64 = 60.0;
 
 /// The share of overlapping calls below which threads take turns on a processor, so that a race hardly ever shows. On
 /// an idle machine with two processors it is above a half.
 const HARDLY: f64 = 0.05;
 
 /// How long a right queue is checked.
-fn usual_time() -> Duration {
+fn usual_time() -> f64 {
     let is_long = env::var_os("KFIFO_JUDGE_LONG").is_some();
-    Duration::from_secs(if is_long { 30 } else { 2 })
+    if is_long { 30.0 } else { 2.0 }
 }
 
 /// Options of a check that is to find a fault.
 fn finding(name: &str) -> Options {
     Options {
         name: name.to_string(),
-        time: AT_MOST,
+        seconds: AT_MOST,
         folder: Some(PathBuf::from(env!("CARGO_TARGET_TMPDIR"))),
         ..Options::default()
     }
@@ -53,7 +69,7 @@ fn finding(name: &str) -> Options {
 /// Options of a check that is to pass.
 fn passing(name: &str) -> Options {
     Options {
-        time: usual_time(),
+        seconds: usual_time(),
         ..finding(name)
     }
 }
@@ -72,25 +88,23 @@ fn had_no_race(report: &Report) -> bool {
     had_none
 }
 
-/// The report says that there is no order, by one of these reasons, and its files are there.
-fn finds(report: Result<Report, BadOption>, reasons: &[&str]) {
+/// The report says that there is no order, by one of these kinds of evidence, and its files are there.
+fn finds(report: Result<Report, BadOption>, kinds: &[u32]) {
     let report = report.expect("the options are good");
     println!("{report}");
     if had_no_race(&report) {
         return;
     }
-    let Outcome::NoOrder { text } = &report.outcome else {
+    let Outcome::NoOrder { text, reason } = &report.outcome else {
         panic!("the fault was not found as what it is: {report}");
     };
-    let line = text.lines().nth(1).expect("a line names the evidence");
-    assert!(
-        reasons.iter().any(|reason| line.contains(reason)),
-        "{report}"
-    );
+    assert!(kinds.contains(&reason.evidence), "{report}");
+    let head = format!("no legal order: {}\n", reason.headline);
+    assert!(report.to_string().contains(&head), "{report}");
     let log = fs::read(report.log.as_ref().expect("there is a log")).expect("it can be read");
     let again = judge_text(&log, report.k, TRIES).expect("the log is one");
     assert!(
-        matches!(again, Verdict::NoOrder { text: same, .. } if same == *text),
+        matches!(again, Verdict::NoOrder { text: same, reason: why, .. } if same == *text && why == *reason),
         "{report}"
     );
     let picture = fs::read_to_string(report.picture.as_ref().expect("there is a picture"))
@@ -110,7 +124,7 @@ fn passes(check: impl Fn(Options) -> Result<Report, BadOption>, options: Options
     let mut report = run(options.clone());
     if !is_enough(&report) {
         report = run(Options {
-            time: AT_MOST,
+            seconds: AT_MOST,
             rounds: Some(50),
             ..options
         });
@@ -124,7 +138,7 @@ fn passes(check: impl Fn(Options) -> Result<Report, BadOption>, options: Options
 fn passes_with_overlaps(check: impl Fn(Options) -> Result<Report, BadOption>, options: Options) {
     let begun = Instant::now();
     let mut report = passes(&check, options.clone());
-    while report.overlapping == 0.0 && !is_alone() && begun.elapsed() < AT_MOST {
+    while report.overlapping == 0.0 && !is_alone() && begun.elapsed().as_secs_f64() < AT_MOST {
         report = passes(&check, options.clone());
     }
     assert!(report.overlapping > 0.0 || is_alone(), "{report}");
@@ -135,7 +149,7 @@ fn a_stack_is_found() {
     let _turn = turn();
     finds(
         run_check(Stack::default, Stack::push, Stack::pop, finding("stack")),
-        &[OVERTAKEN],
+        &faults("lifo"),
     );
 }
 
@@ -144,7 +158,7 @@ fn a_lost_update_of_the_tail_is_found() {
     let _turn = turn();
     let make = |capacity| Ring::new(capacity, RingFault::LostUpdate);
     let report = run_check_sized(make, Ring::push, Ring::pop, finding("lost_update"));
-    finds(report, &[NOWHERE, TWICE, EMPTY, OVERTAKEN]);
+    finds(report, &faults("ring-lost-update"));
 }
 
 #[test]
@@ -165,7 +179,7 @@ fn a_test_of_the_length_outside_the_lock_is_found() {
         finding("test_outside"),
     );
     // The length is two loads. Where the head moves on between them, it may be 0 with items inside.
-    finds(report, &[NOWHERE, TWICE, EMPTY, OVERTAKEN]);
+    finds(report, &faults("full-outside-lock"));
 }
 
 #[test]
@@ -177,7 +191,7 @@ fn an_index_that_wraps_is_found() {
         Wrapping::pop,
         finding("wrapping"),
     );
-    finds(report, &[NOWHERE, TWICE]);
+    finds(report, &faults("wrap-16"));
 }
 
 #[test]
@@ -201,7 +215,7 @@ fn a_linked_queue_without_tags_is_found() {
 fn a_ring_for_two_threads_is_found_where_more_use_it() {
     let _turn = turn();
     let report = run_check_sized(Pair::new, Pair::push, Pair::pop, finding("pair_of_many"));
-    finds(report, &[NOWHERE, TWICE, EMPTY, OVERTAKEN]);
+    finds(report, &faults("two-thread-ring"));
 }
 
 #[test]
@@ -321,7 +335,7 @@ fn the_queues_of_crossbeam_pass() {
         .arg("--manifest-path")
         .arg(Path::new(env!("CARGO_MANIFEST_DIR")).join("tests/crossbeam/Cargo.toml"))
         .arg("--")
-        .arg(usual_time().as_secs().to_string())
+        .arg(usual_time().to_string())
         .env(
             "CARGO_TARGET_DIR",
             Path::new(env!("CARGO_TARGET_TMPDIR")).join("crossbeam"),
@@ -357,10 +371,7 @@ fn the_example_passes_and_a_stack_fails() {
     let wrong = run_example("broken");
     assert!(!wrong.status.success(), "{wrong:?}");
     let text = String::from_utf8_lossy(&wrong.stderr);
-    assert!(
-        text.contains("no legal order: an item overtook an older one"),
-        "{text}"
-    );
+    assert!(OVERTAKING.iter().all(|part| text.contains(part)), "{text}");
 }
 
 #[test]
@@ -373,7 +384,7 @@ fn a_call_that_spins_hangs() {
         Some(1)
     };
     let options = Options {
-        hang: Duration::from_millis(200),
+        hang_seconds: 0.2,
         ..finding("spins")
     };
     let report =
@@ -403,7 +414,7 @@ fn a_call_that_sleeps_hangs() {
         }
     };
     let options = Options {
-        hang: Duration::from_millis(50),
+        hang_seconds: 0.05,
         ..finding("sleeps")
     };
     let start = Instant::now();
@@ -475,10 +486,7 @@ fn the_panic_of_a_check_has_the_report() {
     let text = payload
         .downcast_ref::<String>()
         .expect("the panic has a text");
-    assert!(
-        text.contains("no legal order: an item overtook an older one"),
-        "{text}"
-    );
+    assert!(OVERTAKING.iter().all(|part| text.contains(part)), "{text}");
     assert!(
         text.contains("got by call") && text.contains("seed ") && text.contains(".svg"),
         "{text}"
@@ -488,7 +496,7 @@ fn the_panic_of_a_check_has_the_report() {
 type Change = fn(&mut Options);
 
 /// Options that are changed in one way, and why they are refused.
-const REFUSED: [(Change, &str); 11] = [
+const REFUSED: [(Change, &str); 15] = [
     (|it| it.k = 0, "k is not 1 to 64"),
     (|it| it.k = 65, "k is not 1 to 64"),
     (
@@ -516,9 +524,22 @@ const REFUSED: [(Change, &str); 11] = [
         |it| it.repeated = Some(0),
         "the number of different items is not 1 to 16,777,215",
     ),
+    (|it| it.seconds = -1.0, "seconds are not a number from 0 on"),
     (
-        |it| it.hang = Duration::ZERO,
-        "the time after which a call hangs is 0",
+        |it| it.seconds = f64::NAN,
+        "seconds are not a number from 0 on",
+    ),
+    (
+        |it| it.rounds = Some(0),
+        "rounds are not a number from 1 on",
+    ),
+    (
+        |it| it.hang_seconds = 0.0,
+        "hang_seconds are not a number over 0",
+    ),
+    (
+        |it| it.hang_seconds = f64::NAN,
+        "hang_seconds are not a number over 0",
     ),
     (
         |it| it.name = String::from("a/b"),
@@ -558,7 +579,12 @@ fn the_judge_names_calls_by_their_first_times() {
         call(0, Op::Put, 2, 20, Answer::Done),
         call(0, Op::Put, 1, 10, Answer::Done),
     ];
-    let Ok(Verdict::NoOrder { text, named }) = judge(&calls, 1, TRIES) else {
+    let Ok(Verdict::NoOrder {
+        text,
+        counts,
+        reason,
+    }) = judge(&calls, 1, TRIES)
+    else {
         panic!("item 2 overtook item 1");
     };
     assert!(
@@ -569,7 +595,19 @@ fn the_judge_names_calls_by_their_first_times() {
         text.contains("call 2, line 3: thread 1 got 2 from 30 to 35"),
         "{text}"
     );
-    assert_eq!(named, [2, 0]);
+    assert_eq!((counts.calls, counts.left), (4, 0));
+    assert_eq!((reason.evidence, reason.evidence_name), (4, "too young"));
+    assert_eq!(
+        reason.headline,
+        "item 2 came out, and item 1, which went in before, had not"
+    );
+    assert_eq!(reason.least, Some((2, Some(2))));
+    let named = |number, line, place: usize| NamedCall {
+        number,
+        line,
+        call: calls[place],
+    };
+    assert_eq!(reason.named, [named(2, 3, 1), named(0, 5, 3)]);
     assert!(matches!(judge(&calls, 2, TRIES), Ok(Verdict::Legal { .. })));
     assert_eq!(
         least(&calls, TRIES),

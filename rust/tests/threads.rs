@@ -1,8 +1,9 @@
 //! Producers and consumers: each value comes out once, and each is dropped once.
 use kfifo::{Handle, OpenError, PopError, PushError, Queue};
-use std::sync::Arc;
 use std::sync::atomic::{AtomicUsize, Ordering};
+use std::sync::{Arc, Barrier};
 use std::thread;
+use std::time::Duration;
 
 /// A value that counts how many of its kind are alive.
 struct Counted {
@@ -195,4 +196,48 @@ fn values_without_size_are_counted() {
     }
     drop(handle);
     assert_eq!(queue.into_values().expect("no handle is in use").len(), 5);
+}
+
+/// As many handles as threads, which return theirs and take another: each finds one, and all come back.
+#[test]
+fn as_many_threads_as_handles_each_find_one() {
+    for threads in [2, 8, 64] {
+        let queue = Queue::<u64>::with_tokens(1, 2, threads, 1).expect("the sizes are in range");
+        let start = Barrier::new(threads);
+        thread::scope(|scope| {
+            for _ in 0..threads {
+                scope.spawn(|| {
+                    start.wait();
+                    for _ in 0..400_000 / threads {
+                        assert!(queue.handle().is_some());
+                    }
+                });
+            }
+        });
+        let handles: Vec<_> = (0..threads).map_while(|_| queue.handle()).collect();
+        assert_eq!(handles.len(), threads);
+        assert!(queue.handle().is_none());
+    }
+}
+
+/// Handles that take keep tokens of the one that puts, 15 each at most. It fills the queue all the same, and a push
+/// that waits does not wait for ever.
+#[test]
+fn one_handle_fills_the_queue_whatever_the_others_keep() {
+    let queue = Queue::new(1, 256, 16).expect("the sizes are in range");
+    let mut handles: Vec<_> = (0..16).map_while(|_| queue.handle()).collect();
+    let producer = handles.pop().expect("there are handles");
+    for consumer in &handles {
+        for number in 0..15 {
+            assert_eq!(producer.push(number), Ok(()));
+            assert_eq!(consumer.pop(), Ok(number));
+        }
+    }
+    for number in 0..256 {
+        assert_eq!(
+            producer.push_timeout(number, Duration::from_secs(60)),
+            Ok(())
+        );
+    }
+    assert_eq!(producer.push(256), Err(PushError::Full(256)));
 }

@@ -92,13 +92,18 @@ impl<Q: Send + Sync + 'static, H: 'static> Check<Q, H> {
         loop {
             self.make_round();
             self.tell();
-            let is_over = self.report.rounds >= most || self.start.elapsed() >= self.options.time;
+            let is_over = self.report.rounds >= most || self.start.elapsed() >= self.options.time();
             if is_over || !self.report.has_passed() {
                 break;
             }
         }
         if self.sampled > 0 {
             self.report.overlapping = self.overlapped as f64 / self.sampled as f64;
+        }
+        if self.report.has_passed() && self.report.undecided == self.report.rounds {
+            self.report.outcome = Outcome::Undecided {
+                text: String::from("no round has a verdict"),
+            };
         }
         if self.report.has_passed() && self.report.taken == 0 {
             self.report.outcome = Outcome::NothingTaken;
@@ -219,7 +224,7 @@ impl<Q: Send + Sync + 'static, H: 'static> Check<Q, H> {
             }
             looked = Instant::now();
             let (lanes, workers) = (&shared.lanes[..design.threads], &self.pool.workers);
-            if watch.sees_hang(lanes, workers, self.options.hang) {
+            if watch.sees_hang(lanes, workers, self.options.hang()) {
                 return true;
             }
         }
@@ -255,10 +260,10 @@ impl<Q: Send + Sync + 'static, H: 'static> Check<Q, H> {
         }
         match judge(calls, self.options.k, self.options.tries) {
             Ok(Verdict::Legal { .. }) => {}
-            Ok(Verdict::NoOrder { text, .. }) => {
-                self.fail(Outcome::NoOrder { text }, design, calls)
+            Ok(Verdict::NoOrder { text, reason, .. }) => {
+                self.fail(Outcome::NoOrder { text, reason }, design, calls)
             }
-            Ok(Verdict::Undecided { text }) => {
+            Ok(Verdict::Undecided { text, .. }) => {
                 self.report.undecided += 1;
                 if self.options.undecided_fails {
                     self.fail(Outcome::Undecided { text }, design, calls);

@@ -20,6 +20,14 @@ pub(super) struct Call {
     pub(super) answer: u8,
 }
 
+/// A call that a reason names: `kfifo_judge_named`.
+#[repr(C)]
+pub(super) struct Named {
+    pub(super) number: usize,
+    pub(super) line: u64,
+    pub(super) call: Call,
+}
+
 /// What was found: `kfifo_judge_report`. The library allocates what the pointers lead to.
 #[repr(C)]
 pub(super) struct Report {
@@ -28,8 +36,13 @@ pub(super) struct Report {
     pub(super) place: u64,
     pub(super) text: *mut c_char,
     pub(super) length: usize,
-    pub(super) named: *mut usize,
+    pub(super) evidence: u32,
+    pub(super) headline: *mut c_char,
+    pub(super) headline_length: usize,
+    pub(super) named: *mut Named,
     pub(super) named_count: usize,
+    pub(super) calls: usize,
+    pub(super) left: usize,
     pub(super) at_least: usize,
     pub(super) at_most: u32,
 }
@@ -42,8 +55,13 @@ impl Report {
             place: 0,
             text: ptr::null_mut(),
             length: 0,
+            evidence: 0,
+            headline: ptr::null_mut(),
+            headline_length: 0,
             named: ptr::null_mut(),
             named_count: 0,
+            calls: 0,
+            left: 0,
             at_least: 0,
             at_most: 0,
         }
@@ -94,6 +112,8 @@ unsafe extern "C" {
         style: u32,
         report: *mut Report,
     ) -> u32;
+    // It returns a text of the library's own, which ends in a 0.
+    pub(super) fn kfifo_judge_evidence_name(evidence: u32) -> *const c_char;
     fn kfifo_judge_clear(report: *mut Report);
 }
 

@@ -9,13 +9,12 @@
 //! use kfifo::judge::{Options, check};
 //! use std::collections::VecDeque;
 //! use std::sync::Mutex;
-//! use std::time::Duration;
 //!
 //! check(
 //!     || Mutex::new(VecDeque::new()),
 //!     |queue, item| queue.lock().unwrap().push_back(item),
 //!     |queue| queue.lock().unwrap().pop_front(),
-//!     Options { time: Duration::from_millis(200), ..Options::default() },
+//!     Options { seconds: 0.2, ..Options::default() },
 //! );
 //! ```
 //!
@@ -49,8 +48,8 @@ mod watch;
 pub use options::{BadOption, Options};
 pub use report::{Outcome, Report};
 pub use verdict::{
-    Answer, Call, Fault, Least, MAX_CALLS, MAX_ITEM, Op, Part, Style, TRIES, Verdict, draw, judge,
-    judge_text, least, write_csv,
+    Answer, Call, Counts, Fault, Least, MAX_CALLS, MAX_ITEM, NamedCall, Op, Part, Reason, Style,
+    TRIES, Verdict, draw, judge, judge_text, least, write_csv,
 };
 
 use crate::{PopError, PushError};
@@ -235,7 +234,6 @@ where
 /// ```
 /// use kfifo::judge::{Options, check_sized};
 /// use std::sync::{Mutex, mpsc};
-/// use std::time::Duration;
 ///
 /// check_sized(
 ///     |capacity| {
@@ -244,7 +242,7 @@ where
 ///     },
 ///     |(sender, _), item| sender.try_send(item).is_ok(),
 ///     |(_, receiver)| receiver.lock().unwrap().try_recv().ok(),
-///     Options { one_consumer: true, time: Duration::from_millis(200), ..Options::default() },
+///     Options { one_consumer: true, seconds: 0.2, ..Options::default() },
 /// );
 /// ```
 #[track_caller]
@@ -299,14 +297,13 @@ where
 /// ```
 /// use kfifo::Queue;
 /// use kfifo::judge::{Options, check_handles};
-/// use std::time::Duration;
 ///
 /// check_handles(
 ///     |capacity| Queue::new(1, capacity as u32, 8).expect("the sizes are in range"), // k, segments, handles
 ///     |queue, _thread| queue.handle().expect("a handle is free"),
 ///     |handle, item| handle.push(item),
 ///     |handle| handle.pop(),
-///     Options { time: Duration::from_millis(200), ..Options::default() },
+///     Options { seconds: 0.2, ..Options::default() },
 /// );
 /// ```
 #[track_caller]

@@ -1,6 +1,6 @@
 //! What a check is to do, and the design of a round.
 use super::clock::Random;
-use super::verdict::{MAX_CALLS, MAX_ITEM, TRIES};
+use super::verdict::{MAX_ITEM, TRIES};
 use std::error::Error;
 use std::fmt::{self, Display, Formatter};
 use std::path::PathBuf;
@@ -10,9 +10,8 @@ use std::time::Duration;
 ///
 /// ```
 /// use kfifo::judge::Options;
-/// use std::time::Duration;
 ///
-/// let options = Options { k: 4, time: Duration::from_secs(30), ..Options::default() };
+/// let options = Options { k: 4, seconds: 30.0, ..Options::default() };
 /// ```
 #[derive(Clone, Debug)]
 pub struct Options {
@@ -24,8 +23,8 @@ pub struct Options {
     pub threads: Option<usize>,
     /// How many calls each thread makes in a round: none draws 50, 100 or 200 for each round.
     pub calls: Option<usize>,
-    /// When rounds end: 5 seconds. The first round is made in any case.
-    pub time: Duration,
+    /// After how many seconds rounds end: 5. The first round is made in any case.
+    pub seconds: f64,
     /// After how many rounds they end, where the time is not up before: none.
     pub rounds: Option<u64>,
     /// What the designs of the rounds are drawn by: none draws one. A seed repeats the designs, not the schedules.
@@ -41,9 +40,9 @@ pub struct Options {
     pub repeated: Option<u32>,
     /// Whether a round without a verdict fails: no. It is counted in any case.
     pub undecided_fails: bool,
-    /// A call hangs when it has used so much processor time, or has taken ten times as long on the clock: half a
-    /// second, and so 5 seconds.
-    pub hang: Duration,
+    /// A call hangs when it has used so many seconds of processor time, or has taken ten times as long on the clock:
+    /// 0.5, and so 5 seconds.
+    pub hang_seconds: f64,
     /// How many choices the search for an order may take back in a round: [`TRIES`].
     pub tries: u64,
     /// Whether nothing is printed: no.
@@ -57,7 +56,7 @@ impl Default for Options {
             k: 1,
             threads: None,
             calls: None,
-            time: Duration::from_secs(5),
+            seconds: 5.0,
             rounds: None,
             seed: None,
             folder: None,
@@ -65,7 +64,7 @@ impl Default for Options {
             one_consumer: false,
             repeated: None,
             undecided_fails: false,
-            hang: Duration::from_millis(500),
+            hang_seconds: 0.5,
             tries: TRIES,
             quiet: false,
         }
@@ -129,6 +128,8 @@ pub(super) const CAPACITIES: [usize; 4] = [2, 4, 8, 64];
 const MOST_BEFORE: usize = 32;
 /// How many more calls than there are items may be needed to empty a queue.
 const SPARE: usize = 64;
+/// How many calls a round may have.
+const MAX_ROUND_CALLS: usize = 65_536;
 
 /// How a round is made.
 #[derive(Clone, Copy, Debug)]
@@ -205,7 +206,7 @@ impl Options {
                 self.most_calls(most)
                     .saturating_mul(2)
                     .saturating_add(SPARE)
-                    > MAX_CALLS,
+                    > MAX_ROUND_CALLS,
                 "a round would have more calls than can be judged",
             ),
             (
@@ -217,9 +218,11 @@ impl Options {
                     .is_some_and(|most| !(1..=MAX_ITEM).contains(&most)),
                 "the number of different items is not 1 to 16,777,215",
             ),
+            (!(self.seconds >= 0.0), "seconds are not a number from 0 on"),
+            (self.rounds == Some(0), "rounds are not a number from 1 on"),
             (
-                self.hang.is_zero(),
-                "the time after which a call hangs is 0",
+                !(self.hang_seconds > 0.0),
+                "hang_seconds are not a number over 0",
             ),
             (
                 self.name.is_empty() || self.name.contains(['/', '\0']),
@@ -230,6 +233,16 @@ impl Options {
             Some((_, text)) => Err(BadOption(text)),
             None => Ok(()),
         }
+    }
+
+    /// When rounds end, after the beginning.
+    pub(super) fn time(&self) -> Duration {
+        Duration::try_from_secs_f64(self.seconds).unwrap_or(Duration::MAX)
+    }
+
+    /// After which processor time a call hangs.
+    pub(super) fn hang(&self) -> Duration {
+        Duration::try_from_secs_f64(self.hang_seconds).unwrap_or(Duration::MAX)
     }
 
     /// The greatest number of threads in a round.

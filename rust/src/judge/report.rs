@@ -1,6 +1,6 @@
 //! What came of a check.
 use super::options::{Design, Options};
-use super::verdict::{Call, Part, Style, draw, write_csv};
+use super::verdict::{Call, Part, Reason, Style, draw, write_csv};
 use std::fmt::{self, Display, Formatter};
 use std::fs::{self, File};
 use std::io::{self, BufWriter};
@@ -15,8 +15,10 @@ pub enum Outcome {
     Passed,
     /// A round has no legal order. This is proved.
     NoOrder {
-        /// The judge's reason, with a line for each call that it names.
+        /// What the judge says of it, with a line for each call that the reason names.
         text: String,
+        /// The reason.
+        reason: Reason,
     },
     /// A round has no verdict, and [`Options::undecided_fails`] is set.
     Undecided {
@@ -144,7 +146,7 @@ impl Report {
     fn head(&self) -> String {
         match &self.outcome {
             Outcome::Passed => String::from("no fault found"),
-            Outcome::NoOrder { text } => format!("no legal order: {}", fault_named_in(text)),
+            Outcome::NoOrder { reason, .. } => format!("no legal order: {}", reason.headline),
             Outcome::Undecided { .. } => String::from("a round is undecided"),
             Outcome::Hang { .. } => String::from("a call did not return"),
             Outcome::Panicked { thread, .. } => format!("thread {thread} panicked in a call"),
@@ -158,46 +160,14 @@ impl Report {
     /// The lines that say more of it.
     fn details(&self) -> String {
         match &self.outcome {
-            Outcome::NoOrder { text } | Outcome::Undecided { text } | Outcome::Fault { text } => {
-                text.trim_end().to_string()
-            }
+            Outcome::NoOrder { text, .. }
+            | Outcome::Undecided { text }
+            | Outcome::Fault { text } => text.trim_end().to_string(),
             Outcome::Hang { threads } => threads.join("\n"),
             Outcome::Panicked { message, .. } => message.clone(),
             Outcome::Passed | Outcome::NothingTaken => String::new(),
         }
     }
-}
-
-/// What a queue did wrong, from the line of the reason that names the evidence.
-fn fault_named_in(text: &str) -> &'static str {
-    let names = [
-        (
-            "which no call before its end put",
-            "an item from nowhere, or got before it was put",
-        ),
-        ("taken more often than put", "an item was got twice"),
-        (
-            "found nothing",
-            "an Empty that came too early, or a lost item",
-        ),
-        (
-            "while 1 older item was there",
-            "an item overtook an older one",
-        ),
-        (
-            "older items were there",
-            "an item overtook too many older ones",
-        ),
-        (
-            "when more gets of it had ended",
-            "an item was got twice, or before it was put again",
-        ),
-        ("were left: calls", "an item overtook older ones"),
-        ("was left: calls", "an item overtook an older one"),
-    ];
-    let line = text.lines().nth(1).unwrap_or_default();
-    let name = names.iter().find(|(part, _)| line.contains(part));
-    name.map_or("the reason follows", |(_, name)| name)
 }
 
 fn write_log(folder: &Path, path: &Path, calls: &[Call]) -> io::Result<()> {
@@ -215,7 +185,7 @@ impl Display for Report {
             self.head()
         )?;
         if let Some(round) = &self.failed_round {
-            writeln!(f, "{round}, seed {}", self.seed)?;
+            writeln!(f, "{round}")?;
         }
         let details = self.details();
         if !details.is_empty() {
@@ -235,7 +205,7 @@ impl Display for Report {
             "{} rounds, {} calls, {share:.0} % overlapping",
             self.rounds, self.calls
         )?;
-        write!(f, ", {} undecided", self.undecided)?;
+        write!(f, ", {} undecided, seed {}", self.undecided, self.seed)?;
         if let Some((at_least, at_most)) = self.least {
             write!(
                 f,

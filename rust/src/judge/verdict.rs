@@ -1,13 +1,14 @@
 //! The judge itself: calls in, a proved verdict out.
 use super::ffi;
 use std::error::Error;
+use std::ffi::{CStr, c_char};
 use std::fmt::{self, Display, Formatter};
 use std::io::{self, Write};
 
 /// How many choices a search may take back, unless the caller has a reason for another number.
 pub const TRIES: u64 = 1_000_000;
 /// How many calls can be judged at a time.
-pub const MAX_CALLS: usize = 65_536;
+pub const MAX_CALLS: usize = 16_777_215;
 /// The greatest item.
 pub const MAX_ITEM: u32 = 16_777_215;
 
@@ -129,20 +130,61 @@ pub enum Verdict {
     Legal {
         /// The lines of the verdict.
         text: String,
+        /// How many calls there are, and how many items are left at their end.
+        counts: Counts,
     },
-    /// The calls have no legal order. This is proved, and the text says why.
+    /// The calls have no legal order. This is proved, and the reason says why.
     NoOrder {
-        /// The reason, with a line for each call that it names.
+        /// The lines of the verdict, with one for each call that the reason names.
         text: String,
-        /// The numbers of these calls, in the order of the reason. Calls have numbers in ascending order of first
-        /// time, from 0.
-        named: Vec<usize>,
+        /// How many calls there are, and how many items are left at their end.
+        counts: Counts,
+        /// The same as data.
+        reason: Reason,
     },
     /// Neither an order nor a reason against each was found.
     Undecided {
         /// Why the search stopped.
         text: String,
+        /// How many calls there are, and how many items are left at their end.
+        counts: Counts,
     },
+}
+
+/// How many calls a verdict is about.
+#[derive(Clone, Copy, Debug, Default, PartialEq, Eq)]
+pub struct Counts {
+    /// How many calls were judged.
+    pub calls: usize,
+    /// How many items are left at their end: finished puts less gets.
+    pub left: usize,
+}
+
+/// Why calls have no legal order.
+#[derive(Clone, Debug, PartialEq, Eq)]
+pub struct Reason {
+    /// The number of the kind of its evidence, 1 to 7, as `docs/JUDGE.md` has it.
+    pub evidence: u32,
+    /// The name of that kind, as `too young`.
+    pub evidence_name: &'static str,
+    /// What it says of the queue, as `item 2 came out, and item 1, which went in before, had not`.
+    pub headline: String,
+    /// The calls that it rests on, in the order of the text.
+    pub named: Vec<NamedCall>,
+    /// The bounds of the least k, where the text says them: it is no less than the first, and no greater than the
+    /// second, if that was found.
+    pub least: Option<(usize, Option<u32>)>,
+}
+
+/// A call that a reason names.
+#[derive(Clone, Copy, Debug, PartialEq, Eq)]
+pub struct NamedCall {
+    /// Its number, from 0, in ascending order of first time.
+    pub number: usize,
+    /// The line of the log that it stands in, from 1; 0 of a record.
+    pub line: u64,
+    /// The call. Its item is 0 where it is a get that found nothing, its last time where it is unfinished.
+    pub call: Call,
 }
 
 /// Why a log has no verdict. It is never the fault of the queue that was logged.
@@ -210,24 +252,89 @@ pub enum Style {
     Text = 1,
 }
 
-/// The text of a report.
-fn text_of(report: &ffi::Report) -> String {
-    if report.text.is_null() {
+/// A text of a report: there is none behind a null pointer.
+///
+/// # Safety
+///
+/// Behind another there are so many bytes.
+unsafe fn owned(text: *const c_char, length: usize) -> String {
+    if text.is_null() {
         return String::new();
     }
-    // SAFETY: the library says that the text has so many bytes, and they live as long as the report.
-    let bytes = unsafe { std::slice::from_raw_parts(report.text.cast::<u8>(), report.length) };
+    // SAFETY: the caller says so.
+    let bytes = unsafe { std::slice::from_raw_parts(text.cast::<u8>(), length) };
     String::from_utf8_lossy(bytes).into_owned()
 }
 
-/// The numbers of the calls that a report names.
-fn named_in(report: &ffi::Report) -> Vec<usize> {
+/// The text of a report.
+fn text_of(report: &ffi::Report) -> String {
+    // SAFETY: the library says that the text has so many bytes, and they live as long as the report.
+    unsafe { owned(report.text, report.length) }
+}
+
+/// The calls that a report names.
+fn named_in(report: &ffi::Report) -> Vec<NamedCall> {
     if report.named.is_null() {
         return Vec::new();
     }
     // SAFETY: as in `text_of`.
     let named = unsafe { std::slice::from_raw_parts(report.named, report.named_count) };
-    named.to_vec()
+    named.iter().map(NamedCall::of).collect()
+}
+
+/// The reason of a report that has one.
+fn reason_of(report: &ffi::Report) -> Reason {
+    // SAFETY: the library takes any number, and returns a text of its own that ends in a 0.
+    let name = unsafe { CStr::from_ptr(ffi::kfifo_judge_evidence_name(report.evidence)) };
+    Reason {
+        evidence: report.evidence,
+        evidence_name: name.to_str().unwrap_or_default(),
+        // SAFETY: as in `text_of`.
+        headline: unsafe { owned(report.headline, report.headline_length) },
+        named: named_in(report),
+        least: (report.at_least > 0).then(|| {
+            (
+                report.at_least,
+                (report.at_most > 0).then_some(report.at_most),
+            )
+        }),
+    }
+}
+
+impl NamedCall {
+    fn of(named: &ffi::Named) -> NamedCall {
+        let of = &named.call;
+        let call = Call {
+            thread: of.thread,
+            op: if of.op == Op::Put as u8 {
+                Op::Put
+            } else {
+                Op::Get
+            },
+            item: of.item,
+            first: of.first,
+            last: of.last,
+            answer: answer_of(of.answer),
+        };
+        NamedCall {
+            number: named.number,
+            line: named.line,
+            call,
+        }
+    }
+}
+
+/// The answer with this number.
+fn answer_of(number: u8) -> Answer {
+    match number {
+        1 => Answer::Done,
+        2 => Answer::Full,
+        3 => Answer::Got,
+        4 => Answer::Empty,
+        5 => Answer::Busy,
+        6 => Answer::Worn,
+        _ => Answer::Unfinished,
+    }
 }
 
 /// The fault that a status stands for, where it is none of a verdict.
@@ -245,13 +352,21 @@ fn fault_of(status: u32, report: &ffi::Report) -> Fault {
 
 fn verdict_of(status: u32, report: &ffi::Report) -> Result<Verdict, Fault> {
     let text = text_of(report);
+    let counts = Counts {
+        calls: report.calls,
+        left: report.left,
+    };
     match status {
-        ffi::LEGAL => Ok(Verdict::Legal { text }),
+        ffi::LEGAL => Ok(Verdict::Legal { text, counts }),
         ffi::NO_ORDER => {
-            let named = named_in(report);
-            Ok(Verdict::NoOrder { text, named })
+            let reason = reason_of(report);
+            Ok(Verdict::NoOrder {
+                text,
+                counts,
+                reason,
+            })
         }
-        ffi::UNDECIDED => Ok(Verdict::Undecided { text }),
+        ffi::UNDECIDED => Ok(Verdict::Undecided { text, counts }),
         _ => Err(fault_of(status, report)),
     }
 }
@@ -276,9 +391,10 @@ fn to_c(calls: &[Call]) -> Vec<ffi::Call> {
 /// let calls = [done(1, 10), done(2, 20), got(2, 30), got(1, 40)];
 ///
 /// let verdict = judge(&calls, 1, TRIES)?;
-/// let Verdict::NoOrder { text, named } = verdict else { panic!("item 2 overtook item 1") };
+/// let Verdict::NoOrder { text, reason, .. } = verdict else { panic!("item 2 overtook item 1") };
 /// assert!(text.contains("call 2 got item 2, while 1 older item was there: calls 0"));
-/// assert_eq!(named, [2, 0]);
+/// assert_eq!(reason.headline, "item 2 came out, and item 1, which went in before, had not");
+/// assert_eq!((reason.named[0].call, reason.named[1].call), (calls[2], calls[0]));
 /// assert!(matches!(judge(&calls, 2, TRIES)?, Verdict::Legal { .. }));
 /// # Ok::<(), kfifo::judge::Fault>(())
 /// ```

@@ -2,13 +2,12 @@
 //! crates are installed.
 use crossbeam_queue::{ArrayQueue, SegQueue};
 use kfifo::judge::{Options, check, check_sized};
-use std::time::Duration;
 
 fn main() {
-    let seconds = std::env::args().nth(1).and_then(|word| word.parse().ok()).unwrap_or(2);
+    let seconds = std::env::args().nth(1).and_then(|word| word.parse().ok()).unwrap_or(2.0);
     let options = |name: &str| Options {
         name: name.to_string(),
-        time: Duration::from_secs(seconds),
+        seconds,
         ..Options::default()
     };
     let array = options("ArrayQueue");
