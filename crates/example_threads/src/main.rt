@@ -59,7 +59,8 @@ fn finish(alloc: Global, queue: Queue, workers: Vec<Worker>) -> anyhow::Result<T
 
 /// Four threads share a queue with k = 4 and 256 segments. Each gets a pass of the list, and returns it.
 fn run_four<R: Threads + Sync>(rt: &R, alloc: Global) -> anyhow::Result<Totals> {
-    let (queue, passes) = Queue::open(alloc, Shape::new(4, 256, MAX_VERSION)?, 4)?;
+    let shape = Shape::new(4, 256, MAX_VERSION)?.holding_again();
+    let (queue, passes) = Queue::open(alloc, shape, 4)?;
     let workers = map_vec(rt, passes, &|pass| work(&queue, pass))?;
     finish(alloc, queue, workers)
 }

@@ -1,4 +1,4 @@
-//! The program `kfifo`: a bounded-size lock-free k-FIFO queue at the command line.
+//! The program `kfifo`: a bounded-size k-FIFO queue without locks, at the command line.
 #![tactic(auto)]
 
 pub use kfifo_cli::program;

@@ -49,11 +49,12 @@ versions = Unsigned 0 1099511627775
 
 -- the options of sizes
 abbrev pub with_sizes : App → App
-with_sizes app = with_rule (with_rule (with_rule (with_rule app
+with_sizes app = with_rule (with_rule (with_rule (with_rule (with_rule app
     (places_option 0 4294967295 (codes "2")))
     (default_option (codes "segments") (small_numbers 0 4294967295) (codes "2")))
     (default_option (codes "last") versions (codes "1099511627775")))
-    (number_option (codes "probes") (small_numbers 0 4294967295))
+    (number_option (codes "probes") (small_numbers 0 4294967295)))
+    (flag (codes "hold-again"))
 
 -- the option of the rounds of a call
 abbrev pub with_turns : App → App

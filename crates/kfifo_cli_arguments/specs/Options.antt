@@ -1,5 +1,5 @@
 -- What the options of a command give.
-use Rattle.std.specs.Prelude.{◌≡◌, ℕ, ◌^◌, ◌<◌, ◌≤◌, Bool, true, false, List, [], length, Option, Some, None}
+use Rattle.std.specs.Prelude.{◌≡◌, ◌≢◌, ◌⊎◌, ℕ, ◌^◌, ◌<◌, ◌≤◌, Bool, true, false, List, [], length, Option, Some, None}
 use Rattle.std.specs.Prelude.{MatchOption, codes, map, max, min, option_map, unwrap_or}
 use Rattle.std.specs.Str.Parse.{digits_value}
 use denote.Ref.{Bor}
@@ -29,12 +29,18 @@ pub record GivesOr (bits : ℕ) (text : Option (List ℕ)) (default number : ℕ
   pub gives : GivesNumber bits text given
   pub is : number ≡ unwrap_or given default
 
--- the sizes that the options give
+-- a flag is on where the command line has it
+abbrev pub GivesFlag : Option (List ℕ) → Bool → Type 0
+GivesFlag text flag = (text ≡ None → flag ≡ false) × (text ≡ Some (codes "true") → flag ≡ true)
+    × (text ≡ Some (codes "false") → flag ≡ false)
+
+-- the shape that the options give
 pub record GivesSizes (found : Found) (sizes : Sizes) : Type 0 where
   pub k_given : GivesOr 32 (one_text found (codes "k")) 2 sizes.k
   pub segments_given : GivesOr 32 (one_text found (codes "segments")) 2 sizes.segments
   pub last_given : GivesOr 64 (one_text found (codes "last")) 1099511627775 sizes.last
   pub probes_given : GivesNumber 32 (one_text found (codes "probes")) sizes.probes
+  pub hold_again_given : GivesFlag (one_text found (codes "hold-again")) sizes.hold_again
 
 -- the rounds of a call, at least 1
 abbrev pub GivesTurns : Found → ℕ → Type 0
@@ -49,11 +55,6 @@ pub record GivesRun (found : Found) (options : RunOptions) : Type 0 where
   pub sizes : GivesSizes found options.sizes
   pub turns : GivesTurns found options.turns
   pub words : map (λ word. word.now) options.words.now ≡ given_words found
-
--- a flag is on where the command line has it
-abbrev pub GivesFlag : Option (List ℕ) → Bool → Type 0
-GivesFlag text flag = (text ≡ None → flag ≡ false) × (text ≡ Some (codes "true") → flag ≡ true)
-    × (text ≡ Some (codes "false") → flag ≡ false)
 
 -- the options of `replay`
 pub record GivesReplay (found : Found) (options : ReplayOptions) : Type 0 where
@@ -86,9 +87,10 @@ GivesPlaces found default k = (given : ℕ) × GivesOr 32 (one_text found (codes
 abbrev pub GivesTries : Found → ℕ → Type 0
 GivesTries found tries = GivesOr 32 (one_text found (codes "tries")) 1000000 tries
 
--- the path of the file to be read, where one is named
+-- the path of the file to be read, where one is named; `-` stands for standard input
 abbrev pub GivesFile : Found → Option (Bor (List ℕ)) → Type 0
-GivesFile found file = option_map (λ path. path.now) file ≡ first_value found (codes "file")
+GivesFile found None = (first_value found (codes "file") ≡ None) ⊎ (first_value found (codes "file") ≡ Some (codes "-"))
+GivesFile found (Some path) = (first_value found (codes "file") ≡ Some path.now) × (path.now ≢ codes "-")
 
 -- the options of `least`
 pub record GivesLeast (found : Found) (options : LeastOptions) : Type 0 where

@@ -55,8 +55,7 @@ reading or writing; 2 for a fault of the command line; 3 where a record has no
 order, or its order is not legal; 4 where `judge` cannot say.
 
 The documents, where this program comes from: README.md begins; docs/PROGRAM.md
-is about the commands, docs/JUDGE.md about records and orders, docs/QUEUE.md
-about the queue.";
+is about the commands, docs/JUDGE.md about records and orders.";
 
 /// Returns the request of the command that was named, with what its options were given; None where none was named.
 pub fn request_of<'a>(matches: &'a ArgMatches<'_>) -> Option<Request<'a>>
@@ -117,7 +116,7 @@ fn command<'a>(alloc: Global) -> Result<Command<'a>, AllocError>
         .bin_name("kfifo")?
         .no_binary_name(true)
         .version(VERSION)
-        .about("A bounded lock-free k-FIFO queue: a dequeue takes any of the k oldest items")
+        .about("A bounded k-FIFO queue without locks: a dequeue takes any of the k oldest items")
         .after_help(EXAMPLES)
         .after_long_help(DETAILS)
         .subcommand_required(true)

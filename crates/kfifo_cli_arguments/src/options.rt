@@ -19,11 +19,16 @@ const LAST: &str = "last";
 
 const PROBES: &str = "probes";
 
+const HOLD_AGAIN: &str = "hold-again";
+
 const TURNS: &str = "turns";
 
 const TRIES: &str = "tries";
 
 const FILE: &str = "file";
+
+/// In place of a file, it names standard input.
+const STANDARD_INPUT: &str = "-";
 
 const DEFAULT_K: u32 = 2;
 
@@ -42,6 +47,7 @@ pub fn sizes_of(matches: &ArgMatches<'_>) -> Sizes
         segments: count_of(matches, SEGMENTS, DEFAULT_SEGMENTS),
         last: matches.get_one(LAST).unwrap_or(MAX_VERSION),
         probes: matches.get_one(PROBES),
+        hold_again: matches.get_flag(HOLD_AGAIN),
     }
 }
 
@@ -52,7 +58,7 @@ pub fn count_of(matches: &ArgMatches<'_>, name: &str, default: u32) -> u32
     matches.get_one(name).unwrap_or(default)
 }
 
-/// Adds the options `--k`, `--segments`, `--last` and `--probes`.
+/// Adds the options `--k`, `--segments`, `--last`, `--probes` and `--hold-again`.
 pub fn with_sizes<'a>(alloc: Global, command: Command<'a>) -> Result<Command<'a>, AllocError>
     ensures { IfOk result (λ c. (app_of c ≡ line.with_sizes (app_of command.entry))
         × ((fields_of c).has_globals ≡ (fields_of command.entry).has_globals)) }
@@ -77,7 +83,15 @@ pub fn with_sizes<'a>(alloc: Global, command: Command<'a>) -> Result<Command<'a>
         .value_name("SLOTS")
         .value_parser(value_parser!(u32))
         .help("Slots of a segment that an enqueue looks at,\n1 to k [default: k]");
-    command.arg(k)?.arg(segments)?.arg(last)?.arg(probes)
+    let hold_again = flag(alloc, HOLD_AGAIN).help(
+        "Let an enqueue that could not hold the head look at\nits slot again before it takes its item out",
+    );
+    command
+        .arg(k)?
+        .arg(segments)?
+        .arg(last)?
+        .arg(probes)?
+        .arg(hold_again)
 }
 
 /// Adds the option `--turns`.
@@ -157,15 +171,20 @@ pub fn with_file<'a>(alloc: Global, command: Command<'a>) -> Result<Command<'a>,
     let file = Arg::new(alloc, FILE)
         .value_name("FILE")
         .action(ArgAction::Set)
-        .help("The file to read; standard input if none is named");
+        .help("The file to read; standard input if none is named,\nor -");
     command.arg(file)
 }
 
-/// The path of the file that is read, where one is named.
+/// The path of the file that is read, where one is named; none of standard input.
 pub fn file_of<'a>(matches: &'a ArgMatches<'_>) -> Option<&'a str>
     ensures { GivesFile (found_of matches.now) result }
 {
-    matches.get_str(FILE)
+    let path = matches.get_str(FILE)?;
+    if path == STANDARD_INPUT {
+        None
+    } else {
+        Some(path)
+    }
 }
 
 /// The option `--name`, which takes no value.

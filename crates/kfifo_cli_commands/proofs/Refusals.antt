@@ -10,7 +10,7 @@ use Rattle.kfifo_cli_texts.specs.declared.fault.Fault.TheVariants.{Memory, Order
 use Rattle.kfifo_cli_requests.specs.declared.requests.CheckOptions.{CheckOptions}
 use Rattle.kfifo_cli_texts.specs.Faults.{stream_fault}
 use Rattle.kfifo_cli_texts.specs.Orders.{GivesNoOrder, GivesOrder}
-use Rattle.kfifo_cli_commands.specs.Records.{IsCheckRefusal, IsMeasureRefusal, IsOfInput, IsOrder, IsRecordRefusal, GivesSomeOrder}
+use Rattle.kfifo_cli_commands.specs.Records.{IsCheckRefusal, IsInput, IsMeasureRefusal, IsOfInput, IsUnanswered, IsOrder, IsRecordRefusal, GivesSomeOrder}
 use Rattle.kfifo_cli_commands.specs.Inputs.{IsNoCalls}
 
 -- neither side of a fault that no text and no history has
@@ -22,11 +22,11 @@ module _ (input : Option (List ℕ)) (before after : ℕ) where
   module _ (options : CheckOptions) (order : Option (List ℕ)) (ordered : IsOrder options order) where
     refused : (given : StreamFault) → IsOfInput input (IsCheckFault order) given
         → IsCheckRefusal options input before after (stream_fault given)
-    refused streams.Input x = absurd (never x.2)
-    refused streams.NotJson x = record { order = order; order_given = ordered; bytes = x.0; read = x.1; faulty = x.2 }
-    refused (streams.Record f) x = record { order = order; order_given = ordered; bytes = x.0; read = x.1; faulty = x.2 }
-    refused (streams.Search f) x = record { order = order; order_given = ordered; bytes = x.0; read = x.1; faulty = x.2 }
-    refused streams.RepeatedItem x = absurd (never x.2)
+    refused streams.Input x = absurd (never x.3)
+    refused streams.NotJson x = record { order = order; order_given = ordered; bytes = x.0; read = x.1; some = x.2; faulty = x.3 }
+    refused (streams.Record f) x = record { order = order; order_given = ordered; bytes = x.0; read = x.1; some = x.2; faulty = x.3 }
+    refused (streams.Search f) x = record { order = order; order_given = ordered; bytes = x.0; read = x.1; some = x.2; faulty = x.3 }
+    refused streams.RepeatedItem x = absurd (never x.3)
     refused streams.Memory x = tt
     refused streams.Output x = tt
 
@@ -35,18 +35,28 @@ module _ (input : Option (List ℕ)) (before after : ℕ) where
         → IsCheckRefusal options input before after fault
     check_refused fault (inl memory) = subst (λ f. IsCheckRefusal options input before after f) (sym memory) tt
     check_refused fault (inr (inl unread)) = subst (λ f. IsCheckRefusal options input before after f) (sym unread.0) unread.1
-    check_refused fault (inr (inr f)) = subst (λ f. IsCheckRefusal options input before after f) (sym f.1) (refused f.0 f.2)
+    check_refused fault (inr (inr w)) = elim w.2 [
+      | inl none ↦ subst (λ f. IsCheckRefusal options input before after f) (sym none.0) (subst (IsInput input) none.1 w.1)
+      | inr f ↦ subst (λ f. IsCheckRefusal options input before after f) (sym f.1) (refused f.0 (w.0, w.1, f.2, f.3))
+    ]
 
-  -- a record that is not measured is a refusal of `measure`
-  pub measure_refused : (given : StreamFault) → IsOfInput input IsMeasuringFault given
+  unmeasured : (given : StreamFault) → IsOfInput input IsMeasuringFault given
       → IsMeasureRefusal input before after (stream_fault given)
-  measure_refused streams.Input x = absurd (never x.2)
-  measure_refused streams.NotJson x = x
-  measure_refused (streams.Record f) x = x
-  measure_refused (streams.Search f) x = absurd (never x.2)
-  measure_refused streams.RepeatedItem x = x
-  measure_refused streams.Memory x = tt
-  measure_refused streams.Output x = tt
+  unmeasured streams.Input x = absurd (never x.3)
+  unmeasured streams.NotJson x = x
+  unmeasured (streams.Record f) x = x
+  unmeasured (streams.Search f) x = absurd (never x.3)
+  unmeasured streams.RepeatedItem x = x
+  unmeasured streams.Memory x = tt
+  unmeasured streams.Output x = tt
+
+  -- bytes that are not measured are a refusal of `measure`
+  pub measure_refused : (bytes : List ℕ) (fault : Fault) → IsInput input bytes → IsUnanswered bytes IsMeasuringFault fault
+      → IsMeasureRefusal input before after fault
+  measure_refused bytes fault read (inl none) =
+      subst (λ f. IsMeasureRefusal input before after f) (sym none.0) (subst (IsInput input) none.1 read)
+  measure_refused bytes fault read (inr f) =
+      subst (λ f. IsMeasureRefusal input before after f) (sym f.1) (unmeasured f.0 (bytes, read, f.2, f.3))
 
   -- a text that writes no order is a refusal
   pub order_refused : (options : CheckOptions) (text : List ℕ) (fault : Fault) → option_map (λ t. t.now) options.order ≡ Some text

@@ -1,5 +1,5 @@
 -- What the commands `check` and `measure` come to, by their options, their input and its failed reads.
-use Rattle.std.specs.Prelude.{◌≡◌, ◌≢◌, ◌⊎◌, ◌<◌, ◌≤◌, ℕ, List, Option, Some, None, IfSome, Result, MatchResult, length}
+use Rattle.std.specs.Prelude.{◌≡◌, ◌≢◌, ◌⊎◌, ◌<◌, ◌≤◌, ℕ, List, [], Option, Some, None, IfSome, Result, MatchResult, length}
 use Rattle.std.specs.Prelude.{option_map}
 use Rattle.kfifo_judge.specs.declared.streams.TheConstants.{MAX_BYTES}
 use Rattle.kfifo_judge.specs.declared.outcome.Outcome.{Outcome}
@@ -10,7 +10,7 @@ use Rattle.kfifo_judge.specs.Measure.{IsMeasured, IsMeasuringFault}
 use Rattle.kfifo_judge.specs.Streams.{CountsOne}
 use Rattle.kfifo_cli_texts.specs.declared.fault.Fault.{Fault}
 use Rattle.kfifo_cli_texts.specs.declared.fault.Fault.TheVariants.{Order, Input, NotJson, Record, Search, RepeatedItem}
-use Rattle.kfifo_cli_texts.specs.declared.fault.Fault.TheVariants.{Memory}
+use Rattle.kfifo_cli_texts.specs.declared.fault.Fault.TheVariants.{Memory, NoInput}
 use Rattle.kfifo_cli_requests.specs.declared.requests.CheckOptions.{CheckOptions}
 use Rattle.kfifo_cli_commands.specs.declared.failure.Failure.{Failure}
 use Rattle.kfifo_cli_commands.specs.Statuses.{outcome_status, status_number}
@@ -27,22 +27,23 @@ IsUnread input before after = CountsOne before after
     ⊎ ((after ≡ before) × IfSome input (λ given. MAX_BYTES < length given))
 
 -- no read failed, unless that is the fault that is reported
-abbrev pub ReadsWell : {T : Type 0} → Result T Fault → ℕ → ℕ → Type 0
-ReadsWell result before after = MatchResult result (λ answer. after ≡ before) (λ fault. fault ≢ Input → after ≡ before)
-
--- the same of a command whose failure has more to say than its fault
 abbrev pub FailsWell : {T : Type 0} → Result T Failure → ℕ → ℕ → Type 0
 FailsWell result before after =
     MatchResult result (λ answer. after ≡ before) (λ failure. failure.fault ≢ Input → after ≡ before)
 
--- the bytes of the input have this fault
+-- the bytes of the input, of which there are some, have this fault
 abbrev pub IsOfInput : Option (List ℕ) → (List ℕ → StreamFault → Type 0) → StreamFault → Type 0
-IsOfInput input IsFaulty given = (bytes : List ℕ) × IsInput input bytes × IsFaulty bytes given
+IsOfInput input IsFaulty given = (bytes : List ℕ) × IsInput input bytes × (bytes ≢ []) × IsFaulty bytes given
 
--- why a record of the input has no answer: memory was refused, the input was not read whole, or its bytes have a fault
+-- why these bytes have no answer: there are none, or they have a fault
+abbrev pub IsUnanswered : List ℕ → (List ℕ → StreamFault → Type 0) → Fault → Type 0
+IsUnanswered bytes IsFaulty fault = ((fault ≡ NoInput) × (bytes ≡ []))
+    ⊎ ((given : StreamFault) × (fault ≡ stream_fault given) × (bytes ≢ []) × IsFaulty bytes given)
+
+-- Why a record of the input has no answer: memory was refused, the input was not read whole, or its bytes have none.
 abbrev pub IsRecordRefusal : Option (List ℕ) → ℕ → ℕ → (List ℕ → StreamFault → Type 0) → Fault → Type 0
 IsRecordRefusal input before after IsFaulty fault = (fault ≡ Memory) ⊎ ((fault ≡ Input) × IsUnread input before after)
-    ⊎ ((given : StreamFault) × (fault ≡ stream_fault given) × IsOfInput input IsFaulty given)
+    ⊎ ((bytes : List ℕ) × IsInput input bytes × IsUnanswered bytes IsFaulty fault)
 
 -- the order that a text gives, or none where there is no text
 abbrev pub GivesSomeOrder : Option (List ℕ) → Option (List ℕ) → Type 0
@@ -69,6 +70,7 @@ pub record IsUnchecked (options : CheckOptions) (input : Option (List ℕ)) (fau
   pub order_given : IsOrder options order
   pub bytes : List ℕ
   pub read : IsInput input bytes
+  pub some : bytes ≢ []
   pub faulty : IsCheckFault order bytes fault
 
 -- the order to be judged is a text that gives no order
@@ -81,6 +83,7 @@ pub record IsOrderFault (options : CheckOptions) : Type 0 where
 abbrev pub IsCheckRefusal : CheckOptions → Option (List ℕ) → ℕ → ℕ → Fault → Type 0
 IsCheckRefusal options input before after Order = IsOrderFault options
 IsCheckRefusal options input before after Input = IsUnread input before after
+IsCheckRefusal options input before after NoInput = IsInput input []
 IsCheckRefusal options input before after NotJson = IsUnchecked options input streams.NotJson
 IsCheckRefusal options input before after (Record fault) = IsUnchecked options input (streams.Record fault)
 IsCheckRefusal options input before after (Search fault) = IsUnchecked options input (streams.Search fault)
@@ -96,6 +99,7 @@ pub record IsMeasure (input : Option (List ℕ)) (text : List ℕ) : Type 0 wher
 -- why `measure` has no answer
 abbrev pub IsMeasureRefusal : Option (List ℕ) → ℕ → ℕ → Fault → Type 0
 IsMeasureRefusal input before after Input = IsUnread input before after
+IsMeasureRefusal input before after NoInput = IsInput input []
 IsMeasureRefusal input before after NotJson = IsOfInput input IsMeasuringFault streams.NotJson
 IsMeasureRefusal input before after (Record fault) = IsOfInput input IsMeasuringFault (streams.Record fault)
 IsMeasureRefusal input before after RepeatedItem = IsOfInput input IsMeasuringFault streams.RepeatedItem

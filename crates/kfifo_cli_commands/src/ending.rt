@@ -9,7 +9,7 @@ ghost use Rattle.kfifo_cli_commands.specs.Statuses.{status_number};
 use crate::commands::{
     check, dispatch, draw, explain, import, judge, least, measure, record, replay, run,
 };
-use crate::explaining::reads_calls;
+use crate::explaining::{NO_MEMORY, lines_of};
 use crate::failure::Failure;
 use crate::progress::{Notes, Progress};
 use crate::status::Status;
@@ -33,8 +33,7 @@ pub enum Notice {
 
 /// Does what is requested, and writes its answer or the line of its fault. Files may be named,
 /// and `record` and `dispatch` start threads: `rt` may do both. `replay` tells the progress how far it has
-/// come, and that it has ended before anything is written; of `judge`, `least`, `import` and `draw` it is told behind the
-/// line of a fault what is wrong.
+/// come, and that it has ended before anything is written; behind the line of a fault it is told what is wrong.
 pub fn carry_out<H: Threads + Files + Sync, S: Source, W: Write, F: Write, P: Progress + Notes>(
     alloc: Global,
     rt: &H,
@@ -49,21 +48,33 @@ pub fn carry_out<H: Threads + Files + Sync, S: Source, W: Write, F: Write, P: Pr
         (OnPrinter W.contents output.old output.new) (OnPrinter F.contents faults.old faults.new)
         (status_number result) }
 {
-    let explains = reads_calls(&request);
     match answer(alloc, rt, request, input, output, progress) {
         Ok(status) => status,
         Err(failure) => {
             let status = end_with_fault(failure.fault, faults);
-            explain(explains, &failure, progress);
+            explain(alloc, rt, &request, &failure, progress);
             status
         }
     }
 }
 
-/// Tells why there is no answer, if the command is one whose faults are explained.
-fn explain<P: Notes>(explains: bool, failure: &Failure, notes: &mut P) {
-    if explains {
-        notes.explained(failure);
+/// Tells why there is no answer. Where writing the answer failed, nothing is told.
+fn explain<H: Files, P: Notes>(
+    alloc: Global,
+    files: &H,
+    request: &Request<'_>,
+    failure: &Failure,
+    notes: &mut P,
+) {
+    if failure.fault == Fault::Output {
+        return;
+    }
+    match lines_of(alloc, files, request, failure) {
+        Ok(lines) => notes.explained(lines.as_str()),
+        Err(_) => {
+            notes.explained(NO_MEMORY);
+            notes.explained("\n");
+        }
     }
 }
 

@@ -1,31 +1,78 @@
-//! What is wrong, in words: the line behind that of a fault.
+//! What is wrong, in words: the lines behind that of a fault.
 
-use crate::failure::Failure;
+mod arguments;
+
+use crate::failure::{Detail, Failure};
+use arguments::{
+    push_dispatch, push_open, push_order, push_picks, push_replay, push_shape, push_word,
+};
 use kfifo_cli_requests::Request;
 use kfifo_cli_texts::Fault;
-use std::io::Write;
+use kfifo_model::{RecordFault, SearchFault};
+use std::alloc::{AllocError, Global};
+use std::fmt::Write;
+use std::rt::Files;
 
-/// Whether the command reads calls as a record or a log, so that a line in words stands behind that of a fault.
-pub(crate) fn reads_calls(request: &Request<'_>) -> bool {
-    match request {
-        Request::Judge(_) | Request::Least(_) | Request::Import(_) | Request::Draw(_) => true,
-        Request::Run(_) | Request::Check(_) | Request::Measure | Request::Replay(_) => false,
-        Request::Record(_) | Request::Dispatch(_) | Request::Explain(_) => false,
+/// What stands behind a fault where memory is refused for more.
+pub(crate) const NO_MEMORY: &str = "an allocation failed: give the program more memory";
+
+/// The lines behind that of a fault: what is wrong, what is allowed, and how to have it explained.
+pub(crate) fn lines_of<H: Files>(
+    alloc: Global,
+    files: &H,
+    request: &Request<'_>,
+    failure: &Failure,
+) -> Result<String, AllocError> {
+    let mut text = String::new(alloc);
+    match &failure.detail {
+        Detail::Words(words) => text.push_str(words.as_str())?,
+        Detail::Field(wrong) => write!(text, "{wrong}")?,
+        Detail::Nothing => push_words(alloc, files, &mut text, request, failure.fault)?,
+    }
+    let fault = failure.fault;
+    writeln!(text, "\nFor more information, try 'kfifo explain {fault}'.")?;
+    Ok(text)
+}
+
+/// Adds what is wrong where no more is known than the fault and the request.
+fn push_words<H: Files>(
+    alloc: Global,
+    files: &H,
+    text: &mut String,
+    request: &Request<'_>,
+    fault: Fault,
+) -> Result<(), AllocError> {
+    match fault {
+        Fault::Shape(fault) => push_shape(text, request, fault),
+        Fault::Word(number) => push_word(alloc, text, request, number),
+        Fault::Order => push_order(alloc, files, text, request),
+        Fault::Picks => push_picks(alloc, text, request),
+        Fault::Replay(fault) => push_replay(text, request, fault),
+        Fault::Open(fault) => push_open(text, request, fault),
+        Fault::Dispatch(fault) => push_dispatch(text, request, fault),
+        Fault::Record(RecordFault::Memory) => text.push_str(NO_MEMORY),
+        Fault::Record(fault) => write!(text, "{fault}"),
+        Fault::Import(fault) => write!(text, "{fault}"),
+        _ => text.push_str(words_of(fault)),
     }
 }
 
-/// What is wrong where the fault has no call and no line; nothing of a fault of other commands.
+/// What is wrong where the fault alone says it.
 fn words_of(fault: Fault) -> &'static str {
     match fault {
+        Fault::Trace => {
+            "the picks make over 65,536 steps: --trace prints a line for each, and allowed are 65,536"
+        }
         Fault::Input => "the file or standard input cannot be read, or has over 16,777,216 bytes",
         Fault::NoInput => {
             "no byte came; in a pipe the command before has probably failed, and said why"
         }
-        Fault::NotJson => {
-            "the input begins with [, as a record does, but is no JSON text or not UTF-8"
+        Fault::NotJson => "the input is no JSON text, or is not UTF-8: allowed is a record in JSON",
+        Fault::Search(SearchFault::TooLong) => {
+            "the record has over 12 calls: allowed are 12 without --order; judge takes more"
         }
-        Fault::Order => {
-            "the value of --order, or its file, is no order: allowed are call numbers joined by commas, `none`, or @ and the path of a file"
+        Fault::RepeatedItem => {
+            "an item is put twice, or got twice: allowed are items that are put once and got once"
         }
         Fault::TooManyDrawn => {
             "over 4,096 calls are to be drawn: draw a part by --evidence, --calls or --lines"
@@ -40,22 +87,9 @@ fn words_of(fault: Fault) -> &'static str {
             "the value of --calls or --lines is no stretch: allowed is <A>-<B>, two numbers of 1 to 10 digits, A at most B"
         }
         Fault::NoLines => "--lines is given, and the input is a record: allowed is a log in CSV",
-        Fault::Memory => "an allocation failed: give the program more memory",
-        _ => "",
-    }
-}
-
-/// Writes a line that says what is wrong: of a line of a log that is no call, which field it is and what is allowed.
-pub(crate) fn write_words<W: Write>(notes: &mut W, failure: &Failure) {
-    // A line that cannot be written changes nothing.
-    let _ = match (failure.fault, &failure.wrong) {
-        (Fault::Output, _) => Ok(()),
-        (Fault::Import(_), Some(wrong)) => writeln!(notes, "{wrong}"),
-        (Fault::Import(fault), None) => writeln!(notes, "{fault}"),
-        (Fault::Record(fault), _) => writeln!(notes, "{fault}"),
-        (fault, _) => {
-            let words = words_of(fault);
-            writeln!(notes, "{words}")
+        Fault::Unexplained => {
+            "no fault and no answer begins with these words: allowed are those that the program prints, and names as NeverPut, status 3 and KFIFO_FULL"
         }
-    };
+        _ => NO_MEMORY,
+    }
 }

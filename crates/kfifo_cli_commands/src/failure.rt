@@ -1,25 +1,75 @@
 //! Why a command has no answer.
 ghost use Rattle.std.specs.Prelude.{◌≡◌};
+ghost use Rattle.kfifo_cli_texts.specs.Faults.{log_fault, stream_fault};
 
+use kfifo_cli_causes::{log_words, record_words};
 use kfifo_cli_texts::Fault;
 use kfifo_import::{Refusal, WrongField};
 use kfifo_judge::StreamFault;
-use std::alloc::AllocError;
+use std::alloc::{AllocError, Global};
+
+/// What is known of a fault beyond the line that names it.
+#[derive(Drop)]
+pub enum Detail {
+    /// Nothing.
+    Nothing,
+    /// Of a line of a log that is no call, the field that makes it none.
+    Field(WrongField),
+    /// What is wrong, in words.
+    Words(String),
+}
 
 /// Why a command has no answer, with what stands behind the line of its fault.
 #[derive(Drop)]
 pub struct Failure {
     /// The fault.
     pub fault: Fault,
-    /// Of a line of a log that is no call, the field that makes it none.
-    pub wrong: Option<WrongField>,
+    /// What is known beyond it.
+    pub detail: Detail,
+}
+
+impl Failure {
+    /// With these words, where there are some.
+    pub(crate) fn with_words(self, words: Option<String>) -> Failure
+        ensures { result.fault ≡ self.fault }
+    {
+        match words {
+            Some(words) => Failure {
+                fault: self.fault,
+                detail: Detail::Words(words),
+            },
+            None => self,
+        }
+    }
+
+    /// The failure of a call that takes a record in JSON. The words behind it are read from the record's bytes.
+    pub(crate) fn of_record(alloc: Global, bytes: &[u8], fault: StreamFault) -> Failure
+        ensures { result.fault ≡ stream_fault fault }
+    {
+        let words = match fault {
+            StreamFault::Record(fault) => record_words(alloc, bytes, fault),
+            _ => None,
+        };
+        Failure::from(fault).with_words(words)
+    }
+
+    /// The failure of a call that takes a log in CSV. The words behind it are read from the log's bytes.
+    pub(crate) fn of_log(alloc: Global, bytes: &[u8], refusal: Refusal) -> Failure
+        ensures { result.fault ≡ log_fault refusal.fault }
+    {
+        let words = log_words(alloc, bytes, refusal.fault);
+        Failure::from(refusal).with_words(words)
+    }
 }
 
 impl From<Fault> for Failure {
     ghost from_gives = { λ given failure. failure.fault ≡ given };
 
     fn from(fault: Fault) -> Failure {
-        Failure { fault, wrong: None }
+        Failure {
+            fault,
+            detail: Detail::Nothing,
+        }
     }
 }
 
@@ -51,7 +101,10 @@ impl From<Refusal> for Failure {
     fn from(refusal: Refusal) -> Failure {
         Failure {
             fault: Fault::from(refusal.fault),
-            wrong: refusal.wrong,
+            detail: match refusal.wrong {
+                Some(wrong) => Detail::Field(wrong),
+                None => Detail::Nothing,
+            },
         }
     }
 }

@@ -14,7 +14,7 @@ mod status;
 mod tracing;
 
 pub use ending::{Notice, carry_out, end_with_fault, end_with_text};
-pub use failure::Failure;
+pub use failure::{Detail, Failure};
 pub use progress::{Notes, Progress, Silent};
 pub use start::{Prompting, Showing, Started, start as start_program};
 pub use status::Status;

@@ -1,8 +1,6 @@
 //! Where long work tells how far it has come, and a command what is wrong with its input.
 ghost use Rattle.std.specs.Prelude.{◌≤◌};
 
-use crate::failure::Failure;
-
 /// Gets told how far a piece of work has come. No answer depends on what it does with that.
 pub trait Progress {
     /// So many steps of so many in all are made.
@@ -14,8 +12,8 @@ pub trait Progress {
 
 /// Gets told why there is no answer. No answer depends on what it does with that.
 pub trait Notes {
-    /// The line of the fault is written. What is wrong follows in words.
-    fn explained(&mut self, failure: &Failure);
+    /// The line of the fault is written. These lines follow: what is wrong in words, and how to have it explained.
+    fn explained(&mut self, lines: &str);
 }
 
 /// Tells nobody.
@@ -29,7 +27,7 @@ impl Progress for Silent {
 }
 
 impl Notes for Silent {
-    fn explained(&mut self, _failure: &Failure) {}
+    fn explained(&mut self, _lines: &str) {}
 }
 
 /// The steps that are made between two calls of a progress.

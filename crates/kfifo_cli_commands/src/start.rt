@@ -4,8 +4,6 @@ ghost use Rattle.kfifo_cli_texts.specs.Faults.{fault_line};
 ghost use Rattle.kfifo_cli_texts.specs.Printing.{OnPrinter, Tells};
 
 use crate::ending::end_with_fault;
-use crate::explaining::write_words;
-use crate::failure::Failure;
 use crate::progress::{Notes, Progress};
 use crate::status::Status;
 use kfifo_cli_texts::{Fault, Printer};
@@ -32,8 +30,8 @@ pub struct Started<'a> {
     pub output: Stdout,
     /// Standard error.
     pub faults: Stderr,
-    /// Shows on standard error how far work of over a second has come, if that is a terminal, and what is wrong with calls
-    /// that are refused.
+    /// Shows on standard error how far work of over a second has come, if that is a terminal, and what is wrong where
+    /// there is a fault.
     pub progress: Showing<'a, HostRuntime, Stderr>,
 }
 
@@ -111,7 +109,7 @@ impl<R: Read, W: Write + Drop> Read for Prompting<R, W> {
 }
 
 /// Shows how far work has come, on a line of its own that is written anew each time, where there is a screen and a
-/// second has gone by. Of calls that are refused it says what is wrong, on a line behind that of the fault.
+/// second has gone by. Behind the line of a fault it says what is wrong, in words.
 #[derive(Drop)]
 pub struct Showing<'a, C, W> {
     clock: &'a C,
@@ -176,7 +174,8 @@ impl<C: Clock, W: Write> Progress for Showing<'_, C, W> {
 }
 
 impl<C: Clock, W: Write> Notes for Showing<'_, C, W> {
-    fn explained(&mut self, failure: &Failure) {
-        write_words(&mut self.notes, failure);
+    fn explained(&mut self, lines: &str) {
+        // Lines that cannot be written change nothing.
+        let _ = self.notes.write_all(lines.as_bytes());
     }
 }

@@ -1,4 +1,4 @@
-//! The sizes of a queue, as a command is given them.
+//! The shape of a queue, as a command is given it.
 ghost use Rattle.std.specs.Prelude.{IfErr, IfOk};
 
 use kfifo_words::{Shape, ShapeFault};
@@ -14,6 +14,8 @@ pub struct Sizes {
     pub last: u64,
     /// Slots of a segment that an enqueue looks at; all k where it is left out.
     pub probes: Option<u32>,
+    /// Whether an enqueue that could not hold the head tries again before it takes its item out.
+    pub hold_again: bool,
 }
 
 impl Sizes {
@@ -25,6 +27,11 @@ impl Sizes {
         ensures err { IfErr result (IsShapeFault self) }
     {
         let probes = self.probes.unwrap_or(self.k);
-        Shape::with_probes(self.k, self.segments, self.last, probes)
+        let shape = Shape::with_probes(self.k, self.segments, self.last, probes)?;
+        Ok(if self.hold_again {
+            shape.holding_again()
+        } else {
+            shape
+        })
     }
 }

@@ -4,15 +4,33 @@ ghost use Rattle.kfifo_judge.specs.declared.streams.TheConstants.{MAX_BYTES};
 
 use kfifo_judge::{FromStd, ReadFault, read_all};
 use std::alloc::Global;
-use std::fs;
 use std::rt::Files;
+use std::{fs, io};
 
-/// The bytes of a file, at most 16,777,216. A file that cannot be opened is one whose reads fail.
-pub fn read_file<R: Files>(alloc: Global, files: &R, path: &str) -> Result<Vec<u8>, ReadFault>
+/// Why a file was not read.
+#[derive(Drop)]
+pub enum FileFault {
+    /// It could not be opened or read, for the reason that the system gave.
+    Failed(Option<io::Error>),
+    /// It has over 16,777,216 bytes.
+    TooLong,
+    /// An allocation failed.
+    Memory,
+}
+
+/// The bytes of a file, at most 16,777,216.
+pub fn read_file<R: Files>(alloc: Global, files: &R, path: &str) -> Result<Vec<u8>, FileFault>
     ensures { IfOk result (λ bytes. length bytes.items ≤ MAX_BYTES) }
 {
-    let Ok(file) = fs::open(files, path) else {
-        return Err(ReadFault::Failed);
+    let file = match fs::open(files, path) {
+        Ok(file) => file,
+        Err(error) => return Err(FileFault::Failed(Some(error))),
     };
-    read_all(alloc, &mut FromStd::new(file))
+    let mut source = FromStd::new(file);
+    match read_all(alloc, &mut source) {
+        Ok(bytes) => Ok(bytes),
+        Err(ReadFault::Failed) => Err(FileFault::Failed(source.reason)),
+        Err(ReadFault::TooLong) => Err(FileFault::TooLong),
+        Err(ReadFault::Memory) => Err(FileFault::Memory),
+    }
 }

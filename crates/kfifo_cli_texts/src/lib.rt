@@ -15,13 +15,13 @@ mod trace;
 mod words;
 
 pub use fault::Fault;
-pub use files::read_file;
+pub use files::{FileFault, read_file};
 pub use order::order_of;
-pub use picks::{Group, MAX_PICKS, read_picks};
+pub use picks::{Group, MAX_PICKS, read_group, read_picks};
 pub use printing::Printer;
 pub use report::{push_dequeue, push_ends, push_enqueue, push_slot};
 pub use stretch::{Stretch, read_stretch};
-pub use tasks::{finished_lines, read_tasks};
+pub use tasks::{finished_lines, read_task, read_tasks};
 pub use topics::explanation;
 pub use trace::push_trace;
-pub use words::{read_calls, read_scripts};
+pub use words::{read_call, read_calls, read_scripts};

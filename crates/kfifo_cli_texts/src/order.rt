@@ -5,9 +5,8 @@ ghost use Rattle.kfifo_cli_texts.specs.Orders.{GivesNoOrder, GivesOrder, WriteNu
 ghost use Rattle.kfifo_cli_texts.specs.Orders.{part_of};
 
 use crate::fault::Fault;
-use crate::files::read_file;
+use crate::files::{FileFault, read_file};
 use crate::words::read_number;
-use kfifo_judge::ReadFault;
 use std::alloc::Global;
 use std::rt::Files;
 
@@ -33,9 +32,9 @@ fn order_file<R: Files>(alloc: Global, files: &R, path: &str) -> Result<Vec<u8>,
 {
     match read_file(alloc, files, path) {
         Ok(bytes) => Ok(bytes),
-        Err(ReadFault::Memory) => Err(Fault::Memory),
-        Err(ReadFault::Failed) => Err(Fault::Order),
-        Err(ReadFault::TooLong) => Err(Fault::Order),
+        Err(FileFault::Memory) => Err(Fault::Memory),
+        Err(FileFault::Failed(_)) => Err(Fault::Order),
+        Err(FileFault::TooLong) => Err(Fault::Order),
     }
 }
 

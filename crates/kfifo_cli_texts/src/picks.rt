@@ -83,7 +83,7 @@ fn read_each_group(alloc: Global, texts: &[&str]) -> Result<Option<Vec<Group>>, 
 }
 
 /// The group that a text writes: `<thread>`, or `<thread>x<count>` with a count of at least 1.
-fn read_group(text: &str) -> Option<Group>
+pub fn read_group(text: &str) -> Option<Group>
     ensures { MatchOption result ((group : GroupData) → ¬ WritesGroup text.now group) (WritesGroup text.now) }
 {
     match text.split_once('x') {

@@ -27,7 +27,7 @@ pub fn read_tasks(alloc: Global, texts: &[&str]) -> Result<Vec<Task>, Fault>
 }
 
 /// The task that a word writes: `<id>:<left>:<sum>`, of 32, 16 and 32 bits.
-fn read_task(word: &str) -> Option<Task>
+pub fn read_task(word: &str) -> Option<Task>
     ensures { MatchOption result ((task : TaskData) → ¬ WritesTask word.now task) (WritesTask word.now) }
 {
     let (id, rest) = word.split_once(':')?;

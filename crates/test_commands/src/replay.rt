@@ -1,6 +1,6 @@
 //! What a replay tells of how far it has come.
 
-use kfifo_cli_commands::{Failure, Notes, Progress, Status, carry_out};
+use kfifo_cli_commands::{Notes, Progress, Status, carry_out};
 use kfifo_cli_requests::{ReplayOptions, Request, Sizes};
 use kfifo_cli_texts::Printer;
 use kfifo_judge::FromStd;
@@ -36,7 +36,7 @@ impl Progress for Counted {
 }
 
 impl Notes for Counted {
-    fn explained(&mut self, _failure: &Failure) {}
+    fn explained(&mut self, _lines: &str) {}
 }
 
 /// So many rounds of 64 threads, in which each is picked once, and a pick more.
@@ -80,6 +80,7 @@ fn notes_of<R: Threads + Files + AllocGlobal + Sync>(
         segments: 2,
         last: MAX_VERSION,
         probes: None,
+        hold_again: false,
     };
     let options = ReplayOptions {
         sizes,

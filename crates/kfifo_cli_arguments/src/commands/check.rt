@@ -57,10 +57,13 @@ Without --order the answer is `order` or `no order`. With it the answer is
   fault 5 not a run at <N>    place N, from 0, is the first whose answer is not
                               legal there
 
-Faults, each one line on standard error:
+Faults, each a line on standard error, behind it one that says what is wrong,
+and one that names its explanation:
   kfifo: order fault          the value of --order, or its file, is no order or
                               cannot be read; the input is not read then
   kfifo: input                reading failed, or over 16777216 bytes came
+  kfifo: no input             no byte came; in a pipe the command before has
+                              probably failed, and said why
   kfifo: not json             the input is no JSON text, or is not UTF-8
   kfifo: record fault 1       the text is no array
   kfifo: record fault 2       there are over 65536 calls

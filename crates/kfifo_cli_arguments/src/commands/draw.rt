@@ -73,7 +73,8 @@ whole.
 whether the order is legal for --k. Where it is not, the call at which it fails
 is marked, and the fault is named as by `kfifo check`.
 
-Faults, each a line on standard error, and one that says what is wrong:
+Faults, each a line on standard error, behind it one that says what is wrong,
+and one that names its explanation:
   kfifo: draw fault 1         over 4096 calls are to be drawn: draw a part by
                               --evidence, --calls or --lines
   kfifo: draw fault 2         --evidence and --order, --text and --width, or

@@ -89,7 +89,8 @@ Statuses of the library for C:
                               nothing was put, or it was empty then
   KFIFO_BAD_RESERVE           the reserve is not below the greatest version
 
-Faults, each one line on standard error:
+Faults, each a line on standard error, behind it one that says what is wrong,
+and one that names its explanation:
   kfifo: explain fault 1      the words are those of no fault and no answer
   kfifo: memory               an allocation failed
   error: <TEXT>               of each command: the command line is at fault, and

@@ -45,8 +45,8 @@ of all beginnings and ends by rising time. At one time beginnings come before
 ends, so a call comes before another in the record exactly where its `last` is
 less than the other's `first`.
 
-Faults, each a line on standard error, and one that says what is wrong; lines
-are counted from 1:
+Faults, each a line on standard error, behind it one that says what is wrong,
+and one that names its explanation; lines are counted from 1:
   kfifo: input                          the file or standard input cannot be
                                         read, or has over 16777216 bytes
   kfifo: csv fault at line <N>          the first line lacks one of these fields

@@ -24,8 +24,9 @@ Examples:
 pub(crate) const DETAILS: &str = "\
 FILE, or standard input where no file is named, has a record, as
 `kfifo check --help` says, or a log in CSV, as `kfifo import --help` says: a
-record begins with `[`. It has at most 16777216 bytes and 65536 calls. `check`
-decides records of at most 12 calls; this command takes any, and gives a reason.
+record begins with `[`. It has at most 16777216 bytes; a record has at most
+65536 calls, a log 16777215. `check` decides records of at most 12 calls; this
+command takes any, and gives a reason.
 
 Drain the queue until it answers empty before the log ends, or a loss cannot be
 seen. Give each item a number of its own: repeated ones may leave even k = 1
@@ -94,8 +95,8 @@ The answer is one of these:
 Call numbers are places in the array, from 0; those of a log are by rising first
 time.
 
-Faults, each a line on standard error, and one that says what is wrong;
-`kfifo explain` says more of each:
+Faults, each a line on standard error, behind it one that says what is wrong,
+and one that names its explanation:
   kfifo: input                the file or standard input cannot be read, or has
                               over 16777216 bytes
   kfifo: no input             no byte came; in a pipe the command before has

@@ -20,9 +20,10 @@ Examples:
 pub(crate) const DETAILS: &str = "\
 FILE, or standard input where no file is named, has a record, as
 `kfifo check --help` says, or a log in CSV, as `kfifo import --help` says: a
-record begins with `[`. It has at most 16777216 bytes and 65536 calls. k says
-how far a queue may stray from first in, first out: a dequeue takes one of the k
-oldest items. With k = 1 it is a plain queue.
+record begins with `[`. It has at most 16777216 bytes; a record has at most
+65536 calls, a log 16777215. k says how far a queue may stray from first in,
+first out: a dequeue takes one of the k oldest items. With k = 1 it is a plain
+queue.
 
 The answer is
   k at least <N>              for no k below N is an order of the calls legal
@@ -33,8 +34,8 @@ or, where no k at all would do,
   no order                    with the reason and the calls that it names, as
                               `kfifo judge --help` says
 
-Faults, each a line on standard error, and one that says what is wrong;
-`kfifo explain` says more of each:
+Faults, each a line on standard error, behind it one that says what is wrong,
+and one that names its explanation:
   kfifo: input                the file or standard input cannot be read, or has
                               over 16777216 bytes
   kfifo: no input             no byte came; in a pipe the command before has

@@ -27,8 +27,11 @@ This command takes no --k. Each count is below k in a queue whose dequeues take
 one of the k oldest items. Without --k, `kfifo check` tries k = 2 and
 `kfifo judge` k = 1.
 
-Faults, each one line on standard error:
+Faults, each a line on standard error, behind it one that says what is wrong,
+and one that names its explanation:
   kfifo: input                reading failed, or over 16777216 bytes came
+  kfifo: no input             no byte came; in a pipe the command before has
+                              probably failed, and said why
   kfifo: not json             the input is no JSON text, or is not UTF-8
   kfifo: record fault <F>     record faults 1, 2 and 9, as `kfifo check --help`
                               lists them

@@ -52,7 +52,8 @@ items are distinct `kfifo measure` finds none overtaken k times.
 
 Limits: 64 scripts, each of at most 1024 calls with its repetitions.
 
-Faults, each one line on standard error; nothing is printed beside one:
+Faults, each a line on standard error, behind it one that says what is wrong,
+and one that names its explanation; nothing is on standard output then:
   kfifo: shape fault 1       k is not 1 to 64
   kfifo: shape fault 2       there are not 2 to 1024 segments
   kfifo: shape fault 3       the greatest version is below 2
@@ -76,7 +77,7 @@ An example: kfifo record -k 1 e7,d prints
   {\"answer\":\"got\",\"first\":2,\"item\":7,\"last\":3,\"op\":\"deq\",\"thread\":0}]
 as one line with no space.
 
-docs/PROGRAM.md and docs/QUEUE.md, where this program comes from, say more.";
+docs/PROGRAM.md, where this program comes from, says more.";
 
 /// How the command is written, and its help.
 pub fn command<'a>(alloc: Global) -> Result<Command<'a>, AllocError>

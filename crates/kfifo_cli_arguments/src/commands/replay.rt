@@ -80,7 +80,8 @@ read; its stamps are the numbers of the steps, from 0.
 Limits: 64 scripts of 64 calls each, 16777216 picks, and 65536 steps with
 --trace.
 
-Faults, each one line on standard error; nothing is printed beside one:
+Faults, each a line on standard error, behind it one that says what is wrong,
+and one that names its explanation; nothing is on standard output then:
   kfifo: shape fault 1       k is not 1 to 64
   kfifo: shape fault 2       there are not 2 to 1024 segments
   kfifo: shape fault 3       the greatest version is below 2

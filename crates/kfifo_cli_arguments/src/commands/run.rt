@@ -46,7 +46,8 @@ Then come the head and the tail, as `head <SEGMENT> v<VERSION>`, and each slot
 of the queue, as `slot <SEGMENT>.<SLOT> <ITEM> v<VERSION>`, with 0 for the item
 of an empty slot.
 
-Faults, each one line on standard error:
+Faults, each a line on standard error, behind it one that says what is wrong,
+and one that names its explanation:
   kfifo: shape fault 1       k is not 1 to 64
   kfifo: shape fault 2       there are not 2 to 1024 segments
   kfifo: shape fault 3       the greatest version is below 2
@@ -67,7 +68,7 @@ Examples:
                                        full
   kfifo run -k 4 e1:2 e2:2 d:2         look from slot 2 on
 
-docs/PROGRAM.md and docs/QUEUE.md, where this program comes from, say more.";
+docs/PROGRAM.md, where this program comes from, says more.";
 
 /// How the command is written, and its help.
 pub fn command<'a>(alloc: Global) -> Result<Command<'a>, AllocError>

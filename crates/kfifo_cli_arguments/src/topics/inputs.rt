@@ -39,7 +39,8 @@ To do: put the calls between [ and ].
         help: Help::Check,
         line: "  kfifo: record fault 2",
         advice: "\
-Allowed: at most 65536 calls.
+Allowed: at most 65536 calls of a record, or of a log to import; 16777215 of a
+log to judge.
 To do: judge a shorter run.
 ",
     },

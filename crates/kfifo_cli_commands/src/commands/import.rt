@@ -30,7 +30,10 @@ pub fn answer<H: Files, S: Source>(
     ensures aside { IsSome options.entry.file → input.new ≡ input.old }
 {
     let bytes = read_given(alloc, files, options.file, input)?;
-    let history = import_text(alloc, bytes.as_slice())?;
+    let history = match import_text(alloc, bytes.as_slice()) {
+        Ok(history) => history,
+        Err(refusal) => return Err(Failure::of_log(alloc, bytes.as_slice(), refusal)),
+    };
     let text = record_line(alloc, &history)?;
     Ok(text)
 }

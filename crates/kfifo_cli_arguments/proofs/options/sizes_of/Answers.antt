@@ -11,4 +11,5 @@ returns c = record {
     is = c.unwrap_or.ensures;
   };
   probes_given = given 32 _ c.get_one-2.result c.get_one-2.ensures.none c.get_one-2.ensures.value;
+  hold_again_given = (c.get_flag.ensures.none, c.get_flag.ensures.value, c.get_flag.ensures.other);
 }

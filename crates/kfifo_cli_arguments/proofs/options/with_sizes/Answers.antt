@@ -42,6 +42,9 @@ returns c =
     let one = adds _ c.in_ok-arg.field-0 c.help-k.result _ _ refl k c.in_ok-arg.ensures in
     let two = adds _ c.in_ok-arg-2.field-0 c.help-segments.result _ _ one.0 n c.in_ok-arg-2.ensures in
     let three = adds _ c.in_ok-arg-3.field-0 c.help-last.result _ _ two.0 l c.in_ok-arg-3.ensures in
-    IfOk-weaker c.arg-4.result _ _ (λ r h.
-    let four = adds _ r c.help-probes.result _ _ three.0 p h in
-    (four.0, four.1 ∙ (three.1 ∙ (two.1 ∙ one.1)))) c.arg-4.ensures
+    let again = help_rule c.flag.result c.help-hold_again.result _ _ (c.flag.ensures.rule, c.flag.ensures.own)
+    c.help-hold_again.ensures in
+    let four = adds _ c.in_ok-arg-4.field-0 c.help-probes.result _ _ three.0 p c.in_ok-arg-4.ensures in
+    IfOk-weaker c.arg-5.result _ _ (λ r h.
+    let five = adds _ r c.help-hold_again.result _ _ four.0 again h in
+    (five.0, five.1 ∙ (four.1 ∙ (three.1 ∙ (two.1 ∙ one.1))))) c.arg-5.ensures

@@ -12,8 +12,8 @@ returns-in_err-order-clause-err g c =
     search (rules, refusal)
 
 pub returns-clause-err : goal.returns-clause-err
-returns-clause-err g c = err_to _ _ (λ fault given.
+returns-clause-err g c = err_to _ _ (λ failure given.
     check_refused (g.S.Source.remaining c.args.input.now) _ _ c.args.options (Some c.as_slice.result.now)
     (ordered c.args.options c.in-Some.text.now c.in_ok-order.order.items c.as_slice.result.now (rw c.in-Some.is refl)
-    c.as_slice.ensures.value c.in_ok-order.ensures) fault given)
+    c.as_slice.ensures.value c.in_ok-order.ensures) failure.fault given)
     c.judge-2.result c.judge-2.ensures.err

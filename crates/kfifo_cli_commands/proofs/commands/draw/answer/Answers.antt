@@ -33,8 +33,8 @@ pub returns-in_err-bytes-clause-err : goal.returns-in_err-bytes-clause-err
 returns-in_err-bytes-clause-err g c =
     let before = g.S.Source.failed c.args.input.now in
     let after = g.S.Source.failed c.read_given.new.input in
-    let refusal : IsDrawRefusal c.args.options (read_from c.args.options.file (g.S.Source.remaining c.args.input.now)) before after c.in_err-bytes.field-0.0 =
-    input_refused (read_from c.args.options.file (g.S.Source.remaining c.args.input.now)) before after c.args.options c.in_err-bytes.field-0.0 c.in_err-bytes.ensures.err in
+    let refusal : IsDrawRefusal c.args.options (read_from c.args.options.file (g.S.Source.remaining c.args.input.now)) before after c.in_err-bytes.field-0.0.fault =
+    input_refused (read_from c.args.options.file (g.S.Source.remaining c.args.input.now)) before after c.args.options c.in_err-bytes.field-0.0.fault c.in_err-bytes.ensures.err in
     search (rules, refusal)
 
 pub returns-in_err-text-clause-err : goal.returns-in_err-text-clause-err
