@@ -1,20 +1,25 @@
 // One run of one queue: threads put and take for some time, and what went in has to come out. The arguments are the
 // queue (a name of queues.hpp), k (of kfifo and segmented alone), the capacity, the threads that put only, those that
 // take only, those that do both in turn, the nanoseconds of work between two calls, and how many milliseconds the run
-// lasts. It prints the calls that put or took an item, a second; status 1 where an item is missing or double.
+// lasts. It prints the calls that put or took an item, a second; status 1 where an item is missing or double. With no
+// thread that calls, one thread works without calls, and it prints how often it did so, a second.
 #include "queues.hpp"
 
+#include <algorithm>
 #include <atomic>
 #include <chrono>
 #include <cstdio>
 #include <cstdlib>
 #include <thread>
 
+extern "C" void bench_work(std::uint64_t steps);
+
 namespace {
 
 // What each thread knows of a run, on a cache line of its own.
 struct alignas(128) Tally {
     std::uint64_t puts = 0, takes = 0, put_sum = 0, taken_sum = 0, put_squares = 0, taken_squares = 0;
+    std::uint64_t works_alone = 0;
 
     void put(std::uint32_t item) {
         puts++;
@@ -29,32 +34,38 @@ struct alignas(128) Tally {
     void add(const Tally &other) {
         puts += other.puts, put_sum += other.put_sum, put_squares += other.put_squares;
         takes += other.takes, taken_sum += other.taken_sum, taken_squares += other.taken_squares;
+        works_alone += other.works_alone;
     }
 };
 
-// Works for about so many nanoseconds, by steps that were timed before.
+// Works for about so many nanoseconds, by steps that were timed before. The fastest of some trials counts, since the
+// thread may lose its processor in another.
 struct Work {
     std::uint64_t steps = 0;
 
-    static void spin(std::uint64_t steps) {
-        for (std::uint64_t i = 0; i < steps; i++) asm volatile("" ::: "memory");
-    }
     explicit Work(std::uint64_t nanoseconds) {
         if (nanoseconds == 0) return;
-        constexpr std::uint64_t tried = 20000000;
-        auto began = std::chrono::steady_clock::now();
-        spin(tried);
-        std::chrono::duration<double, std::nano> spent = std::chrono::steady_clock::now() - began;
-        steps = std::uint64_t(double(tried) / spent.count() * double(nanoseconds)) + 1;
+        constexpr std::uint64_t tried = 4000000;
+        std::chrono::duration<double, std::nano> fastest = std::chrono::hours(1);
+        for (int trial = 0; trial < 5; trial++) {
+            auto began = std::chrono::steady_clock::now();
+            bench_work(tried);
+            fastest = std::min<decltype(fastest)>(fastest, std::chrono::steady_clock::now() - began);
+        }
+        steps = std::uint64_t(double(tried) / fastest.count() * double(nanoseconds)) + 1;
     }
-    void operator()() const { spin(steps); }
+    // Without work there is no call either.
+    void operator()() const {
+        if (steps != 0) bench_work(steps);
+    }
 };
 
 struct Plan {
     std::size_t producers, consumers, both;
     Work work;
     int milliseconds;
-    std::size_t threads() const { return producers + consumers + both; }
+    std::size_t callers() const { return producers + consumers + both; }
+    std::size_t threads() const { return std::max<std::size_t>(callers(), 1); }
 };
 
 constexpr std::uint32_t items = KFIFO_MAX_ITEM;
@@ -69,11 +80,16 @@ template <typename Queue> int run(Queue &queue, const Plan &plan, std::size_t ca
     for (std::size_t thread = 0; thread < plan.threads(); thread++)
         threads.emplace_back([&, thread] {
             typename Queue::Attached attached;
-            bool puts = thread < plan.producers || thread >= plan.producers + plan.consumers;
-            bool takes = thread >= plan.producers;
+            bool calls = thread < plan.callers();
+            bool puts = calls && (thread < plan.producers || thread >= plan.producers + plan.consumers);
+            bool takes = calls && thread >= plan.producers;
             Tally tally;
             std::uint32_t item = std::uint32_t(1 + thread * (items / 64));
             while (!go.load(std::memory_order_acquire)) {
+            }
+            while (!calls && !stop.load(std::memory_order_relaxed)) {
+                plan.work();
+                tally.works_alone++;
             }
             while (!stop.load(std::memory_order_relaxed)) {
                 if (puts) {
@@ -100,7 +116,7 @@ template <typename Queue> int run(Queue &queue, const Plan &plan, std::size_t ca
     Tally all;
     std::uint64_t calls = 0;
     for (const Tally &tally : tallies) all.add(tally);
-    calls = all.puts - before + all.takes;
+    calls = all.works_alone + all.puts - before + all.takes;
     while (std::uint32_t taken = queue.pop(0)) all.take(taken);
     if (all.puts != all.takes || all.put_sum != all.taken_sum || all.put_squares != all.taken_squares) {
         std::puts("what went in did not come out");

@@ -3,15 +3,20 @@
 
 Each round runs all queues one after the other, and begins with another one than the round before. A ratio compares two
 rates of one round; the table has the median of these ratios over the rounds, with the quartiles. Each run checks that
-what went in came out. The table begins with two overviews, a row for each workload. Some workloads are an application:
+what went in came out. The table begins with overviews, a row for each workload. Some workloads are an application:
 threads that share one queue of vertices find a spanning tree of a random graph. Then come queues of values of 8, 16 and
-64 bytes, and this repository's queues with calls that look for threads that wait, beside the plain ones. Last comes a
-table of its own, of how long a hand-over to a thread that sleeps takes.
+64 bytes, and this repository's queues with calls that look for threads that wait, beside the plain ones. Where a row
+has work between calls, the work is the same function for each queue; the rows of one thread that only works show that
+it takes as long in the loop of each. Last comes a table of its own, of how long a hand-over to a thread that sleeps
+takes. page.md has the tables of docs/PERFORMANCE.md and docs/bench/costs.md.
 
-    bench/run.py [--rounds N] [--milliseconds M] [--only WORD] [--out FOLDER]
+    bench/run.py [--rounds N] [--milliseconds M] [--only WORD] [--out FOLDER] [--library FILE]
+    bench/run.py --build [--library FILE]       only builds the programs
+    bench/run.py --built ..                     measures with what was built before
 
-It needs rt, a C and a C++ compiler, cargo, and Debian's libboost-dev, libtbb-dev, libck-dev, libcds-dev,
-libconcurrentqueue-dev, librust-crossbeam-queue-dev and librust-crossbeam-channel-dev; for pictures python3-matplotlib.
+It needs rt (not with --library), a C and a C++ compiler, cargo, and Debian's libboost-dev, libtbb-dev, libck-dev,
+libcds-dev, libconcurrentqueue-dev, librust-crossbeam-queue-dev and librust-crossbeam-channel-dev; for pictures
+python3-matplotlib.
 """
 import argparse
 import dataclasses
@@ -36,6 +41,8 @@ CALLS = [
     ("8 alternating threads", 0, 0, 8),
 ]
 WORK = [0, 100]
+# One thread that makes no calls: the work has to take as long in the program of each queue.
+ONLY_WORK = "one thread that only works"
 CAPACITIES = [1024, 16384]
 # The capacity of the queues of values.
 VALUES_CAPACITY = 1024
@@ -93,6 +100,14 @@ def between(work):
     return f", {work} ns of work between calls" if work else ""
 
 
+def loads(capacity):
+    """The end of each title, with its threads that put, that take and that do both, and the work of each."""
+    for name, *threads in CALLS:
+        for work in WORK:
+            yield f"{name}, capacity {capacity:,}" + between(work), [*threads, work]
+    yield f"{ONLY_WORK}, capacity {capacity:,}, {WORK[1]} ns of work", [0, 0, 0, WORK[1]]
+
+
 @dataclasses.dataclass
 class Picture:
     """A picture of all workloads of a kind: its file, its head, their titles and the queues beside ArrayQueue."""
@@ -115,20 +130,17 @@ def workloads(milliseconds):
     """All workloads, calls alone first."""
     made = []
     for capacity in CAPACITIES:
-        for name, *threads in CALLS:
-            for work in WORK:
-                title = f"{name}, capacity {capacity:,}" + between(work)
-                made.append(Workload(title, queues(capacity), capacity, "rates", [*threads, work, milliseconds]))
+        for title, words in loads(capacity):
+            made.append(Workload(title, queues(capacity), capacity, "rates", [*words, milliseconds]))
     for threads in TREES:
         title = f"spanning tree by {threads} threads, capacity {TREE_CAPACITY:,}"
         made.append(Workload(title, queues(TREE_CAPACITY), TREE_CAPACITY, "spanning_tree", [threads, VERTICES, EDGES]))
     for size in SIZES:
         # ArrayQueue comes first here too.
         compared = [(f"array-{size}", 0), (f"mutex-{size}", 0), *((f"kfifo-{size}", k) for k in (4, 16, 64))]
-        for name, *threads in CALLS:
-            for work in WORK:
-                title = f"values of {size} bytes, {name}, capacity {VALUES_CAPACITY:,}" + between(work)
-                made.append(Workload(title, compared, VALUES_CAPACITY, "rates", [*threads, work, milliseconds]))
+        for title, words in loads(VALUES_CAPACITY):
+            title = f"values of {size} bytes, {title}"
+            made.append(Workload(title, compared, VALUES_CAPACITY, "rates", [*words, milliseconds]))
     for pair in LOOKING:
         for name, *threads in CALLS:
             kind = "values" if "values" in pair[0][0] else "items"
@@ -137,20 +149,25 @@ def workloads(milliseconds):
     return made
 
 
-def build():
-    """Builds the queues and the two programs."""
+def build(library=None):
+    """Builds the queues and the programs over this library, or over that of c/."""
     os.makedirs(OUT, exist_ok=True)
-    subprocess.run(["make", "-C", f"{HERE}/../c", "out/libkfifo.a"], check=True, stdout=subprocess.DEVNULL)
+    if not library:
+        subprocess.run(["make", "-C", f"{HERE}/../c", "out/libkfifo.a"], check=True, stdout=subprocess.DEVNULL)
+        library = f"{HERE}/../c/out/libkfifo.a"
     debian = ['source.crates-io.replace-with="debian"', 'source.debian.directory="/usr/share/cargo/registry"']
     source = [word for line in debian for word in ("--config", line)]
     target = {**os.environ, "CARGO_TARGET_DIR": f"{OUT}/target"}
     cargo = ["cargo", "build", "--quiet", "--release", "--offline", *source]
     subprocess.run(cargo, cwd=f"{HERE}/array_queue", env=target, check=True)
     gcc = [os.environ.get("CC", "gcc"), "-O2"]
-    subprocess.run([*gcc, "-c", f"{HERE}/ck_queue.c", "-o", f"{OUT}/ck_queue.o"], check=True)
+    objects = []
+    for name in ["ck_queue", "work"]:
+        objects.append(f"{OUT}/{name}.o")
+        subprocess.run([*gcc, "-c", f"{HERE}/{name}.c", "-o", objects[-1]], check=True)
     for program in PROGRAMS:
         words = [os.environ.get("CXX", "g++"), "-std=c++17", "-O2", f"-I{HERE}/../c", f"{HERE}/{program}.cpp"]
-        words += [f"{OUT}/ck_queue.o", f"{HERE}/../c/out/libkfifo.a", f"{OUT}/target/release/libarray_queue.a"]
+        words += [*objects, library, f"{OUT}/target/release/libarray_queue.a"]
         words += ["-o", f"{OUT}/{program}", "-ltbb", "-lck", "-lcds", "-pthread", "-ldl"]
         subprocess.run(words, check=True)
 
@@ -166,7 +183,7 @@ def label(queue):
 
 
 def rate(queue, workload):
-    """Calls that put or took an item, or vertices, a second."""
+    """Calls that put or took an item, times of work alone, or vertices, a second."""
     words = [f"{OUT}/{workload.program}", *queue, workload.capacity, *workload.words]
     ran = subprocess.run([str(it) for it in words], capture_output=True, text=True, timeout=120)
     if ran.returncode:
@@ -199,7 +216,7 @@ def ratios(rates):
 
 
 def table(title, rates):
-    unit = "vertices" if title.startswith("spanning") else "calls"
+    unit = "vertices" if title.startswith("spanning") else "times" if ONLY_WORK in title else "calls"
     head = f"| Queue | Million {unit} a second | Ratio to {label(next(iter(rates)))} | Quartiles |"
     lines = [f"### {title}", "", head, "|---|---|---|---|"]
     for queue, its_ratios in ratios(rates).items():
@@ -218,12 +235,40 @@ def overview(all_rates):
 
 
 def overview_of(all_ratios):
-    columns = list(dict.fromkeys(queue for its in all_ratios.values() for queue in list(its)[1:]))
-    lines = ["| Workload | " + " | ".join(label(it) for it in columns) + " |", "|---" * (len(columns) + 1) + "|"]
-    for title, its in all_ratios.items():
+    queues = dict.fromkeys(queue for its in all_ratios.values() for queue in list(its)[1:])
+    return grid("Workload", {it: label(it) for it in queues}, all_ratios)
+
+
+def grid(head, columns, rows):
+    """A table of median ratios: the heads of the queues' columns, and each row's ratios."""
+    lines = [f"| {head} | " + " | ".join(columns.values()) + " |", "|---" * (len(columns) + 1) + "|"]
+    for name, its in rows.items():
         medians = [f"{statistics.median(its[queue]):.2f}" if queue in its else "" for queue in columns]
-        lines.append(f"| {title} | " + " | ".join(medians) + " |")
+        lines.append(f"| {name} | " + " | ".join(medians) + " |")
     return "\n".join(lines) + "\n"
+
+
+def page(all_rates):
+    """The tables of docs/PERFORMANCE.md and docs/bench/costs.md, of the workloads that were measured."""
+
+    def part(head, queues, titles):
+        columns = {(name, k): f"k = {k}" if k else NAMES[name] for name, k in queues}
+        measured = {it: ratios(all_rates[title]) for it, title in titles.items() if title in all_rates}
+        return grid(head, columns, measured)
+
+    def calls(kind, capacity):
+        names = [(name, work) for work in WORK for name, *_ in CALLS]
+        return {name + ", with work" * bool(work): f"{kind}{name}, {capacity}{between(work)}" for name, work in names}
+
+    numbers = [*(("kfifo", k) for k in (4, 16, 64)), ("vyukov", 0), ("mutex", 0)]
+    values = [*(("kfifo-16", k) for k in (4, 16, 64)), ("mutex-16", 0)]
+    trees = {n: f"spanning tree by {n} threads, capacity {TREE_CAPACITY:,}" for n in TREES}
+    tables = [
+        part("Workload", numbers, calls("", f"capacity {CAPACITIES[0]:,}")),
+        part("Values of 16 bytes", values, calls("values of 16 bytes, ", f"capacity {VALUES_CAPACITY:,}")),
+        part("Threads", [("kfifo", 16), ("kfifo", 64), ("tbb", 0), ("vyukov", 0), ("mutex", 0)], trees),
+    ]
+    return "\n".join(tables)
 
 
 def waking(rounds):
@@ -286,37 +331,50 @@ def machine():
     return f"{model}, {len(os.sched_getaffinity(0))} processors, {platform.system()} {platform.release()}"
 
 
-def main():
+def options():
+    """The options of the command line."""
     given = argparse.ArgumentParser(description=__doc__, formatter_class=argparse.RawDescriptionHelpFormatter)
     given.add_argument("--rounds", type=int, default=15)
     given.add_argument("--milliseconds", type=int, default=200, help="of each run")
-    given.add_argument("--only", default="", help="the workloads whose title has this word")
-    given.add_argument("--out", default=OUT, help="where table.md and the pictures go")
-    words = given.parse_args()
-    build()
-    os.makedirs(words.out, exist_ok=True)
-    load = os.getloadavg()[0]
-    about = f"{machine()}; {words.rounds} rounds of {words.milliseconds} ms for each queue;\n"
-    about += f"load of the machine before: {load:.1f}.\n"
-    print(about)
-    tables = []
+    given.add_argument("--only", default="", metavar="WORD", help="the workloads whose title has this word")
+    given.add_argument("--out", default=OUT, metavar="FOLDER", help="where the tables and the pictures go")
+    given.add_argument("--library", metavar="FILE", help="the libkfifo.a to measure, in place of c/out/libkfifo.a")
+    given.add_argument("--build", action="store_true", help="only builds the programs")
+    given.add_argument("--built", action="store_true", help="measures with the programs that an earlier run built")
+    return given.parse_args()
+
+
+def measure_all(words):
+    """Runs the workloads that are wanted, and returns their rates by their titles."""
     all_rates = {}
     for workload in workloads(words.milliseconds):
-        title = workload.title
-        if words.only not in title:
-            continue
-        rates = measure(workload, words.rounds)
-        all_rates[title] = rates
-        tables.append(table(title, rates))
-        print(tables[-1], flush=True)
+        if words.only in workload.title:
+            all_rates[workload.title] = measure(workload, words.rounds)
+            print(table(workload.title, all_rates[workload.title]), flush=True)
+    return all_rates
+
+
+def main():
+    words = options()
+    if not words.built:
+        build(words.library)
+    if words.build:
+        return
+    os.makedirs(words.out, exist_ok=True)
+    about = f"{machine()}; {words.rounds} rounds of {words.milliseconds} ms for each queue;\n"
+    about += f"load of the machine before: {os.getloadavg()[0]:.1f}.\n"
+    print(about)
+    all_rates = measure_all(words)
     print(overview(all_rates))
-    for picture in PICTURES:
-        draw(picture, all_rates, words.out)
+    tables = [table(title, rates) for title, rates in all_rates.items()]
     if words.only in WAKING_TITLE:
         tables.append(waking(words.rounds))
         print(tables[-1])
-    with open(f"{words.out}/table.md", "w") as written:
-        written.write("\n".join([about, overview(all_rates), *tables]))
+    for name, parts in [("table", [about, overview(all_rates), *tables]), ("page", [page(all_rates)])]:
+        with open(f"{words.out}/{name}.md", "w") as written:
+            written.write("\n".join(parts))
+    for picture in PICTURES:
+        draw(picture, all_rates, words.out)
 
 
 if __name__ == "__main__":
