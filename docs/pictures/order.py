@@ -30,7 +30,7 @@ LINE = re.compile(
 )
 WIDTH = 720
 REFUSALS = ("full", "busy", "worn")
-NAMES = ("tape", "staircases", "hold_first", "advance_first", "late_take")
+NAMES = ("tape", "staircases", "hold_first", "advance_first", "late_take", "undone", "held_again")
 
 
 @dataclasses.dataclass
@@ -156,7 +156,7 @@ class Schedule:
         told = dict(line.split(" ", 1) for line in report)
         mine = sorted((call.point, number) for number, call in enumerate(self.calls) if call.point is not None)
         for name, own in (("points", [it[0] for it in mine]), ("order", [it[1] for it in mine])):
-            if told[name] != ",".join(str(it) for it in own):
+            if told[name] != (",".join(str(it) for it in own) or "none"):
                 raise ValueError(f"kfifo says {name} {told[name]}, the trace {own}")
 
 
@@ -465,10 +465,14 @@ def pictures(rows):
     captions = ("The hold comes first: the advance is lost, and 5 is settled in visit 0.",
                 "The advance comes first: the hold is lost, and 5 is taken back.")
     race = Race([made["hold_first"], made["advance_first"]], captions, 16, "An enqueue's hold races with an advance")
+    captions = ("Hold once: the tail moves, so the hold is lost, and 5 is taken back. All begins again.",
+                "Hold again: the enqueue looks once more, and holds the head, which has not moved.")
+    again = Race([made["undone"], made["held_again"]], captions, 8, "A hold that is lost to a move of the tail")
     return {
         "tape.svg": Tape(made["tape"], "The ring, unrolled into a tape of visits").draw(),
         "staircases.svg": Staircases(made["staircases"], "Head and tail against time, and the items").draw(),
         "hold.svg": race.draw(),
+        "hold_again.svg": again.draw(),
         "late_take.svg": Staircases(made["late_take"], "An item taken after the head has left its visit").draw(),
     }
 
