@@ -86,6 +86,13 @@ known_older h x p s k g put after inside a = (
 
 pub known_presence : (h : List Call) (x p : ℕ) (s : Presence) → IsHistory h → IsKnown h x p s → IsPresence h p s
 known_presence h x p s v k = record {
+  bound = (
+    k.start.bound,
+    elim k.gone [
+      | inl none ↦ (let e = none.0 in omega (arith, e))
+      | inr got ↦ (let lt = got_inside h x s.gone got in omega (arith, lt))
+    ],
+  );
   there = known_there h x p s k;
   until = known_kept h x p s k;
   from = known_from h x p s v k;
@@ -97,6 +104,7 @@ known_presence h x p s v k = record {
 pub never_presence : (h : List Call) (p : ℕ) (s : Presence) → s.start ≡ length h → s.gone ≡ 0 → ((x : ℕ) → IsSingle h x p → ⊥)
     → IsPresence h p s
 never_presence h p s start gone none = record {
+  bound = (omega (arith, start), omega (arith, gone));
   there = λ c moment from before inside le below. absurd (omega (arith, before, gone));
   until = λ moment t inside. absurd (none t.item t.single);
   from = λ c inside t. absurd (none t.item t.single);

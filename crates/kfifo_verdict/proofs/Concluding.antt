@@ -1,4 +1,4 @@
--- What evidence says of orders, and the lower bound of k.
+-- What evidence says of orders, and what the lower bound of k does.
 use Rattle.std.proofs.Common.{ℕ, ◌≡◌, ◌+◌, ◌-◌, ◌<◌, ◌≤◌, ◌⊎◌, List, length, sym, subst, inl, inr, arith, Option, Some, None, Result, Ok}
 use Rattle.std.proofs.Common.{Err}
 use Rattle.std.specs.Result.{IfOk}
@@ -76,61 +76,6 @@ pub found_refutes_each : {E : Type 0} (h : List Call) (r : Result (Option Eviden
     → IfOk r (λ found. OnSome found ((k : ℕ) → HasOrder k h → ⊥))
 found_refutes_each h (Ok o) v m = option_refutes_each h o v m
 found_refutes_each h (Err e) v m = tt
-
--- ---- the greatest number of older items
-
--- the greatest so far, of the calls below n
-pub record IsMost (h : List Call) (n most : ℕ) : Type 0 where
-  pub above : (m c : ℕ) → c < n → GotTooYoung m h c → m ≤ most
-  pub attained : 0 < most → (c : ℕ) × GotTooYoung most h c
-  pub few : most ≤ length h
-
-pub most_skip : (h : List Call) (n most : ℕ) → IsMost h n most → ((m : ℕ) → GotTooYoung m h n → ⊥) → IsMost h (n + 1) most
-most_skip h n most i none = record {
-  above = λ m c lt y. elim (cases_lt c n) [
-    | inl below ↦ i.above m c below y
-    | inr le ↦ (let same : c ≡ n = omega (arith, le, lt) in let P : ℕ → Type 0 = λ w. GotTooYoung m h w in absurd (none m (subst P same y)))
-  ];
-  attained = i.attained;
-  few = i.few;
-}
-
-pub most_more : (h : List Call) (n most older next : ℕ) → IsMost h n most → GotTooYoung older h n
-    × ((m : ℕ) → GotTooYoung m h n → m ≤ older) × (older < length h) → ((next ≡ older) × (most < older)) ⊎ ((next ≡ most) × (older ≤ most))
-    → IsMost h (n + 1) next
-most_more h n most older next i here choice =
-    let up : most ≤ next = elim choice [
-      | inl a ↦ (let e = a.0 in let lt = a.1 in omega (arith, e, lt))
-      | inr b ↦ (let e = b.0 in omega (arith, e))
-    ] in
-    let covers : older ≤ next = elim choice [
-      | inl a ↦ (let e = a.0 in omega (arith, e))
-      | inr b ↦ (let e = b.0 in let le = b.1 in omega (arith, e, le))
-    ] in
-    record {
-      above = λ m c lt y. elim (cases_lt c n) [
-        | inl below ↦ (let le = i.above m c below y in omega (arith, le, up))
-        | inr le ↦ (let same : c ≡ n = omega (arith, le, lt) in let P : ℕ
-            → Type 0 = λ w. GotTooYoung m h w in let most_here = here.1 m (subst P same y) in omega (arith, most_here, covers))
-      ];
-      attained = λ positive. elim choice [
-        | inl a ↦ (let P : ℕ → Type 0 = λ w. GotTooYoung w h n in (n, subst P (sym a.0) here.0))
-        | inr b ↦ (let e = b.0 in let p : 0 < most = omega (arith, e, positive) in let Q : ℕ → Type 0 = λ w. (c : ℕ)
-            × GotTooYoung w h c in subst Q (sym b.0) (i.attained p))
-      ];
-      few = elim choice [
-        | inl a ↦ (let e = a.0 in let lt = here.2 in omega (arith, e, lt))
-        | inr b ↦ (let e = b.0 in let le = i.few in omega (arith, e, le))
-      ];
-    }
-
-pub most_bound : (h : List Call) (n most : ℕ) → length h ≤ n → IsMost h n most → IsLowerBound h (most + 1)
-most_bound h n most all i = record {
-  positive = omega arith;
-  above = λ m c y. let lt = got_inside h y.1.item c y.1.gets in let le = i.above m c (omega (arith, lt, all)) y in omega (arith, le);
-  attained = λ more. let P : ℕ → Type 0 = λ w. (c : ℕ) × GotTooYoung w h c in let e : most ≡ most + 1 - 1 = omega arith in
-      subst P e (i.attained (omega (arith, more)));
-}
 
 -- no k below the bound has a legal order
 pub bound_refutes : (h : List Call) (bound k : ℕ) → IsHistory h → IsLowerBound h bound → 1 ≤ k → k < bound → HasOrder k h → ⊥

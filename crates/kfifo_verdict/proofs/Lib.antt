@@ -9,6 +9,7 @@ pub mod Staying
 pub mod Covering
 pub mod Younger
 pub mod Skipping
+pub mod Bounding
 pub mod Concluding
 pub mod Serving
 pub mod Queueing

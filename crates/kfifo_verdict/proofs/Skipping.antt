@@ -1,9 +1,10 @@
 -- Items that are gone are passed over.
-use Rattle.std.proofs.Common.{ℕ, zero, suc, ◌≡◌, ◌+◌, ◌<◌, ◌≤◌, Bool, false, cond, leb, List, length, get_or, sym, ap, inl, inr, arith}
+use Rattle.std.proofs.Common.{ℕ, zero, suc, ◌≡◌, ◌+◌, ◌<◌, ◌≤◌, Bool, true, false, cond, leb, List, length, get_or, sym, ap, inl, inr, arith}
 use Rattle.std.proofs.lemmas.Bool.{cases_lt, lt-leb, and_right}
 use Rattle.kfifo_verdict.proofs.Types.{Presence}
 use Rattle.kfifo_verdict.specs.Evidence.{count_below}
 use Rattle.kfifo_verdict.specs.Finding.{no_presence, lasts_at, AreSkips}
+use Rattle.kfifo_verdict.proofs.Counting.{below_more}
 
 pub skips_later : (ps : List Presence) (n : ℕ) (skips : List ℕ) → AreSkips ps n skips → AreSkips ps (n + 1) skips
 skips_later ps n skips s = record {
@@ -33,6 +34,13 @@ count_flat test i (suc j) le f =
           omega (arith, on, none)
           )
     ]
+
+pub none_below : (test : ℕ → Bool) (n c : ℕ) → count_below test n ≤ 0 → c < n → test c ≡ true → ⊥
+none_below test n c none lt passes =
+    let up = count_rises test (c + 1) n (omega (arith, lt)) in
+    let next = below_more test c in
+    let one : ◌≡◌ {A = ℕ} (cond (test c) 1 0) 1 = ap (λ b. cond b 1 0) passes in
+    omega (arith, up, next, one, none)
 
 -- an item that is gone at call n is got by a call below `after`
 pub gone_fails : (ps : List Presence) (n put after p : ℕ) → n < after → (get_or ps p no_presence).gone ≤ n → lasts_at ps put after p ≡ false

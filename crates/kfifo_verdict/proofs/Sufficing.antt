@@ -14,17 +14,12 @@ use Rattle.kfifo_verdict.specs.Finding.{HasGaps}
 use Rattle.kfifo_verdict.specs.Judging.{GotTooYoung, HasNoEvidence, HasNoneForEachK, HasNoneTo3, IsPlain, Never}
 use Rattle.kfifo_verdict.proofs.Ageing.{count_mono}
 use Rattle.kfifo_verdict.proofs.Covering.{moment_here}
+use Rattle.kfifo_verdict.proofs.Skipping.{none_below}
 use Rattle.kfifo_verdict.proofs.Refuting.{adds_is, got_ended, put_inside, takes_is}
 use Rattle.kfifo_verdict.proofs.Telling.{gets_pass, got_inside, puts_pass}
 use Rattle.kfifo_verdict.proofs.Younger.{count_yes}
 
 -- ---- how many numbers pass a test
-
-none_below : (t : ℕ → Bool) (n c : ℕ) → count_below t n ≤ 0 → c < n → t c ≡ true → ⊥
-none_below t n c none lt holds =
-    let up = count_mono t (c + 1) n (omega (arith, lt)) in
-    let one = count_yes t c holds in
-    omega (arith, up, one, none)
 
 some_step : (t : ℕ → Bool) (n : ℕ) (b : Bool) → t n ≡ b → 0 < count_below t n + cond b 1 0
     → (0 < count_below t n → (c : ℕ) × (c < n) × (t c ≡ true)) → (c : ℕ) × (c < suc n) × (t c ≡ true)

@@ -162,13 +162,6 @@ older_found h ps x g put after k found are start single gets enough first =
       count = omega (arith, size, enough);
     }
 
-pub older_counted : (h : List Call) (ps : List Presence) (x g put after : ℕ) → ArePresences h (length h) ps → IsStart h (call h g).end after
-    → IsSingle h x put → Gets h x g → GotTooYoung (count_below (lasts_at ps put after) put) h g
-older_counted h ps x g put after are start single gets =
-    let count = count_below (lasts_at ps put after) put in
-    let f = all_first (lasts_at ps put after) count put in
-    (f.0, older_found h ps x g put after count f.0 are start single gets (omega arith) f.1)
-
 -- ---- the same, as the code counts
 
 pub young_none : (h : List Call) (ps : List Presence) (g put after k count : ℕ) → IsHistory h → ArePresences h (length h) ps
@@ -186,18 +179,3 @@ young_found h ps g put after k count found are start s counted enough first =
     let all : k ≤ count_below (lasts_at ps put after) put =
     elim counted [ inl e ↦ omega (arith, e, enough) | inr b ↦ (let le = b.1 in omega (arith, le, enough)) ] in
     older_found h ps s.0 g put after k found are start s.1 s.2 all first
-
-pub young_count : (h : List Call) (ps : List Presence) (g put after count : ℕ) → IsHistory h → ArePresences h (length h) ps
-    → IsStart h (call h g).end after → (x : ℕ) × IsSingle h x put × Gets h x g × (put < length h)
-    → IsCountedTo (length h) (count_below (lasts_at ps put after) put) count → GotTooYoung count h g
-    × ((m : ℕ) → GotTooYoung m h g → m ≤ count) × (count < length h)
-young_count h ps g put after count v are start s counted =
-    let few = count_few (lasts_at ps put after) put in
-    let inside = s.3 in
-    let e : count ≡ count_below (lasts_at ps put after) put =
-    elim counted [ inl e ↦ e | inr b ↦ (let ge = b.0 in let le = b.1 in absurd (omega (arith, ge, le, few, inside))) ] in
-    let P : ℕ → Type 0 = λ w. GotTooYoung w h g in (
-      subst P (sym e) (older_counted h ps s.0 g put after are start s.1 s.2),
-      λ m young. (let most = no_more_older h ps s.0 g put after m v are start s.1 s.2 young in omega (arith, most, e)),
-      omega (arith, few, inside, e),
-    )

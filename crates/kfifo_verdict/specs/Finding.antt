@@ -76,6 +76,7 @@ pub record IsKnown (h : List Call) (x p : ℕ) (s : Presence) : Type 0 where
 
 -- When the item that call p puts is certainly there, or never.
 pub record IsPresence (h : List Call) (p : ℕ) (s : Presence) : Type 0 where
+  pub bound : (s.start ≤ length h) × (s.gone ≤ length h)
   pub there : (c moment : ℕ) → s.start ≤ c → c < s.gone → c < length h → first_of h c ≤ moment
       → (s.gone < length h → moment < first_of h s.gone) → IsCertainlyThere h p moment
   pub until : (moment : ℕ) → IsCertainlyThere h p moment → s.gone < length h → moment < first_of h s.gone

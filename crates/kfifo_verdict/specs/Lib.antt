@@ -8,4 +8,5 @@ pub mod Soon
 pub mod Left
 pub mod Older
 pub mod Remainder
+pub mod Bound
 pub mod Sorting

@@ -305,7 +305,7 @@ pub(crate) fn first_older(
 
 /// The put of the item that a call got, where the item is single.
 #[inline(always)]
-fn single_put(calls: &[Call], items: &Items, n: usize) -> Option<usize>
+pub(crate) fn single_put(calls: &[Call], items: &Items, n: usize) -> Option<usize>
     requires inside { n < length calls.now }
     requires items { IsIndexed calls.now items.now }
     ensures { MatchOption result ((x p : ℕ) → IsSingle calls.now x p → Gets calls.now x n → ⊥)
@@ -322,31 +322,7 @@ fn single_put(calls: &[Call], items: &Items, n: usize) -> Option<usize>
     }
 }
 
-/// How many items are certainly older and there at a call, where it got a single item.
-pub(crate) fn older_at(
-    calls: &[Call],
-    items: &Items,
-    skips: &mut Vec<usize>,
-    n: usize,
-) -> Option<usize>
-    requires history { IsHistory calls.now }
-    requires inside { n < length calls.now }
-    requires items { IsIndexed calls.now items.now }
-    requires skips { AreSkips items.now.presences.items n skips.old.items }
-    ensures older { MatchOption result ((m : ℕ) → GotTooYoung m calls.now n → ⊥)
-        (λ older. GotTooYoung older calls.now n × ((m : ℕ) → GotTooYoung m calls.now n → m ≤ older)
-        × (older < length calls.now)) }
-    ensures skips { AreSkips items.now.presences.items n skips.new.items }
-{
-    let Some(put) = single_put(calls, items, n) else {
-        return None;
-    };
-    let after = first_after(calls, n, &calls[n]);
-    let limit = calls.len();
-    Some(count_older(&items.presences, skips, n, put, after, limit))
-}
-
-/// The puts of k of them.
+/// The puts of k items that are certainly older and there at a call, where it got a single item.
 fn too_young_at(
     alloc: Global,
     calls: &[Call],

@@ -2,16 +2,17 @@
 ghost use Rattle.std.specs.Prelude.{◌≡◌, ◌≤◌, IfOk};
 ghost use Rattle.kfifo_model.specs.Validity.{IsHistory};
 ghost use Rattle.kfifo_verdict.specs.Finding.{IsIndexed};
-ghost use Rattle.kfifo_verdict.specs.Judging.{IsJudgement, IsPlain, IsDecided, IsLowerBound, AreBounds};
+ghost use Rattle.kfifo_verdict.specs.Judging.{IsJudgement, IsPlain, IsDecided, AreBounds};
 ghost use Rattle.kfifo_verdict.specs.Remainder.{items_left};
 
-use crate::finding::{evidence_by, no_skips, older_at};
+use crate::bound::lower_bound;
+use crate::finding::evidence_by;
 use crate::presences::Items;
 use crate::remainder::left_by;
 use crate::turns::order_of_plain;
 use crate::verdicts::{Bounds, Judgement};
 use crate::walking::{search, witness};
-use kfifo_model::{Call, History};
+use kfifo_model::History;
 use std::alloc::{AllocError, Global};
 
 /// Returns a verdict on the history, for a queue that may give any of its k oldest items: an order that is legal, found
@@ -81,24 +82,6 @@ fn judge_by(
         Ok(order) => Ok(Judgement::Legal(order)),
         Err(stuck) => Ok(Judgement::Undecided(stuck)),
     }
-}
-
-/// The least k that the older items at the calls allow.
-fn lower_bound(alloc: Global, calls: &[Call]) -> Result<usize, AllocError>
-    requires { IsHistory calls.now }
-    ensures { IfOk result (IsLowerBound calls.now) }
-{
-    let items = Items::of(alloc, calls)?;
-    let mut skips = no_skips(alloc, items.presences.len())?;
-    let mut most = 0;
-    for n in 0..calls.len() {
-        if let Some(older) = older_at(calls, &items, &mut skips, n) {
-            if most < older {
-                most = older;
-            }
-        }
-    }
-    Ok(most + 1)
 }
 
 /// Returns bounds of the least k for which the history has a legal order. It is at least one more than the greatest

@@ -1,6 +1,7 @@
 //! Verdicts on histories of any length: a legal order, or evidence that there is none.
 #![tactic(auto)]
 
+mod bound;
 mod facts;
 mod finding;
 mod judging;
