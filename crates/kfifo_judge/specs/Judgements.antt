@@ -49,9 +49,16 @@ IsNoOrderText k logged h found text bounds =
     × (text ≡ about (codes "no order") k ++ reason_lines logged h found ++ counts_line h ++ rest)
 
 -- why the search stopped
+abbrev pub stuck_words : Stuck → List ℕ
+stuck_words (TriesRanOut tries) = codes "the tries ran out"
+stuck_words (NothingLeft tries) = codes "nothing is left to try"
+
+abbrev pub tries_words : ℕ → List ℕ
+tries_words count = cond (eqb count 1) (codes "try") (codes "tries")
+
+-- why the search stopped, and after how many tries
 abbrev pub stuck_text : Stuck → List ℕ
-stuck_text TriesRanOut = codes "the tries ran out"
-stuck_text NothingLeft = codes "nothing is left to try"
+stuck_text stuck = stuck_words stuck ++ counted (codes " after ") (tries_made stuck) (codes " " ++ tries_words (tries_made stuck))
 
 -- why the search stopped, and whether items repeat
 abbrev pub IsUndecidedText : ℕ → List Call → Stuck → List ℕ → Type 0

@@ -139,12 +139,21 @@ fn no_order(
 
 /// Why the search stopped.
 fn reason_of(stuck: Stuck) -> &'static str
-    ensures { result.now ≡ stuck_text stuck }
+    ensures { result.now ≡ stuck_words stuck }
 {
     match stuck {
-        Stuck::TriesRanOut => "the tries ran out",
-        Stuck::NothingLeft => "nothing is left to try",
+        Stuck::TriesRanOut(_) => "the tries ran out",
+        Stuck::NothingLeft(_) => "nothing is left to try",
     }
+}
+
+/// Adds why the search stopped, and after how many tries.
+fn push_stuck(text: &mut String, stuck: Stuck) -> Result<(), AllocError>
+    ensures { OnOk result (string_bytes text.new ≡ string_bytes text.old ++ stuck_text stuck) }
+{
+    let (reason, tries) = (reason_of(stuck), stuck.tries());
+    let unit = if tries == 1 { "try" } else { "tries" };
+    write!(text, "{reason} after {tries} {unit}")
 }
 
 /// Adds that items repeat, where they do.
@@ -165,7 +174,7 @@ fn undecided(alloc: Global, history: &History, k: u32, stuck: Stuck) -> Result<S
 {
     let mut text = String::new(alloc);
     push_about(&mut text, "undecided", k)?;
-    text.push_str(reason_of(stuck))?;
+    push_stuck(&mut text, stuck)?;
     push_repeat_note(alloc, &mut text, history)?;
     text.push('\n')?;
     Ok(text)

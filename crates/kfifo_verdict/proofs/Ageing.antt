@@ -1,5 +1,5 @@
 -- The search for older items that are left: numbers of puts and gets by their items, and from when until when what a put puts is left.
-use Rattle.std.proofs.Common.{ℕ, zero, suc, ◌≡◌, ◌+◌, ◌-◌, ◌<◌, ◌≤◌, ◌↔◌, ◌&&◌, Bool, true, false, cond, count_by, eqb, leb, ltb}
+use Rattle.std.proofs.Common.{ℕ, zero, suc, ◌≡◌, ◌+◌, ◌<◌, ◌≤◌, ◌↔◌, ◌&&◌, Bool, true, false, cond, count_by, eqb, leb, ltb}
 use Rattle.std.proofs.Common.{List, [], ◌∷◌, ◌++◌, length, length-append, get_or, refl, sym, ◌∙◌, ap, subst, inl, inr, arith, Option, Some}
 use Rattle.std.proofs.Common.{None}
 use Rattle.std.proofs.lemmas.Bool.{cases_Bool, cases_lt, lt-ltb, ltb-true, leb-true, le-leb, and_from, and_parts, and_left, and_right}
@@ -29,11 +29,12 @@ use Rattle.kfifo_verdict.specs.Soon.{is_by, has_by}
 use Rattle.kfifo_verdict.specs.Steps.{AreSorted, is_below}
 use Rattle.kfifo_verdict.specs.Left.{is_at, is_up_to, rank}
 use Rattle.kfifo_verdict.specs.Older.{IsNth, IsCopy, AreCopies, IsPutOfGet}
-use Rattle.kfifo_verdict.proofs.Counting.{below_more, count_within}
+use Rattle.kfifo_verdict.proofs.Counting.{count_within}
 use Rattle.kfifo_verdict.proofs.Telling.{same_item, puts_pass}
 use Rattle.kfifo_verdict.proofs.Being.{same_put}
 use Rattle.kfifo_verdict.proofs.Moments.{precedes_below}
 use Rattle.kfifo_verdict.proofs.Refuting.{put_inside, got_ended, below_end, from_last, not_ended, rising_distinct, takes_is, adds_is}
+use Rattle.kfifo_verdict.proofs.Skipping.{count_rises}
 use Rattle.kfifo_verdict.proofs.Younger.{count_yes, count_all}
 use Rattle.kfifo_verdict.proofs.Leaving.{up_to_first, rank_counts, ranked, lower_before}
 use Rattle.kfifo_verdict.proofs.Passing.{last_below}
@@ -46,20 +47,6 @@ count_same t u (suc n) f =
     let on = count_same t u n (λ c lt. f c (omega (arith, lt))) in
     let one : ◌≡◌ {A = ℕ} (cond (t n) 1 0) (cond (u n) 1 0) = ap (λ b. cond b 1 0) (f n (omega arith)) in
     omega (arith, on, one)
-
-count_up : (t : ℕ → Bool) (a m : ℕ) → count_below t a ≤ count_below t (a + m)
-count_up t a zero = let e = ap (count_below t) (let z : a + 0 ≡ a = omega arith in z) in omega (arith, e)
-count_up t a (suc m) =
-    let on = count_up t a m in
-    let e = ap (count_below t) (let z : a + suc m ≡ (a + m) + 1 = omega arith in z) in
-    let next = below_more t (a + m) in
-    omega (arith, on, e, next)
-
-pub count_mono : (t : ℕ → Bool) (a b : ℕ) → a ≤ b → count_below t a ≤ count_below t b
-count_mono t a b le =
-    let up = count_up t a (b - a) in
-    let e = ap (count_below t) (let z : a + (b - a) ≡ b = omega (arith, le) in z) in
-    omega (arith, up, e)
 
 -- those below m, of those below n
 pub count_prefix : (t : ℕ → Bool) (m n : ℕ) → m ≤ n → count_below (λ c. t c && ltb c m) n ≡ count_below t m
@@ -160,10 +147,10 @@ nth_none h side x count steps are never m le =
 pub gone_tells : (h : List Call) (y r after : ℕ) (o : Option ℕ) → IsNth h Out y r o → after ≤ length h
     → (after ≤ unwrap_or o (length h)) ↔ (count_below (has_item Out h y) after ≤ r)
 gone_tells h y r after (Some d) n le = (
-  λ up. (let m = count_mono (has_item Out h y) after d up in let e = n.2 in omega (arith, m, e)),
+  λ up. (let m = count_rises (has_item Out h y) after d up in let e = n.2 in omega (arith, m, e)),
   λ few. elim (cases_lt d after) [
     | inl lt ↦ (
-        let m = count_mono (has_item Out h y) (d + 1) after (omega (arith, lt)) in
+        let m = count_rises (has_item Out h y) (d + 1) after (omega (arith, lt)) in
         let e = n.2 in
         let one = count_yes (has_item Out h y) d n.1 in
         absurd (omega (arith, m, e, one, few))
@@ -286,13 +273,13 @@ same_place h x a b pa pb e =
     let t : ℕ → Bool = has_item In h x in
     elim (cases_lt a b) [
       | inl lt ↦ (
-          let up = count_mono t (a + 1) b (omega (arith, lt)) in
+          let up = count_rises t (a + 1) b (omega (arith, lt)) in
           let one = count_yes t a (puts_pass h x a pa) in
           absurd (omega (arith, up, one, e))
           )
       | inr ge ↦ elim (cases_lt b a) [
         | inl lt ↦ (
-            let up = count_mono t (b + 1) a (omega (arith, lt)) in
+            let up = count_rises t (b + 1) a (omega (arith, lt)) in
             let one = count_yes t b (puts_pass h x b pb) in
             absurd (omega (arith, up, one, e))
             )

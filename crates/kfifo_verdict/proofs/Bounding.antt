@@ -16,7 +16,7 @@ use Rattle.kfifo_verdict.proofs.Counting.{below_more}
 use Rattle.kfifo_verdict.proofs.Moments.{precedes_below}
 use Rattle.kfifo_verdict.proofs.Refuting.{put_inside}
 use Rattle.kfifo_verdict.proofs.Skipping.{count_rises, count_flat, none_below}
-use Rattle.kfifo_verdict.proofs.Telling.{got_inside, same_item}
+use Rattle.kfifo_verdict.proofs.Telling.{same_item}
 use Rattle.kfifo_verdict.proofs.Younger.{count_few, all_first, older_found, no_more_older}
 
 -- ---- where gets end
@@ -103,10 +103,10 @@ soonest_more h q own next least o s is =
 
 -- ---- counts of tests
 
-count_weaker : (t u : ℕ → Bool) (n : ℕ) → ((p : ℕ) → p < n → t p ≡ true → u p ≡ true) → count_below t n ≤ count_below u n
-count_weaker t u zero f = omega arith
-count_weaker t u (suc n) f =
-    let on = count_weaker t u n (λ p lt e. f p (omega (arith, lt)) e) in
+below_weaker : (t u : ℕ → Bool) (n : ℕ) → ((p : ℕ) → p < n → t p ≡ true → u p ≡ true) → count_below t n ≤ count_below u n
+below_weaker t u zero f = omega arith
+below_weaker t u (suc n) f =
+    let on = below_weaker t u n (λ p lt e. f p (omega (arith, lt)) e) in
     elim (cases_Bool (t n)) [
       | inl passes ↦ (
           let one : ◌≡◌ {A = ℕ} (cond (t n) 1 0) 1 = ap (λ b. cond b 1 0) passes in
@@ -135,30 +135,49 @@ greatest t value (suc n) some =
             let lt = g.1 in
             let most = g.3 in
             elim (cases_lt (value g.0) (value n)) [
-              | inl up ↦ (n, omega arith, passes, λ q in_q e. elim (cases_lt q n) [
-                | inl below ↦ (let le = most q below e in omega (arith, le, up))
-                | inr ge ↦ (let a = ap value (at_end q in_q ge) in omega (arith, a))
-              ])
-              | inr down ↦ (g.0, omega (arith, lt), g.2, λ q in_q e. elim (cases_lt q n) [
-                | inl below ↦ most q below e
-                | inr ge ↦ (let a = ap value (at_end q in_q ge) in omega (arith, a, down))
-              ])
+              | inl up ↦ (
+                n,
+                omega arith,
+                passes,
+                λ q in_q e. elim (cases_lt q n) [
+                  | inl below ↦ (let le = most q below e in omega (arith, le, up))
+                  | inr ge ↦ (let a = ap value (at_end q in_q ge) in omega (arith, a))
+                ],
+              )
+              | inr down ↦ (
+                g.0,
+                omega (arith, lt),
+                g.2,
+                λ q in_q e. elim (cases_lt q n) [
+                  | inl below ↦ most q below e
+                  | inr ge ↦ (let a = ap value (at_end q in_q ge) in omega (arith, a, down))
+                ],
+              )
             ]
             )
-        | inr none ↦ (n, omega arith, passes, λ q in_q e. elim (cases_lt q n) [
-          | inl below ↦ absurd (none_below t n q none below e)
-          | inr ge ↦ (let a = ap value (at_end q in_q ge) in omega (arith, a))
-        ])
+        | inr none ↦ (
+          n,
+          omega arith,
+          passes,
+          λ q in_q e. elim (cases_lt q n) [
+            | inl below ↦ absurd (none_below t n q none below e)
+            | inr ge ↦ (let a = ap value (at_end q in_q ge) in omega (arith, a))
+          ],
+        )
       ]
       | inr fails ↦ (
           let none : ◌≡◌ {A = ℕ} (cond (t n) 1 0) 0 = ap (λ b. cond b 1 0) fails in
           let g = greatest t value n (omega (arith, some, none)) in
-          let lt = g.1 in
-          (g.0, omega (arith, lt), g.2, λ q in_q e. elim (cases_lt q n) [
-            | inl below ↦ g.3 q below e
-            | inr ge ↦ (let passes : t n ≡ true = (let P : ℕ → Type 0 = λ w. t w ≡ true in subst P (at_end q in_q ge) e) in
-                let c : true ≡ false = sym passes ∙ fails in absurd (cc))
-          ])
+          let lt = g.1 in (
+            g.0,
+            omega (arith, lt),
+            g.2,
+            λ q in_q e. elim (cases_lt q n) [
+              | inl below ↦ g.3 q below e
+              | inr ge ↦ (let passes : t n ≡ true = (let P : ℕ → Type 0 = λ w. t w ≡ true in subst P (at_end q in_q ge) e) in
+                  let c : true ≡ false = sym passes ∙ fails in absurd (cc))
+            ],
+          )
           )
     ]
 
@@ -255,25 +274,25 @@ most_more soonest ps m most count next was here is =
       | inr le ↦ inl (omega (arith, is, le), le)
     ] in
     record {
-  above = λ d lt. elim (cases_lt d m) [
-    | inl below ↦ (let le = was.above d below in elim which [
-      | inl a ↦ (let e = a.0 in omega (arith, le, e))
-      | inr b ↦ (let e = b.0 in let up = b.1 in omega (arith, le, e, up))
-    ])
-    | inr ge ↦ (
-        let same : d ≡ m = omega (arith, lt, ge) in
-        let a = ap (λ w. count_below (counts_at soonest ps w) (length ps)) same in
-        elim which [
-          | inl x ↦ (let e = x.0 in let le = x.1 in omega (arith, a, here, e, le))
-          | inr y ↦ (let e = y.0 in omega (arith, a, here, e))
-        ]
-        )
-  ];
-  attained = λ some. elim which [
-    | inl x ↦ (let e = x.0 in let a = was.attained (omega (arith, some, e)) in let lt = a.1 in (a.0, omega (arith, lt), a.2 ∙ sym e))
-    | inr y ↦ (m, omega arith, here ∙ sym y.0)
-  ];
-}
+      above = λ d lt. elim (cases_lt d m) [
+        | inl below ↦ (let le = was.above d below in elim which [
+          | inl a ↦ (let e = a.0 in omega (arith, le, e))
+          | inr b ↦ (let e = b.0 in let up = b.1 in omega (arith, le, e, up))
+        ])
+        | inr ge ↦ (
+            let same : d ≡ m = omega (arith, lt, ge) in
+            let a = ap (λ w. count_below (counts_at soonest ps w) (length ps)) same in
+            elim which [
+              | inl x ↦ (let e = x.0 in let le = x.1 in omega (arith, a, here, e, le))
+              | inr y ↦ (let e = y.0 in omega (arith, a, here, e))
+            ]
+            )
+      ];
+      attained = λ some. elim which [
+        | inl x ↦ (let e = x.0 in let a = was.attained (omega (arith, some, e)) in let lt = a.1 in (a.0, omega (arith, lt), a.2 ∙ sym e))
+        | inr y ↦ (m, omega arith, here ∙ sym y.0)
+      ];
+    }
 
 -- ---- what the most tells
 
@@ -313,7 +332,7 @@ older_few h ps soonest most n g v are soon m young =
     let size = soon.0 in
     let many = are.0 in
     let few = no_more_older h ps t.item g put after n v are start t.single t.gets young in
-    let all = count_weaker (lasts_at ps put after) (counts_at soonest ps after) put
+    let all = below_weaker (lasts_at ps put after) (counts_at soonest ps after) put
     (λ p lt e. older_counts h ps soonest t.item put g after p are soon t.single t.gets start (omega (arith, lt, inside)) e) in
     let rest = count_rises (counts_at soonest ps after) put (length ps) (omega (arith, inside, many)) in
     let top = m.above after (omega (arith, bound, size)) in
@@ -349,7 +368,7 @@ older_many h ps soonest m most v are soon in_m is some =
     let e = a.2.1 in
     let after = since soonest ps p in
     let in_r = put_inside h e.item r e.single.puts in
-    let weaker = count_weaker (counts_at soonest ps m) (lasts_at ps r after) (length ps) (λ q lt passes.
+    let weaker = below_weaker (counts_at soonest ps m) (lasts_at ps r after) (length ps) (λ q lt passes.
     let both = and_parts (leb (since soonest ps q) m) (leb m (until ps q)) passes in
     let here = leb-true m (until ps q) both.1 in
     let low = top.3 q lt passes in

@@ -1,21 +1,19 @@
 -- What evidence says of orders, and what the lower bound of k does.
-use Rattle.std.proofs.Common.{ℕ, ◌≡◌, ◌+◌, ◌-◌, ◌<◌, ◌≤◌, ◌⊎◌, List, length, sym, subst, inl, inr, arith, Option, Some, None, Result, Ok}
+use Rattle.std.proofs.Common.{ℕ, ◌-◌, ◌<◌, ◌≤◌, List, arith, Option, Some, None, Result, Ok}
 use Rattle.std.proofs.Common.{Err}
 use Rattle.std.specs.Result.{IfOk}
 use Rattle.std.specs.Option.{MatchOption, OnSome}
-use Rattle.std.proofs.lemmas.Bool.{cases_lt}
 use Rattle.kfifo_verdict.proofs.Types.{Call}
 use Rattle.kfifo_model.specs.Validity.{IsHistory}
 use Rattle.kfifo_model.specs.Searching.{HasOrder}
 use Rattle.kfifo_verdict.specs.declared.verdicts.Evidence.{Evidence}
 use Rattle.kfifo_verdict.specs.declared.verdicts.Evidence.TheVariants.{NeverPut, TakenTwice, NotEmpty, TooYoung, TakenTooSoon}
 use Rattle.kfifo_verdict.specs.declared.verdicts.Evidence.TheVariants.{ItemsLeft, OlderLeft}
-use Rattle.kfifo_verdict.specs.Judging.{HasNoEvidence, IsFirstEvidence, HasNoneForEachK, IsFirstForEachK, IsFirstTo3, GotTooYoung}
+use Rattle.kfifo_verdict.specs.Judging.{HasNoEvidence, IsFirstEvidence, HasNoneForEachK, IsFirstForEachK, IsFirstTo3}
 use Rattle.kfifo_verdict.specs.Judging.{IsLowerBound}
 use Rattle.kfifo_verdict.proofs.Refuting.{never_put_refutes, taken_twice_refutes, not_empty_refutes, too_young_refutes, too_soon_refutes}
 use Rattle.kfifo_verdict.proofs.Passing.{older_left_refutes}
 use Rattle.kfifo_verdict.proofs.Remaining.{items_left_refutes}
-use Rattle.kfifo_verdict.proofs.Telling.{got_inside}
 
 pub first_refutes : (k : ℕ) (h : List Call) (v : Evidence) → IsHistory h → IsFirstEvidence k h v → HasOrder k h → ⊥
 first_refutes k h (NeverPut get) v f = never_put_refutes k h get f.0

@@ -12,12 +12,10 @@ use Rattle.kfifo_verdict.specs.Evidence.{IsOlderLeft, IsTakenTooSoon, IsTakenTwi
 use Rattle.kfifo_verdict.specs.Evidence.{gets_ended, last_step, puts_begun, puts_ended, puts_of}
 use Rattle.kfifo_verdict.specs.Finding.{HasGaps}
 use Rattle.kfifo_verdict.specs.Judging.{GotTooYoung, HasNoEvidence, HasNoneForEachK, HasNoneTo3, IsPlain, Never}
-use Rattle.kfifo_verdict.proofs.Ageing.{count_mono}
 use Rattle.kfifo_verdict.proofs.Covering.{moment_here}
 use Rattle.kfifo_verdict.proofs.Skipping.{none_below}
 use Rattle.kfifo_verdict.proofs.Refuting.{adds_is, got_ended, put_inside, takes_is}
 use Rattle.kfifo_verdict.proofs.Telling.{gets_pass, got_inside, puts_pass}
-use Rattle.kfifo_verdict.proofs.Younger.{count_yes}
 
 -- ---- how many numbers pass a test
 

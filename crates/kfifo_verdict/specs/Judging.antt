@@ -8,6 +8,8 @@ use Rattle.kfifo_verdict.specs.declared.verdicts.Evidence.TheVariants.{NeverPut,
 use Rattle.kfifo_verdict.specs.declared.verdicts.Evidence.TheVariants.{TakenTooSoon, ItemsLeft, OlderLeft}
 use Rattle.kfifo_verdict.specs.declared.verdicts.Judgement.{Judgement}
 use Rattle.kfifo_verdict.specs.declared.verdicts.Judgement.TheVariants.{Legal, NoOrder, Undecided}
+use Rattle.kfifo_verdict.specs.declared.verdicts.Stuck.{Stuck}
+use Rattle.kfifo_verdict.specs.declared.verdicts.Stuck.TheVariants.{TriesRanOut, NothingLeft}
 use Rattle.kfifo_verdict.specs.declared.verdicts.Bounds.{Bounds}
 use Rattle.kfifo_verdict.specs.Evidence.{Puts, IsSingle, IsNeverPut, IsTakenTwice, IsNotEmpty, IsTooYoung}
 use Rattle.kfifo_verdict.specs.Evidence.{IsTakenTooSoon, HasItemsLeft, IsOlderLeft}
@@ -93,6 +95,17 @@ abbrev pub IsJudgement : ℕ → List Call → Judgement → Type 0
 IsJudgement k h (Legal order) = IsLegal k h order.items
 IsJudgement k h (NoOrder found) = IsFirstEvidence k h found × (HasOrder k h → ⊥)
 IsJudgement k h (Undecided stuck) = HasNoEvidence k h
+
+-- how many choices the search had undone when it stopped
+abbrev pub tries_made : Stuck → ℕ
+tries_made (TriesRanOut tries) = tries
+tries_made (NothingLeft tries) = tries
+
+-- where there is no verdict, no more tries were made than were allowed
+abbrev pub KeepsTries : ℕ → Judgement → Type 0
+KeepsTries tries (Legal order) = Unit {0}
+KeepsTries tries (NoOrder found) = Unit {0}
+KeepsTries tries (Undecided stuck) = tries_made stuck ≤ tries
 
 -- the verdict says whether there is a legal order
 abbrev pub IsDecided : Judgement → Type 0

@@ -2,7 +2,7 @@
 ghost use Rattle.std.specs.Prelude.{◌≡◌, ◌≤◌, IfOk};
 ghost use Rattle.kfifo_model.specs.Validity.{IsHistory};
 ghost use Rattle.kfifo_verdict.specs.Finding.{IsIndexed};
-ghost use Rattle.kfifo_verdict.specs.Judging.{IsJudgement, IsPlain, IsDecided, AreBounds};
+ghost use Rattle.kfifo_verdict.specs.Judging.{IsJudgement, IsPlain, IsDecided, KeepsTries, AreBounds};
 ghost use Rattle.kfifo_verdict.specs.Remainder.{items_left};
 
 use crate::bound::lower_bound;
@@ -29,6 +29,7 @@ pub fn judge(alloc: Global, history: &History, k: u32, tries: u64) -> Result<Jud
     requires { (1 ≤ k) × (k ≤ 64) }
     ensures judgement { IfOk result (IsJudgement k history.now) }
     ensures complete { k ≡ 1 → IsPlain history.now → IfOk result IsDecided }
+    ensures tries { IfOk result (KeepsTries tries) }
 {
     let items = Items::of(alloc, history.calls())?;
     judge_by(alloc, history, &items, k, tries)
@@ -49,6 +50,7 @@ pub fn judge_and_count(
     requires { (1 ≤ k) × (k ≤ 64) }
     ensures judgement { IfOk result (λ found. IsJudgement k history.now found.0) }
     ensures complete { k ≡ 1 → IsPlain history.now → IfOk result (λ found. IsDecided found.0) }
+    ensures tries { IfOk result (λ found. KeepsTries tries found.0) }
     ensures left { IfOk result (λ found. found.1 ≡ items_left history.now) }
 {
     let items = Items::of(alloc, history.calls())?;
@@ -69,6 +71,7 @@ fn judge_by(
     requires items { IsIndexed history.now items.now }
     ensures judgement { IfOk result (IsJudgement k history.now) }
     ensures complete { k ≡ 1 → IsPlain history.now → IfOk result IsDecided }
+    ensures tries { IfOk result (KeepsTries tries) }
 {
     if let Some(found) = evidence_by(alloc, history, items, k)? {
         return Ok(Judgement::NoOrder(found));

@@ -1,6 +1,7 @@
 //! What can be said of a history.
 ghost use Rattle.std.specs.Prelude.{◌≡◌, ◌↔◌, IsTrue, option_map};
 ghost use Rattle.kfifo_verdict.specs.Naming.{IsForEachK, call_in, puts_in};
+ghost use Rattle.kfifo_verdict.specs.Judging.{tries_made};
 
 /// A few calls that leave a history no legal order. Calls are named by their numbers.
 #[derive(Debug, PartialEq, Eq, Drop)]
@@ -75,13 +76,24 @@ impl Evidence {
     }
 }
 
-/// Why the search for an order found none.
+/// Why the search for an order found none, and after how many tries: so many choices it undid.
 #[derive(Clone, Copy, Debug, PartialEq, Eq)]
 pub enum Stuck {
     /// As many choices were undone as were allowed: with more tries it may find one.
-    TriesRanOut,
+    TriesRanOut(u64),
     /// There was nothing that it could have done otherwise: more tries do not help.
-    NothingLeft,
+    NothingLeft(u64),
+}
+
+impl Stuck {
+    /// How many choices the search undid: no more than were allowed.
+    pub fn tries(self) -> u64
+        ensures { result ≡ tries_made self }
+    {
+        match self {
+            Stuck::TriesRanOut(tries) | Stuck::NothingLeft(tries) => tries,
+        }
+    }
 }
 
 /// A verdict on a history for one k.

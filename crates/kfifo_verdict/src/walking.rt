@@ -9,8 +9,9 @@
 //! So few choices are left: which put of an item that was put more than once, which item leaves the front, and when an
 //! Empty goes. Where a due call cannot go, the walk changes the last of them. A state in which the walk has been before
 //! is not gone through again, since from there on it would only fail once more.
-ghost use Rattle.std.specs.Prelude.{◌≤◌, IfOk, IfSome};
+ghost use Rattle.std.specs.Prelude.{◌≤◌, IfOk, IfSome, MatchResult};
 ghost use Rattle.kfifo_model.specs.Histories.{IsLegal};
+ghost use Rattle.kfifo_verdict.specs.Judging.{tries_made};
 
 use crate::facts::Facts;
 use crate::picks::{Picks, next_pick};
@@ -378,41 +379,50 @@ impl Walk {
         Ok(Some(choice.next))
     }
 
-    /// Walks until all finished calls went, or none can that is due. At most `tries` choices are changed.
-    fn run(&mut self, tries: u64) -> Result<Option<Stuck>, AllocError> {
-        let mut left = tries;
+    /// Walks until all finished calls went, or none can that is due. At most `tries` choices are undone; returns how
+    /// many were.
+    fn run(&mut self, tries: u64) -> Result<Result<u64, Stuck>, AllocError>
+        ensures { IfOk result (λ ran. MatchResult ran (λ undone. undone ≤ tries) (λ stuck. tries_made stuck ≤ tries)) }
+    {
+        let mut undone = 0;
         let mut way = 0;
         for _ in 0..u64::MAX {
             match self.step(way)? {
-                Step::Finished => return Ok(None),
+                Step::Finished => return Ok(Ok(undone)),
                 Step::Went => way = 0,
                 Step::Stuck => {
-                    if left == 0 && !self.choices.is_empty() {
-                        return Ok(Some(Stuck::TriesRanOut));
+                    if self.choices.is_empty() {
+                        return Ok(Err(Stuck::NothingLeft(undone)));
+                    }
+                    if undone == tries {
+                        return Ok(Err(Stuck::TriesRanOut(undone)));
                     }
                     let Some(next) = self.go_back()? else {
-                        return Ok(Some(Stuck::NothingLeft));
+                        return Ok(Err(Stuck::NothingLeft(undone)));
                     };
-                    left = left.saturating_sub(1);
+                    undone += 1;
                     way = next;
                 }
             }
         }
-        Ok(Some(Stuck::TriesRanOut))
+        Ok(Err(Stuck::TriesRanOut(undone)))
     }
 }
 
-/// An order of the finished calls and some unfinished enqueues, or why none was found.
+/// An order of the finished calls and some unfinished enqueues, and how many choices were undone for it; or why none
+/// was found.
 fn found_order(
     alloc: Global,
     calls: &[Call],
     k: usize,
     tries: u64,
-) -> Result<Result<Vec<usize>, Stuck>, AllocError> {
+) -> Result<Result<(Vec<usize>, u64), Stuck>, AllocError>
+    ensures { IfOk result (λ found. MatchResult found (λ f. f.1 ≤ tries) (λ stuck. tries_made stuck ≤ tries)) }
+{
     let mut walk = Walk::new(alloc, calls, k)?;
     match walk.run(tries)? {
-        None => Ok(Ok(walk.into_order()?)),
-        Some(stuck) => Ok(Err(stuck)),
+        Ok(undone) => Ok(Ok((walk.into_order()?, undone))),
+        Err(stuck) => Ok(Err(stuck)),
     }
 }
 
@@ -424,15 +434,16 @@ pub(crate) fn search(
     tries: u64,
 ) -> Result<Result<Vec<usize>, Stuck>, AllocError>
     requires { (1 ≤ k) × (k ≤ 64) }
-    ensures { IfOk result (λ found. IfOk found (λ order. IsLegal k history.now order.items)) }
+    ensures { IfOk result (λ found. MatchResult found
+        (λ order. IsLegal k history.now order.items) (λ stuck. tries_made stuck ≤ tries)) }
 {
-    let order = match found_order(alloc, history.calls(), k as usize, tries)? {
-        Ok(order) => order,
+    let (order, undone) = match found_order(alloc, history.calls(), k as usize, tries)? {
+        Ok(found) => found,
         Err(stuck) => return Ok(Err(stuck)),
     };
     match check_order(alloc, history, k, &order)? {
         Verdict::Legal => Ok(Ok(order)),
-        _ => Ok(Err(Stuck::NothingLeft)),
+        _ => Ok(Err(Stuck::NothingLeft(undone))),
     }
 }
 

@@ -1,5 +1,4 @@
-use Rattle.std.proofs.Common.{ℕ, List, ◌≡◌, ◌+◌, ◌<◌, ◌≤◌, length, subst, arith, inl, inr}
-use Rattle.std.proofs.lemmas.Bool.{cases_lt}
+use Rattle.std.proofs.Common.{ℕ, List, subst, arith}
 use Rattle.kfifo_verdict.proofs.Types.{Presence}
 use Rattle.kfifo_verdict.specs.Bound.{IsMostAtOnce}
 use Rattle.kfifo_verdict.proofs.Bounding.{lower_bound_found, most_few}
