@@ -63,19 +63,36 @@ AreToJudge lines judged = (free : ℕ)
     × (list_any is_foreign lines ≡ true → IsItem free × All (λ x. x ≢ free) (items_put lines))
     × (judged ≡ map (line_with free) lines)
 
--- the lines are those of a table, to be judged
-abbrev pub ReadsToJudge : List ℕ → List Line → Type 0
-ReadsToJudge bytes judged = (lines : List Line) × ReadsLog bytes lines × AreToJudge lines judged
+-- The history is the record of these lines of a log, to be judged, and its calls stand in it and were as these say.
+pub record IsLogToJudge (lines : List Line) (h : List Call) (calls : List LoggedCall) : Type 0 where
+  pub judged : List Line
+  pub to_judge : AreToJudge lines judged
+  pub log : IsLogOf judged h calls
+
+-- these lines of a log, to be judged, have this fault
+abbrev pub HasFaultToJudge : List Line → ImportFault → Type 0
+HasFaultToJudge lines fault = (judged : List Line) × AreToJudge lines judged × IsImportFault judged fault
+
+-- why at most MAX_LOG_CALLS lines give no record to be judged
+abbrev pub IsFaultToJudge : List Line → ImportFault → Type 0
+IsFaultToJudge lines (Csv n) = ⊥
+IsFaultToJudge lines TooMany = ⊥
+IsFaultToJudge lines (NotACall n) = ⊥
+IsFaultToJudge lines (NumberOutOfRange n) = HasFaultToJudge lines (NumberOutOfRange n)
+IsFaultToJudge lines (WrongAnswer n) = HasFaultToJudge lines (WrongAnswer n)
+IsFaultToJudge lines (EndsEarly n) = HasFaultToJudge lines (EndsEarly n)
+IsFaultToJudge lines (Overlap n) = HasFaultToJudge lines (Overlap n)
+IsFaultToJudge lines Memory = Unit {0}
 
 -- The history is the record of the lines of a text, to be judged, and its calls stand in it and were as these say.
 pub record IsJudgedLog (bytes : List ℕ) (h : List Call) (calls : List LoggedCall) : Type 0 where
   pub lines : List Line
-  pub read : ReadsToJudge bytes lines
-  pub log : IsLogOf lines h calls
+  pub read : ReadsLog bytes lines
+  pub log : IsLogToJudge lines h calls
 
 -- the lines of a text, to be judged, have this fault
 abbrev pub IsOfJudged : List ℕ → ImportFault → Type 0
-IsOfJudged bytes fault = (lines : List Line) × ReadsToJudge bytes lines × IsImportFault lines fault
+IsOfJudged bytes fault = (lines : List Line) × ReadsLog bytes lines × HasFaultToJudge lines fault
 
 -- why a text gives no record to be judged: the first fault of its rows, or of its lines, whose rows have none
 abbrev pub IsUnjudged : List ℕ → ImportFault → Type 0

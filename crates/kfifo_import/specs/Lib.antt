@@ -7,5 +7,6 @@ pub mod Spots
 pub mod Tables
 pub mod Taking
 pub mod Wrong
+pub mod Answers
 pub mod Fields
 pub mod Foreign

@@ -1,13 +1,13 @@
 //! Gets of items that no call can put.
-ghost use Rattle.std.specs.Prelude.{◌≡◌, ◌≢◌, ◌<◌, ◌≤◌, IfOk, length, map, true};
+ghost use Rattle.std.specs.Prelude.{◌≡◌, ◌≢◌, ◌<◌, ◌≤◌, IfOk, MatchResult, length, map, true};
 ghost use Rattle.std.specs.List.{All, list_any};
 ghost use Rattle.std.specs.List.Sorted.{IsNonDecreasingBy};
 ghost use Rattle.kfifo_model.specs.Validity.{IsItem};
 ghost use Rattle.kfifo_import.specs.declared.log.TheConstants.{MAX_LOG_CALLS};
 ghost use Rattle.kfifo_import.specs.Foreign as specs;
-ghost use Rattle.kfifo_import.specs.Foreign.{AreToJudge, items_put};
+ghost use Rattle.kfifo_import.specs.Foreign.{AreToJudge, IsFaultToJudge, IsLogToJudge, items_put};
 
-use crate::log::Line;
+use crate::log::{ImportFault, Line, Log, MAX_LOG_CALLS, log_of};
 use kfifo_model::{Answer, Call, End, MAX_ITEM, Op};
 use std::alloc::{AllocError, Global};
 
@@ -135,14 +135,8 @@ fn has_foreign(lines: &[Line]) -> bool
     lines.iter().any(|line| is_foreign(line))
 }
 
-/// Returns the lines of a log as they are to be judged: an item that none of them puts stands for each that no call can
-/// put. There are at most 16,777,215 lines. An error means that an allocation failed.
-///
-/// ```rust
-/// let judged = with_puttable_items(alloc, lines)?;
-/// log_of(alloc, judged)
-/// ```
-pub fn with_puttable_items(alloc: Global, lines: Vec<Line>) -> Result<Vec<Line>, AllocError>
+/// The lines of a log as they are to be judged: an item that none of them puts stands for each that no call can put.
+fn with_puttable_items(alloc: Global, lines: Vec<Line>) -> Result<Vec<Line>, AllocError>
     requires { length lines.items ≤ MAX_LOG_CALLS }
     ensures { IfOk result (λ judged. AreToJudge lines.items judged.items) }
 {
@@ -151,4 +145,22 @@ pub fn with_puttable_items(alloc: Global, lines: Vec<Line>) -> Result<Vec<Line>,
     }
     let free = free_item(alloc, lines.as_slice())?;
     all_with(alloc, lines.as_slice(), free)
+}
+
+/// Returns the log that at most 16,777,215 lines are, to be judged: as `log_of`, but for gets of items that no call can
+/// put. In the record each of them got an item that no line puts, one and the same; its `LoggedCall` has the item of the
+/// log.
+///
+/// ```rust
+/// let log = log_to_judge(alloc, lines)?;
+/// ```
+///
+/// Refused: what `log_of` refuses, but for these gets.
+pub fn log_to_judge(alloc: Global, lines: Vec<Line>) -> Result<Log, ImportFault>
+    requires { length lines.items ≤ MAX_LOG_CALLS }
+    ensures { MatchResult result (λ log. IsLogToJudge lines.items log.history log.calls.items)
+        (IsFaultToJudge lines.items) }
+{
+    let judged = with_puttable_items(alloc, lines)?;
+    log_of(alloc, judged)
 }

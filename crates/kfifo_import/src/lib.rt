@@ -1,6 +1,7 @@
 //! Logs of queues, and the records that they give.
 #![tactic(auto)]
 
+mod answers;
 mod ends;
 mod foreign;
 mod log;
@@ -10,7 +11,8 @@ mod table;
 mod walk;
 mod wrong;
 
-pub use foreign::with_puttable_items;
+pub use answers::{put_answer, take_answer};
+pub use foreign::log_to_judge;
 pub use kfifo_model::LoggedCall;
 pub use log::{ImportFault, Line, Log, MAX_LOG_CALLS, log_of, record_of};
 pub use table::{import_text, lines_of, read_log, read_log_to_judge, small};

@@ -1,5 +1,5 @@
 //! Logs as tables of comma-separated fields.
-ghost use Rattle.std.specs.Prelude.{◌≡◌, ◌≤◌, ◌↔◌, ℕ, IfErr, IfOk, IsTrue, List, None, OnOk, Option, Some};
+ghost use Rattle.std.specs.Prelude.{◌≡◌, ◌≤◌, ◌↔◌, ℕ, IfErr, IfOk, IsTrue, List, OnOk, Option};
 ghost use Rattle.std.specs.Prelude.{MatchOption, MatchResult, length, option_map};
 ghost use Rattle.kfifo_model.specs.declared.calls.Answer.{Answer};
 ghost use Rattle.kfifo_model.specs.declared.calls.End.{End};
@@ -16,7 +16,8 @@ ghost use Rattle.kfifo_import.specs.Foreign.{IsJudgedLog, IsUnjudged};
 ghost use Rattle.kfifo_import.specs.Taking.{IsNotTaken, IsReadFault, IsWrongIn, Takes};
 ghost use Rattle.kfifo_import.specs.Wrong.{TellsWrong};
 
-use crate::foreign::with_puttable_items;
+use crate::answers::{put_answer, take_answer};
+use crate::foreign::log_to_judge;
 use crate::log::{ImportFault, Line, Log, MAX_LOG_CALLS, log_of};
 use crate::walk::{Place, row_end, row_front, without_mark};
 use crate::wrong::{Field, Refusal, wrong_field};
@@ -157,43 +158,16 @@ fn op_of(text: &[u8], item: Option<u32>) -> Option<Op>
     }
 }
 
-/// The answer of an enqueue. For a word that no enqueue returns stands Empty, by which the record refuses the call.
-fn put_answer(word: AnswerWord) -> Answer
-    ensures { (text : List ℕ) → IsAnswerWord text word → IsPutAnswer text result }
-{
-    match word {
-        AnswerWord::Done => Answer::Done,
-        AnswerWord::Full => Answer::Full,
-        AnswerWord::Busy => Answer::Busy,
-        AnswerWord::Worn => Answer::Worn,
-        AnswerWord::Got | AnswerWord::Empty | AnswerWord::Other => Answer::Empty,
-    }
-}
-
-/// The answer of a dequeue with no item, none of `got`. For a word that no dequeue returns stands Done, by which the
-/// record refuses the call.
-fn take_answer(word: AnswerWord) -> Option<Answer>
+/// The answer of a dequeue beside this item. None where it has an item without the answer `got`, or the other way round.
+fn take_answer_beside(word: AnswerWord, item: Option<u32>) -> Option<Answer>
     ensures { (text : List ℕ) → IsAnswerWord text word
-        → MatchOption result ((answer : Answer) → ¬ (IsTakeAnswer text None answer)) (IsTakeAnswer text None) }
+        → MatchOption result ((answer : Answer) → ¬ (IsTakeAnswer text item answer)) (IsTakeAnswer text item) }
 {
-    match word {
-        AnswerWord::Got => None,
-        AnswerWord::Empty => Some(Answer::Empty),
-        AnswerWord::Busy => Some(Answer::Busy),
-        AnswerWord::Worn => Some(Answer::Worn),
-        AnswerWord::Done | AnswerWord::Full | AnswerWord::Other => Some(Answer::Done),
-    }
-}
-
-/// The answer of a dequeue with an item: `got` alone has one.
-fn got_answer(word: AnswerWord, item: u32) -> Option<Answer>
-    ensures { (text : List ℕ) → IsAnswerWord text word
-        → MatchOption result ((answer : Answer) → ¬ (IsTakeAnswer text (Some item) answer))
-        (IsTakeAnswer text (Some item)) }
-{
-    match word {
-        AnswerWord::Got => Some(Answer::Got(item)),
-        _ => None,
+    match (word, item) {
+        (AnswerWord::Got, None) => None,
+        (AnswerWord::Got, Some(item)) => Some(take_answer(word, item)),
+        (_, None) => Some(take_answer(word, 0)),
+        (_, Some(_)) => None,
     }
 }
 
@@ -203,10 +177,9 @@ fn answer_of(op: Op, text: &[u8], item: Option<u32>) -> Option<Answer>
         (IsAnswer op text.now item) }
 {
     let word = AnswerWord::of(text);
-    match (op, item) {
-        (Op::Enqueue(_), _) => Some(put_answer(word)),
-        (Op::Dequeue, Some(item)) => got_answer(word, item),
-        (Op::Dequeue, None) => take_answer(word),
+    match op {
+        Op::Enqueue(_) => Some(put_answer(word)),
+        Op::Dequeue => take_answer_beside(word, item),
     }
 }
 
@@ -402,8 +375,7 @@ pub fn read_log_to_judge(alloc: Global, text: &[u8]) -> Result<Log, Refusal>
     ensures each { IfOk result (λ log. length log.calls.items ≡ length log.history) }
 {
     let lines = lines_of(alloc, text, MAX_LOG_CALLS)?;
-    let judged = with_puttable_items(alloc, lines)?;
-    let log = log_of(alloc, judged)?;
+    let log = log_to_judge(alloc, lines)?;
     Ok(log)
 }
 
