@@ -1,6 +1,6 @@
 -- Lines in which no call got an item that no call can put: they are to be judged as they are. Where one did,
 -- fewer items are asked to be put than there are lines.
-use Rattle.std.proofs.Common.{ℕ, ◌≡◌, ◌<◌, ◌≤◌, ◌||◌, true, false, List, [], ◌∷◌, Option, Some, None, arith, cond, length, map, option_map}
+use Rattle.std.proofs.Common.{ℕ, ◌≡◌, ◌<◌, ◌≤◌, true, false, List, [], ◌∷◌, Option, Some, None, arith, cond, length, map, option_map}
 use Rattle.std.proofs.Common.{unwrap_or, refl, ap, ◌∙◌, inl, inr, length-append}
 use Rattle.std.specs.List.{list_any}
 use Rattle.std.proofs.lemmas.Bool.{false≢true, not-false, or_cases, or_parts}

@@ -1,5 +1,5 @@
 -- What `judge` says of a history.
-use Rattle.std.specs.Prelude.{ℕ, ◌≡◌, Bool, true, false, List, [], ◌++◌, Option, None, codes, decimal, length}
+use Rattle.std.specs.Prelude.{ℕ, ◌≡◌, Bool, true, false, List, [], ◌++◌, Option, None, codes, cond, decimal, eqb, length}
 use Rattle.std.specs.Prelude.{string_bytes}
 use Rattle.kfifo_model.specs.declared.calls.Call.{Call}
 use Rattle.kfifo_model.specs.Ranks.{ranks_of}
@@ -9,7 +9,7 @@ use Rattle.kfifo_verdict.specs.declared.verdicts.Judgement.{Judgement}
 use Rattle.kfifo_verdict.specs.declared.verdicts.Judgement.TheVariants.{Legal, NoOrder, Undecided}
 use Rattle.kfifo_verdict.specs.declared.verdicts.Stuck.{Stuck}
 use Rattle.kfifo_verdict.specs.declared.verdicts.Stuck.TheVariants.{TriesRanOut, NothingLeft}
-use Rattle.kfifo_verdict.specs.Judging.{IsJudgement}
+use Rattle.kfifo_verdict.specs.Judging.{IsJudgement, tries_made}
 use Rattle.kfifo_verdict.specs.Remainder.{items_left}
 use Rattle.kfifo_model.specs.declared.logged.LoggedCall.{LoggedCall}
 use Rattle.kfifo_model.specs.RecordTexts.{line}
@@ -18,7 +18,7 @@ use Rattle.kfifo_judge.specs.declared.outcome.Outcome.{Outcome}
 use Rattle.kfifo_judge.specs.declared.outcome.Outcome.TheVariants as outcomes
 use Rattle.kfifo_judge.specs.Bounds.{FollowsReason}
 use Rattle.kfifo_judge.specs.Numbers.{greatest, numbers_line}
-use Rattle.kfifo_judge.specs.Reasons.{reason_lines}
+use Rattle.kfifo_judge.specs.Reasons.{counted, reason_lines}
 use Rattle.kfifo_judge.specs.Repeats.{IsRepeatNote}
 
 -- a verdict and the k that it is about

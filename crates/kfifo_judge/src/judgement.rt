@@ -7,7 +7,7 @@ ghost use Rattle.kfifo_judge.specs.Bounds.{FollowsReason};
 ghost use Rattle.kfifo_verdict.specs.Remainder.{items_left};
 ghost use Rattle.kfifo_judge.specs.Judgements.{IsJudgeAnswer, IsJudged, IsNoOrderText, IsUndecidedText};
 ghost use Rattle.kfifo_judge.specs.Judgements.{about, legal_text};
-ghost use Rattle.kfifo_judge.specs.Judgements.{counts_line, outcome, shown_line, stuck_text, worst_line};
+ghost use Rattle.kfifo_judge.specs.Judgements.{counts_line, outcome, shown_line, stuck_text, stuck_words, worst_line};
 ghost use Rattle.kfifo_judge.specs.Numbers.{greatest};
 ghost use Rattle.kfifo_judge.specs.Repeats.{IsRepeatNote};
 

@@ -11,8 +11,7 @@ use Rattle.kfifo_import.specs.declared.log.ImportFault.{ImportFault}
 use Rattle.kfifo_import.specs.declared.log.ImportFault.TheVariants as faults
 use Rattle.kfifo_import.specs.declared.log.Line.{Line}
 use Rattle.kfifo_import.specs.declared.log.Log.{Log}
-use Rattle.kfifo_import.specs.Foreign.{AreToJudge, line_with}
-use Rattle.kfifo_import.specs.Logs.{IsImportFault, IsLogOf}
+use Rattle.kfifo_import.specs.Foreign.{IsFaultToJudge, IsLogToJudge}
 use Rattle.kfifo_import.specs.declared.log.TheConstants.{MAX_LOG_CALLS}
 use Rattle.kfifo_judge_c.specs.declared.calls.LogCall.{LogCall}
 use Rattle.kfifo_judge_c.specs.Lines.{AreKnownToTheLimit, IsCallsFault, IsLogOfCalls, is_unknown, line_of, lines_of}
@@ -40,21 +39,15 @@ pub known_to_the_limit : (calls : List LogCall) → position is_unknown calls �
 known_to_the_limit calls known place is = absurd (none-some place (sym known ∙ is))
 
 -- the log of the lines is that of the calls
-pub of_calls : (calls : List LogCall) (judged : List Line) (r : Result Log ImportFault) → position is_unknown calls ≡ None
-    → AreToJudge (lines_of calls) judged
-    → MatchResult r (λ log. IsLogOf judged log.history log.calls.items) (IsImportFault judged)
+pub of_calls : (calls : List LogCall) (r : Result Log ImportFault) → position is_unknown calls ≡ None
+    → MatchResult r (λ log. IsLogToJudge (lines_of calls) log.history log.calls.items) (IsFaultToJudge (lines_of calls))
     → MatchResult r (λ log. IsLogOfCalls calls log.history log.calls.items) (IsCallsFault calls)
-of_calls calls judged (Ok log) known to_judge is =
-    record { known = known; judged = judged; to_judge = to_judge; log = is }
-of_calls calls judged (Err (faults.Csv n)) known to_judge is = absurd is
-of_calls calls judged (Err faults.TooMany) known to_judge is =
-    let mapped = length-map (lines_of calls) (line_with to_judge.0) in
-    let same = as_many calls in
-    let many : MAX_LOG_CALLS < length (map (line_with to_judge.0) (lines_of calls)) = rw to_judge.2 at is in
-    (omega (arith, mapped, same, many), known_to_the_limit calls known)
-of_calls calls judged (Err (faults.NotACall n)) known to_judge is = absurd is
-of_calls calls judged (Err (faults.NumberOutOfRange n)) known to_judge is = (known, (judged, to_judge, is))
-of_calls calls judged (Err (faults.WrongAnswer n)) known to_judge is = (known, (judged, to_judge, is))
-of_calls calls judged (Err (faults.EndsEarly n)) known to_judge is = (known, (judged, to_judge, is))
-of_calls calls judged (Err (faults.Overlap n)) known to_judge is = (known, (judged, to_judge, is))
-of_calls calls judged (Err faults.Memory) known to_judge is = tt
+of_calls calls (Ok log) known is = record { known = known; log = is }
+of_calls calls (Err (faults.Csv n)) known is = absurd is
+of_calls calls (Err faults.TooMany) known is = absurd is
+of_calls calls (Err (faults.NotACall n)) known is = absurd is
+of_calls calls (Err (faults.NumberOutOfRange n)) known is = (known, is)
+of_calls calls (Err (faults.WrongAnswer n)) known is = (known, is)
+of_calls calls (Err (faults.EndsEarly n)) known is = (known, is)
+of_calls calls (Err (faults.Overlap n)) known is = (known, is)
+of_calls calls (Err faults.Memory) known is = tt

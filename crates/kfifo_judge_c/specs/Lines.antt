@@ -3,7 +3,8 @@ use Rattle.std.specs.Prelude.{ℕ, ◌≡◌, ◌+◌, ◌<◌, ◌≤◌, ◌||
 use Rattle.std.specs.Prelude.{eqb, ltb, length, map, position}
 use Rattle.std.specs.List.{enumerate_from}
 use Rattle.kfifo_model.specs.declared.calls.Answer.{Answer}
-use Rattle.kfifo_model.specs.declared.calls.Answer.TheVariants.{Done, Full, Got, Empty, Busy, Worn}
+use Rattle.kfifo_model.specs.declared.spellings.AnswerWord.{AnswerWord}
+use Rattle.kfifo_model.specs.declared.spellings.AnswerWord.TheVariants as words
 use Rattle.kfifo_model.specs.declared.calls.Call.{Call}
 use Rattle.kfifo_model.specs.declared.calls.End.{End}
 use Rattle.kfifo_model.specs.declared.calls.Op.{Op}
@@ -14,25 +15,21 @@ use Rattle.kfifo_import.specs.declared.log.ImportFault.TheVariants.{Csv, TooMany
 use Rattle.kfifo_import.specs.declared.log.ImportFault.TheVariants.{WrongAnswer, EndsEarly, Overlap, Memory}
 use Rattle.kfifo_import.specs.declared.log.Line.{Line}
 use Rattle.kfifo_model.specs.declared.logged.LoggedCall.{LoggedCall}
+use Rattle.kfifo_import.specs.Answers.{put_answer, take_answer}
 use Rattle.kfifo_import.specs.Fields.{small}
-use Rattle.kfifo_import.specs.Foreign.{AreToJudge}
-use Rattle.kfifo_import.specs.Logs.{IsImportFault, IsLogOf}
+use Rattle.kfifo_import.specs.Foreign.{HasFaultToJudge, IsLogToJudge}
 use Rattle.kfifo_judge_c.specs.declared.calls.LogCall.{LogCall}
 use Rattle.kfifo_judge_c.specs.declared.calls.TheConstants as answers
 use Rattle.kfifo_judge_c.specs.declared.calls.TheConstants.{PUT, GET, UNFINISHED}
 
--- the answer of a put; for a number that is none of a put's stands Empty, which is none of a put's either
-abbrev pub put_answer : ℕ → Answer
-put_answer n = cond (eqb n answers.DONE) Done (cond (eqb n answers.FULL) Full
-    (cond (eqb n answers.BUSY) Busy (cond (eqb n answers.WORN) Worn Empty)))
-
--- the answer of a get with this item; for a number that is none of a get's stands Done, which is none of a get's either
-abbrev pub take_answer : ℕ → ℕ → Answer
-take_answer n x = cond (eqb n answers.GOT) (Got (small x)) (cond (eqb n answers.EMPTY) Empty
-    (cond (eqb n answers.BUSY) Busy (cond (eqb n answers.WORN) Worn Done)))
+-- the word of an answer's number
+abbrev pub word_of : ℕ → AnswerWord
+word_of n = cond (eqb n answers.DONE) words.Done (cond (eqb n answers.FULL) words.Full
+    (cond (eqb n answers.GOT) words.Got (cond (eqb n answers.EMPTY) words.Empty
+    (cond (eqb n answers.BUSY) words.Busy (cond (eqb n answers.WORN) words.Worn words.Other)))))
 
 abbrev pub answer_of : LogCall → Answer
-answer_of c = cond (eqb c.op PUT) (put_answer c.answer) (take_answer c.answer c.item)
+answer_of c = cond (eqb c.op PUT) (put_answer (word_of c.answer)) (take_answer (word_of c.answer) (small c.item))
 
 abbrev pub op_of : LogCall → Op
 op_of c = cond (eqb c.op PUT) (Enqueue (small c.item)) Dequeue
@@ -67,14 +64,11 @@ AreKnownToTheLimit calls = (place : ℕ) → position is_unknown calls ≡ Some 
 -- The history is the record of these calls, to be judged, and this is what the log says of its calls.
 pub record IsLogOfCalls (calls : List LogCall) (h : List Call) (logged : List LoggedCall) : Type 0 where
   pub known : position is_unknown calls ≡ None
-  pub judged : List Line
-  pub to_judge : AreToJudge (lines_of calls) judged
-  pub log : IsLogOf judged h logged
+  pub log : IsLogToJudge (lines_of calls) h logged
 
 -- no call is unknown, and the lines of these calls, to be judged, have this fault
 abbrev pub IsFaultOfLines : List LogCall → ImportFault → Type 0
-IsFaultOfLines calls fault = (position is_unknown calls ≡ None)
-    × ((judged : List Line) × AreToJudge (lines_of calls) judged × IsImportFault judged fault)
+IsFaultOfLines calls fault = (position is_unknown calls ≡ None) × HasFaultToJudge (lines_of calls) fault
 
 -- Why the calls are no log: first of those that may be read one that is neither a put nor a get, then too many, and then
 -- the first fault of the lines.

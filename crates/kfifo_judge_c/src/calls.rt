@@ -1,11 +1,13 @@
 //! Calls as C has them, and the log that they are.
 ghost use Rattle.std.specs.Prelude.{◌≡◌, IfOk, MatchResult, position};
 ghost use Rattle.kfifo_judge_c.specs.Lines as specs;
-ghost use Rattle.kfifo_judge_c.specs.Lines.{IsCallsFault, IsLogOfCalls, end_of, item_of, op_of, put_answer};
-ghost use Rattle.kfifo_judge_c.specs.Lines.{answer_of, is_unknown, take_answer};
+ghost use Rattle.kfifo_judge_c.specs.Lines.{IsCallsFault, IsLogOfCalls, answer_of, end_of, is_unknown, item_of, op_of};
+ghost use Rattle.kfifo_judge_c.specs.Lines.{word_of};
 
-use kfifo_import::{ImportFault, Line, Log, MAX_LOG_CALLS, log_of, small, with_puttable_items};
-use kfifo_model::{Answer, Call, End, Op};
+use kfifo_import::{
+    ImportFault, Line, Log, MAX_LOG_CALLS, log_to_judge, put_answer, small, take_answer,
+};
+use kfifo_model::{Answer, AnswerWord, Call, End, Op};
 use std::alloc::{AllocError, Global};
 
 /// The operation of a put.
@@ -46,29 +48,18 @@ pub struct LogCall {
     pub answer: u8,
 }
 
-/// The answer of a put. For one that no put returns stands Empty, by which the record refuses the call.
-fn put_answer(answer: u8) -> Answer
-    ensures { result ≡ put_answer answer }
+/// The word of an answer, Other of a number that is none.
+fn word_of(answer: u8) -> AnswerWord
+    ensures { result ≡ word_of answer }
 {
     match answer {
-        DONE => Answer::Done,
-        FULL => Answer::Full,
-        BUSY => Answer::Busy,
-        WORN => Answer::Worn,
-        _ => Answer::Empty,
-    }
-}
-
-/// The answer of a get. For one that no get returns stands Done, by which the record refuses the call.
-fn take_answer(answer: u8, item: u64) -> Answer
-    ensures { result ≡ take_answer answer item }
-{
-    match answer {
-        GOT => Answer::Got(small(item)),
-        EMPTY => Answer::Empty,
-        BUSY => Answer::Busy,
-        WORN => Answer::Worn,
-        _ => Answer::Done,
+        DONE => AnswerWord::Done,
+        FULL => AnswerWord::Full,
+        GOT => AnswerWord::Got,
+        EMPTY => AnswerWord::Empty,
+        BUSY => AnswerWord::Busy,
+        WORN => AnswerWord::Worn,
+        _ => AnswerWord::Other,
     }
 }
 
@@ -76,10 +67,11 @@ fn take_answer(answer: u8, item: u64) -> Answer
 fn answer_of(call: LogCall) -> Answer
     ensures { result ≡ answer_of call }
 {
+    let word = word_of(call.answer);
     if call.op == PUT {
-        put_answer(call.answer)
+        put_answer(word)
     } else {
-        take_answer(call.answer, call.item)
+        take_answer(word, small(call.item))
     }
 }
 
@@ -168,6 +160,5 @@ pub(crate) fn log_from(alloc: Global, calls: &[LogCall]) -> Result<Log, ImportFa
         return Err(ImportFault::TooMany);
     }
     let lines = lines_of(alloc, calls)?;
-    let judged = with_puttable_items(alloc, lines)?;
-    log_of(alloc, judged)
+    log_to_judge(alloc, lines)
 }

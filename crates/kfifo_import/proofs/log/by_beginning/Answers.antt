@@ -1,4 +1,4 @@
-use Rattle.std.proofs.Common.{rules, map, ◌≡◌, ◌∙◌}
+use Rattle.std.proofs.Common.{map, ◌≡◌, ◌∙◌}
 use Rattle.kfifo_import.specs.Lines.{lines_by}
 use Rattle.kfifo_import.specs.Logs.{AreByFirst, calls_of, logged_call}
 use Rattle.kfifo_import.proofs.Order.{calls_by, logged_by}

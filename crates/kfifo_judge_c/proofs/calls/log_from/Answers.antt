@@ -1,15 +1,15 @@
-use Rattle.std.proofs.Common.{◌≡◌, ◌≤◌, ◌∙◌, List, None, length, subst, sym}
+use Rattle.std.proofs.Common.{◌≡◌, ◌≤◌, ◌∙◌, List, MatchResult, None, length, subst, sym}
 use Rattle.std.specs.Prelude.{position}
 use Rattle.kfifo_import.specs.declared.log.Line.{Line}
-use Rattle.kfifo_import.specs.Foreign.{AreToJudge}
+use Rattle.kfifo_import.specs.Foreign.{IsFaultToJudge, IsLogToJudge}
 use Rattle.kfifo_import.specs.declared.log.TheConstants.{MAX_LOG_CALLS}
 use Rattle.kfifo_judge_c.specs.Lines.{is_unknown, lines_of}
 use Rattle.kfifo_judge_c.proofs.Logs.{all_known, few, of_calls}
 use Rattle.kfifo_judge_c.proofs.calls.log_from.Goals as goal
 use Rattle.kfifo_judge_c.proofs.calls.log_from.Goals.{in-Some+else-place-lt-MAX_LOG_CALLS, in_default}
 
-pub with_puttable_items-requires : goal.with_puttable_items-requires
-with_puttable_items-requires c =
+pub log_to_judge-requires : goal.log_to_judge-requires
+log_to_judge-requires c =
     subst (λ (lines : List Line). length lines ≤ MAX_LOG_CALLS) (sym c.in_ok-lines.ensures)
     (few c.args.calls.now c.if-calls-gt-MAX_LOG_CALLS.false)
 
@@ -21,6 +21,6 @@ returns c =
           w.if-place-lt-MAX_LOG_CALLS.false c.if-calls-gt-MAX_LOG_CALLS.false
       | in_default w ↦ sym c.first_unknown.ensures ∙ w.in_default.is
     ] in
-    let to_judge : AreToJudge (lines_of calls) c.in_ok-judged.judged.items =
-    subst (λ (lines : List Line). AreToJudge lines c.in_ok-judged.judged.items) c.in_ok-lines.ensures c.in_ok-judged.ensures in
-    of_calls calls c.in_ok-judged.judged.items c.log_of.result known to_judge c.log_of.ensures
+    let S : List Line → Type 0 = λ lines. MatchResult c.log_to_judge.result
+    (λ log. IsLogToJudge lines log.history log.calls.items) (IsFaultToJudge lines) in
+    of_calls calls c.log_to_judge.result known (subst S c.in_ok-lines.ensures c.log_to_judge.ensures)
