@@ -81,32 +81,24 @@ enum class Answer : std::uint8_t {
 };
 
 // What a get may return where a std::optional says too little, as for a queue that may answer busy.
-struct Popped {
+struct Got {
     Answer answer = Answer::empty;
     std::uint64_t item = 0; // only of Answer::got
 };
 
-// Which threads may make which calls. With one_of_each two threads run: thread 0 gets, and thread 1 puts.
-enum class Callers {
-    any,          // each thread may put and get
-    one_producer, // thread 1 alone puts, and all others get
-    one_consumer, // thread 0 alone gets, and all others put
-    one_of_each
-};
-
-// What a check does. Each round draws one value of `threads`, `calls` and `capacities`, so a value that stands twice is
-// drawn twice as often.
+// What a check does. The options that the checks of Rust and Python have too have their names and defaults.
 struct CheckOptions {
     std::string name = "queue"; // of the queue, in the report
     std::uint32_t k = 1;        // a get may return any of the k oldest items, 1 to 64; 1 is plain FIFO
-    double seconds = 5;         // how long rounds go on; 0: until `rounds` is reached
-    std::uint64_t rounds = 0;   // how many rounds there are; 0: until `seconds` are over
-    std::uint64_t seed = 0;     // what the rounds are drawn from; 0: another seed in each run, which the report names
-    std::vector<unsigned> threads = {3, 4, 4, 8};     // 2 to 64 in each round
-    std::vector<unsigned> calls = {50, 100, 200};     // of each thread in a round, at least 1
-    std::vector<unsigned> capacities = {2, 4, 8, 64}; // for a maker that takes a capacity, at least 1
-    Callers callers = Callers::any;
-    std::uint32_t repeated = 0;   // 0: each put has an item of its own; n: items repeat, drawn from 1 to n
+    double seconds = 5;         // when rounds end; the first is made in any case
+    std::optional<std::uint64_t> rounds = std::nullopt;   // after how many they end, where the time is not up before
+    std::optional<std::uint64_t> seed = std::nullopt;     // what they are drawn from; none: another one in each check
+    std::optional<unsigned> threads = std::nullopt;       // 2 to 64; none: 3, 4 or 8, drawn for each round
+    std::optional<unsigned> calls = std::nullopt;         // of each thread in a round; none: 50, 100 or 200
+    std::vector<unsigned> capacities = {2, 4, 8, 64};     // for a maker that takes one: drawn for each round
+    bool one_producer = false;                            // whether the last thread alone puts, and puts only
+    bool one_consumer = false;                            // whether thread 0 alone gets, and gets only
+    std::optional<std::uint32_t> repeated = std::nullopt; // from how many items puts draw; none: each has its own
     bool signals = true;          // in one round of four a timer's signal interrupts threads inside calls
     bool undecided_fails = false; // whether a round without a verdict is a failure; it is counted in any case
     bool least = false;           // whether the least k of some rounds is looked for, as is always done where k > 1
@@ -344,6 +336,16 @@ class Clock {
 
 // ---- The design of a round ----
 
+// What the threads and the calls of a round are drawn from: one that stands twice is drawn twice as often.
+inline std::vector<unsigned> thread_counts(const CheckOptions &of) {
+    if (of.one_producer && of.one_consumer) return {2};
+    return of.threads ? std::vector<unsigned>{*of.threads} : std::vector<unsigned>{3, 4, 4, 8};
+}
+inline std::vector<unsigned> call_counts(const CheckOptions &of) {
+    return of.calls ? std::vector<unsigned>{*of.calls} : std::vector<unsigned>{50, 100, 200};
+}
+inline unsigned most(const std::vector<unsigned> &counts) { return *std::max_element(counts.begin(), counts.end()); }
+
 enum class Mix { alternating, apart, bursts, nearly_empty, nearly_full, half_full };
 
 struct Design {
@@ -352,46 +354,45 @@ struct Design {
     unsigned capacity = 0; // 0: the maker takes none
     unsigned filled = 0;   // how many items are put before the threads begin
     Mix mix = Mix::alternating;
-    Callers callers = Callers::any;
+    bool one_producer = false, one_consumer = false;
     bool pauses = false;    // 0 to 50 spins before each call
     bool pinned = false;    // each thread to a processor
     bool signals = false;   // a timer's signal keeps threads inside their calls
     bool busy = false;      // other programs use the processors too
     std::uint64_t seed = 0; // what the threads draw from
 
-    bool pushes(unsigned thread) const noexcept { return callers == Callers::any || is_pusher(thread); }
-    bool is_pusher(unsigned thread) const noexcept {
-        return callers == Callers::one_consumer ? thread != 0 : thread == 1;
-    }
-    unsigned pushers() const noexcept {
-        return callers == Callers::any ? threads : callers == Callers::one_consumer ? threads - 1 : 1;
-    }
+    // Whether each thread keeps to one kind of call.
+    bool is_split() const noexcept { return one_producer || one_consumer; }
+    bool is_putter(unsigned thread) const noexcept { return one_producer ? thread == threads - 1 : thread != 0; }
+    bool puts(unsigned thread) const noexcept { return !is_split() || is_putter(thread); }
+    unsigned putters() const noexcept { return one_producer ? 1 : one_consumer ? threads - 1 : threads; }
     // How many items a thread puts before the round begins, so that all put `filled` together or a few more.
-    unsigned fills(unsigned thread) const noexcept { return pushes(thread) ? (filled + pushers() - 1) / pushers() : 0; }
+    unsigned fills(unsigned thread) const noexcept { return puts(thread) ? (filled + putters() - 1) / putters() : 0; }
 };
 
 inline std::string text(const Design &design) {
     static const char *const mixes[] = {"alternating", "apart", "bursts", "nearly empty", "nearly full", "half full"};
-    static const char *const callers[] = {"", "one producer", "one consumer", "one producer and one consumer"};
+    static const char *const callers[] = {"one producer", "one consumer", "one producer and one consumer"};
+    const int split = (design.one_producer ? 1 : 0) + (design.one_consumer ? 2 : 0);
     return std::to_string(design.threads) + " threads, " + std::to_string(design.calls) + " calls each, " +
-           (design.callers == Callers::any ? mixes[int(design.mix)] : callers[int(design.callers)]) + ", " +
+           (split == 0 ? mixes[int(design.mix)] : callers[split - 1]) + ", " +
            (design.capacity ? "capacity " + std::to_string(design.capacity) + ", " : "") +
            (design.pauses ? "pauses" : "no pauses") + (design.pinned ? ", pinned" : "") +
            (design.signals ? ", interrupted by signals" : "") + (design.busy ? ", the machine was busy" : "");
 }
 
-// Says before each call of a thread whether it is a push.
+// Says before each call of a thread whether it is a put.
 class Choice {
   public:
     Choice(const Design &of, unsigned thread, Random &from)
-        : design(of), random(from), is_odd(thread % 2 == 1), is_push(from.below(2) == 1) {
-        pushes_only = design.callers != Callers::any && design.is_pusher(thread);
+        : design(of), random(from), is_odd(thread % 2 == 1), is_put(from.below(2) == 1) {
+        puts_only = design.is_split() && design.is_putter(thread);
     }
 
     bool next() noexcept {
-        if (design.callers != Callers::any) return pushes_only;
+        if (design.is_split()) return puts_only;
         switch (design.mix) {
-        case Mix::alternating: return is_push = !is_push;
+        case Mix::alternating: return is_put = !is_put;
         case Mix::apart: return is_odd;
         case Mix::nearly_empty: return random.below(8) < 3;
         case Mix::nearly_full: return random.below(8) < 5;
@@ -399,24 +400,24 @@ class Choice {
         case Mix::bursts: break;
         }
         if (left-- == 0) {
-            is_push = !is_push;
+            is_put = !is_put;
             left = unsigned(random.below(16));
         }
-        return is_push;
+        return is_put;
     }
 
   private:
     const Design &design;
     Random &random;
-    bool is_odd, is_push, pushes_only = false;
+    bool is_odd, is_put, puts_only = false;
     unsigned left = 0;
 };
 
 // ---- What the child process and its parent share ----
 
-// What a thread is doing, in one word: 4 bits for this, 24 for the item of a push, 20 for how many calls of its log are
+// What a thread is doing, in one word: 4 bits for this, 24 for the item of a put, 20 for how many calls of its log are
 // complete, and 16 for the round.
-enum class Doing : std::uint8_t { nothing, push, pop, making, destroying };
+enum class Doing : std::uint8_t { nothing, put, get, making, destroying };
 
 inline std::uint64_t doing(Doing what, std::uint64_t item, std::uint64_t complete, std::uint64_t round) noexcept {
     return std::uint64_t(what) | item << 4 | complete << 28 | round << 48;
@@ -453,7 +454,7 @@ struct Board {
     std::atomic<bool> has_note{false};
     std::atomic<std::uint64_t> rounds{0}, calls{0}, undecided{0}, sampled{0}, overlapping{0}, pulse{0};
     std::atomic<std::uint32_t> least_rounds{0}, least_at_least{0}, least_at_most{0}, least_unknown{0};
-    std::atomic<bool> has_ticks{false}, has_got{false}; // whether times are ticks, and whether any pop took an item
+    std::atomic<bool> has_ticks{false}, has_got{false}; // whether times are ticks, and whether any get took an item
     char note[512] = {};                                // of an exception: what it says
     Lane lanes[MAX_THREADS + 1];
     Slot slots[SLOTS];
@@ -523,7 +524,7 @@ class Log {
     void begin(kfifo_judge_op op, std::uint32_t item) noexcept {
         *next = {0, 0, item, thread_, std::uint8_t(op), KFIFO_JUDGE_UNFINISHED};
         next->first = clock.before(latest);
-        const Doing what = op == KFIFO_JUDGE_PUT ? Doing::push : Doing::pop;
+        const Doing what = op == KFIFO_JUDGE_PUT ? Doing::put : Doing::get;
         lane.now.store(doing(what, item, complete, number), std::memory_order_release);
         Clock::begin();
     }
@@ -552,10 +553,10 @@ class Log {
 
 inline Answer answer_of(bool done) noexcept { return done ? Answer::done : Answer::full; }
 inline Answer answer_of(Answer answer) noexcept { return answer; }
-inline Popped popped_of(const Popped &popped) noexcept { return popped; }
+inline Got got_of(const Got &got) noexcept { return got; }
 template <class Item, class = std::enable_if_t<std::is_integral_v<Item> || std::is_enum_v<Item>>>
-Popped popped_of(const std::optional<Item> &item) noexcept {
-    return item ? Popped{Answer::got, static_cast<std::uint64_t>(*item)} : Popped{Answer::empty, 0};
+Got got_of(const std::optional<Item> &item) noexcept {
+    return item ? Got{Answer::got, static_cast<std::uint64_t>(*item)} : Got{Answer::empty, 0};
 }
 
 // What a thread does in a round.
@@ -563,17 +564,17 @@ struct Task {
     const Design &design;
     unsigned thread;
     std::uint32_t first_item; // the thread's items begin here
-    std::uint32_t repeated;   // or, where items repeat, are drawn from 1 to this
+    std::uint32_t repeated;   // or, where this is not 0, are drawn from 1 to this
 };
 
-// A queue, with what each thread gives to push and pop.
+// A queue, with what each thread gives to put and get.
 class Instance {
   public:
     virtual ~Instance() = default;
     // Puts the items that fill the queue, and returns how many were tried.
     virtual std::uint32_t fill(Log &log, const Task &task, Random &random) = 0;
     virtual void work(Log &log, const Task &task, Random &random, std::uint32_t used) = 0;
-    // Pops until the queue is empty. False where it did not become so within so many calls.
+    // Gets until the queue is empty. False where it did not become so within so many calls.
     virtual bool drain(Log &log, unsigned calls) = 0;
 };
 
@@ -601,33 +602,32 @@ template <class Make> struct Held {
 // For queues without handles: the thread's calls go to the queue itself.
 struct NoHandles {};
 
-// Whether what a push or a pop returns tells what it did.
+// Whether what a put or a get returns tells what it did.
 template <class Result, class = void> constexpr bool tells_put = false;
 template <class Result>
 constexpr bool tells_put<Result, std::void_t<decltype(answer_of(std::declval<Result>()))>> = true;
-template <class Result, class = void> constexpr bool tells_take = false;
-template <class Result>
-constexpr bool tells_take<Result, std::void_t<decltype(popped_of(std::declval<Result>()))>> = true;
+template <class Result, class = void> constexpr bool tells_get = false;
+template <class Result> constexpr bool tells_get<Result, std::void_t<decltype(got_of(std::declval<Result>()))>> = true;
 
-// Whether push and pop can be called with a queue, or with a handle, of this type.
-template <class Target, class Push, class Pop> constexpr bool can_call() {
-    constexpr bool pushes = std::is_invocable_v<Push &, Target &, std::uint32_t>;
-    constexpr bool pops = std::is_invocable_v<Pop &, Target &>;
-    static_assert(pushes, "push has to take (queue, std::uint32_t item), or the handle in place of the queue");
-    static_assert(pops, "pop has to take (queue), or the handle in place of the queue");
-    if constexpr (pushes && pops) {
-        constexpr bool puts = tells_put<std::invoke_result_t<Push &, Target &, std::uint32_t>>;
-        constexpr bool takes = tells_take<std::invoke_result_t<Pop &, Target &>>;
-        static_assert(puts, "push has to return bool, whether the item is in the queue, or kfifo::Answer");
-        static_assert(takes, "pop has to return a std::optional of a whole number, or kfifo::Popped");
-        return puts && takes;
+// Whether put and get can be called with a queue, or with a handle, of this type.
+template <class Target, class Put, class Get> constexpr bool can_call() {
+    constexpr bool can_put = std::is_invocable_v<Put &, Target &, std::uint32_t>;
+    constexpr bool can_get = std::is_invocable_v<Get &, Target &>;
+    static_assert(can_put, "put has to take (queue, std::uint32_t item), or the handle in place of the queue");
+    static_assert(can_get, "get has to take (queue), or the handle in place of the queue");
+    if constexpr (can_put && can_get) {
+        constexpr bool puts = tells_put<std::invoke_result_t<Put &, Target &, std::uint32_t>>;
+        constexpr bool gets = tells_get<std::invoke_result_t<Get &, Target &>>;
+        static_assert(puts, "put has to return bool, whether the item is in the queue, or kfifo::Answer");
+        static_assert(gets, "get has to return a std::optional of a whole number, or kfifo::Got");
+        return puts && gets;
     }
     return false;
 }
 
 // Whether the functions of a check can be called as it calls them. What cannot is told by one line, and nothing of it
 // is compiled further.
-template <class Make, class Handle, class Push, class Pop> constexpr bool can_check() {
+template <class Make, class Handle, class Put, class Get> constexpr bool can_check() {
     constexpr bool makes = std::is_invocable_v<Make &, std::size_t> || std::is_invocable_v<Make &>;
     static_assert(makes, "the maker has to take (std::size_t capacity) or nothing, and to return a new queue, or a "
                          "std::unique_ptr or std::shared_ptr to one");
@@ -639,14 +639,14 @@ template <class Make, class Handle, class Push, class Pop> constexpr bool can_ch
         if constexpr (is_queue) {
             using Queue = std::remove_reference_t<decltype(inside(std::declval<Made &>()))>;
             if constexpr (std::is_same_v<Handle, NoHandles>) {
-                return can_call<Queue, Push, Pop>();
+                return can_call<Queue, Put, Get>();
             } else {
                 constexpr bool hands = std::is_invocable_v<Handle &, Queue &, unsigned>;
                 static_assert(hands,
-                              "handle has to take (queue, unsigned thread), and to return what push and pop get");
+                              "handle has to take (queue, unsigned thread), and to return what put and get take");
                 if constexpr (hands) {
                     using Own = std::remove_reference_t<std::invoke_result_t<Handle &, Queue &, unsigned>>;
-                    return can_call<std::remove_reference_t<decltype(inside(std::declval<Own &>()))>, Push, Pop>();
+                    return can_call<std::remove_reference_t<decltype(inside(std::declval<Own &>()))>, Put, Get>();
                 }
             }
         }
@@ -654,7 +654,7 @@ template <class Make, class Handle, class Push, class Pop> constexpr bool can_ch
     return false;
 }
 
-template <class Make, class Handle, class Push, class Pop> class Subject final : public Instance {
+template <class Make, class Handle, class Put, class Get> class Subject final : public Instance {
     using Queue = std::remove_reference_t<decltype(std::declval<Held<Make> &>().queue())>;
     struct Own { // the handle of a thread, which need not be movable either
         Own(Handle &handle, Queue &queue, unsigned thread) : made(handle(queue, thread)) {}
@@ -665,8 +665,8 @@ template <class Make, class Handle, class Push, class Pop> class Subject final :
     using Owned = std::conditional_t<HAS_HANDLES, Own, None>;
 
   public:
-    Subject(Make &make, Handle &handle, Push &push, Pop &pop, std::size_t capacity, unsigned threads)
-        : held(make, capacity), push_(push), pop_(pop) {
+    Subject(Make &make, Handle &handle, Put &put, Get &get, std::size_t capacity, unsigned threads)
+        : held(make, capacity), put_(put), get_(get) {
         if constexpr (HAS_HANDLES)
             for (unsigned i = 0; i < threads; i++) handles.emplace_back(new Owned(handle, held.queue(), i));
         else
@@ -715,23 +715,23 @@ template <class Make, class Handle, class Push, class Pop> class Subject final :
     void put(Log &log, unsigned thread, std::uint32_t item) {
         auto &to = target(thread);
         log.begin(KFIFO_JUDGE_PUT, item);
-        const auto answer = push_(to, item);
+        const auto answer = put_(to, item);
         log.end();
         log.keep(answer_of(answer), 0);
     }
     Answer get(Log &log, unsigned thread) {
         auto &from = target(thread);
         log.begin(KFIFO_JUDGE_GET, 0);
-        const auto answer = pop_(from);
+        const auto answer = get_(from);
         log.end();
-        const Popped popped = popped_of(answer);
-        log.keep(popped.answer, popped.item);
-        return popped.answer;
+        const Got got = got_of(answer);
+        log.keep(got.answer, got.item);
+        return got.answer;
     }
 
     Held<Make> held;
-    Push &push_;
-    Pop &pop_;
+    Put &put_;
+    Get &get_;
     std::vector<std::unique_ptr<Owned>> handles; // destroyed before the queue
 };
 
@@ -953,7 +953,7 @@ class Watcher {
         lane.spent = spent;
         lane.lasted = last.ticks * TICK;
         // To make or to destroy a queue may take longer than a call.
-        const bool is_call = what_of(now) == Doing::push || what_of(now) == Doing::pop;
+        const bool is_call = what_of(now) == Doing::put || what_of(now) == Doing::get;
         return (is_call && spent >= limit) || last.ticks * TICK >= 10 * limit;
     }
     static std::uint64_t processor_time(const Lane &lane) noexcept {
@@ -1005,7 +1005,7 @@ inline std::vector<kfifo_judge_call> unfinished_calls_of(const SharedMemory &mem
     for (unsigned lane = 0; lane < memory.lanes(); lane++) {
         const std::uint64_t now = memory.board().lanes[lane].now.load(std::memory_order_acquire);
         if (now >> 48 != (memory.board().slots[slot].number & 0xffff)) continue;
-        const bool is_in_call = what_of(now) == Doing::push || what_of(now) == Doing::pop;
+        const bool is_in_call = what_of(now) == Doing::put || what_of(now) == Doing::get;
         const kfifo_judge_call *log = memory.log(slot, lane);
         calls.insert(calls.end(), log, log + complete_of(now) + is_in_call);
         if (is_in_call) calls.back().answer = KFIFO_JUDGE_UNFINISHED;
@@ -1090,8 +1090,8 @@ class Conductor {
     }
 
     bool is_over() const noexcept {
-        return (options.seconds > 0 && double(nanoseconds() - began) >= options.seconds * 1e9) ||
-               (options.rounds > 0 && played >= options.rounds);
+        if (played == 0) return false;
+        return double(nanoseconds() - began) >= options.seconds * 1e9 || (options.rounds && played >= *options.rounds);
     }
 
     // Plays some rounds, at first one and then more, and returns how many.
@@ -1127,10 +1127,10 @@ class Conductor {
 
     Design draw() {
         Design design;
-        design.callers = options.callers;
-        design.threads = random.one_of(options.threads);
-        if (options.callers == Callers::one_of_each) design.threads = 2;
-        design.calls = random.one_of(options.calls);
+        design.one_producer = options.one_producer;
+        design.one_consumer = options.one_consumer;
+        design.threads = random.one_of(thread_counts(options));
+        design.calls = random.one_of(call_counts(options));
         design.capacity = random.one_of(options.capacities);
         if (!settings.takes_capacity) design.capacity = 0;
         design.mix = Mix(random.below(6));
@@ -1146,7 +1146,7 @@ class Conductor {
             busy_rounds--;
             design.busy = true;
             design.pinned = false;
-            design.calls = *std::max_element(options.calls.begin(), options.calls.end());
+            design.calls = most(call_counts(options));
         }
         return design;
     }
@@ -1195,7 +1195,7 @@ class Conductor {
         note_clock(board.lanes[thread]);
         run_on(design.pinned ? std::vector<int>{allowed[thread % allowed.size()]} : allowed);
         Random own(design.seed + std::uint64_t(thread) * 0x632be59bd9b4e019);
-        const Task task{design, thread, kept.next_item + thread * settings.room, options.repeated};
+        const Task task{design, thread, kept.next_item + thread * settings.room, options.repeated.value_or(0)};
         Log log(board.lanes[thread], memory.log(index, thread), clock, thread, slot.number);
         std::uint32_t used = 0;
         const std::string who = "thread " + std::to_string(thread);
@@ -1239,7 +1239,7 @@ class Conductor {
         bool is_empty = false;
         {
             Log log(board.lanes[lane], memory.log(index, lane), clock, 0, slot.number);
-            completes([&] { is_empty = kept.queue->drain(log, settings.drained); }, "a pop that empties the queue");
+            completes([&] { is_empty = kept.queue->drain(log, settings.drained); }, "a get that empties the queue");
             slot.complete[lane] = log.length();
         }
         if (!is_empty && !board.has_note) destroy(kept);
@@ -1402,11 +1402,16 @@ class Reporter {
         while (report.text.back() == '\n') report.text.pop_back();
     }
 
+    // After how many tries the search gave up in the rounds without a verdict.
+    std::string tried() const {
+        return report.undecided == 0 ? "" : " after at most " + std::to_string(settings.options.tries) + " tries each";
+    }
     // The last line.
     std::string counts() const {
         std::string text = std::to_string(report.rounds) + " rounds, " + std::to_string(report.calls) + " calls, " +
                            rounded(100 * report.overlapping, 0) + " % overlapping, " +
-                           std::to_string(report.undecided) + " undecided, seed " + std::to_string(report.seed);
+                           std::to_string(report.undecided) + " undecided" + tried() + ", seed " +
+                           std::to_string(report.seed);
         if (report.least_at_least == 0) return text;
         text += "; of a sample the least k is at least " + std::to_string(report.least_at_least) + " and at most ";
         return text + (report.least_at_most > 0 ? std::to_string(report.least_at_most) : "unknown");
@@ -1493,7 +1498,7 @@ class Reporter {
         const std::uint64_t now = board.lanes[lane].now;
         const std::string thread = "thread " + std::to_string(lane == settings.threads ? 0 : lane) + " was in ";
         switch (what_of(now)) {
-        case Doing::push: return thread + "a put of item " + std::to_string(item_of(now));
+        case Doing::put: return thread + "a put of item " + std::to_string(item_of(now));
         case Doing::making: return thread + "the maker of the queue";
         case Doing::destroying: return thread + "the destructor of the queue";
         default: return thread + "a get" + (lane == settings.threads ? ", to empty the queue after the round" : "");
@@ -1572,37 +1577,34 @@ inline void refuse_if(bool is_wrong, const char *why) {
 }
 
 inline void check_options(const CheckOptions &of) {
-    const auto all = [](const std::vector<unsigned> &values, unsigned least, unsigned most) {
-        return !values.empty() &&
-               std::all_of(values.begin(), values.end(), [=](unsigned it) { return least <= it && it <= most; });
-    };
     refuse_if(of.name.empty(), "the name is not empty");
     refuse_if(of.k < 1 || of.k > 64, "k is 1 to 64");
-    refuse_if(!all(of.threads, 2, MAX_THREADS), "threads are 2 to 64");
-    refuse_if(!all(of.calls, 1, 30000), "the calls of a thread are 1 to 30,000");
-    refuse_if(!all(of.capacities, 1, 30000), "a capacity is 1 to 30,000");
+    refuse_if(of.threads && (*of.threads < 2 || *of.threads > MAX_THREADS), "threads are 2 to 64");
+    refuse_if(of.one_producer && of.one_consumer && of.threads.value_or(2) != 2,
+              "with one producer and one consumer there are 2 threads");
+    refuse_if(of.calls && (*of.calls < 1 || *of.calls > 30000), "the calls of a thread are 1 to 30,000");
+    refuse_if(of.capacities.empty(), "there is no capacity: a capacity is 1 to 30,000");
+    for (const unsigned capacity : of.capacities)
+        refuse_if(capacity < 1 || capacity > 30000, "a capacity is 1 to 30,000");
     refuse_if(!(of.seconds >= 0 && of.seconds < 1e9), "the seconds are 0 to 1,000,000,000");
-    refuse_if(of.seconds == 0 && of.rounds == 0, "there is neither a limit of time nor one of rounds");
+    refuse_if(of.rounds && *of.rounds == 0, "the rounds are at least 1");
     refuse_if(!(of.hang_seconds > 0 && of.hang_seconds < 1e6), "the time of a hang is more than 0");
-    refuse_if(of.repeated > MAX_ITEM, "repeated is at most 16,777,215");
-    refuse_if(int(of.callers) < 0 || int(of.callers) > int(Callers::one_of_each), "there are no such callers");
+    refuse_if(of.repeated && (*of.repeated < 1 || *of.repeated > MAX_ITEM), "repeated is 1 to 16,777,215");
 }
 
 inline Settings settings_of(const CheckOptions &options, bool takes_capacity) {
     check_options(options);
     Settings of;
     of.options = options;
-    of.seed = options.seed != 0 ? options.seed : std::random_device()();
+    of.seed = options.seed ? *options.seed : std::random_device()();
     of.takes_capacity = takes_capacity;
-    const auto most = [](const std::vector<unsigned> &values) {
-        return *std::max_element(values.begin(), values.end());
-    };
-    of.threads = options.callers == Callers::one_of_each ? 2 : most(options.threads);
+    of.threads = most(thread_counts(options));
     const unsigned filled = (takes_capacity ? most(options.capacities) : FILLED_WITHOUT_CAPACITY) / 2 + 1;
-    of.room = most(options.calls) + filled;
-    const std::size_t pushes = std::size_t(of.threads) * most(options.calls) + filled + of.threads;
-    of.drained = unsigned(std::min(pushes, MAX_CALLS) + BUSY_GETS);
-    refuse_if(2 * pushes + BUSY_GETS > MAX_CALLS,
+    const unsigned calls = most(call_counts(options));
+    of.room = calls + filled;
+    const std::size_t puts = std::size_t(of.threads) * calls + filled + of.threads;
+    of.drained = unsigned(std::min(puts, MAX_CALLS) + BUSY_GETS);
+    refuse_if(2 * puts + BUSY_GETS > MAX_CALLS,
               "a round has too many calls: threads times calls, with half a capacity, are at most 32,000");
     return of;
 }
@@ -1686,13 +1688,13 @@ inline CheckReport run_apart(const Settings &settings, const Maker &make, const 
     return Reporter(settings, memory).make(seconds_since(began), status);
 }
 
-template <class Make, class Handle, class Push, class Pop>
-CheckReport run(Make &make, Handle &handle, Push &push, Pop &pop, const CheckOptions &options) {
-    if constexpr (can_check<Make, Handle, Push, Pop>()) {
+template <class Make, class Handle, class Put, class Get>
+CheckReport run(Make &make, Handle &handle, Put &put, Get &get, const CheckOptions &options) {
+    if constexpr (can_check<Make, Handle, Put, Get>()) {
         const Settings settings = settings_of(options, std::is_invocable_v<Make &, std::size_t>);
         const SharedMemory memory(settings);
         const Maker maker = [&](std::size_t capacity, unsigned threads) -> std::unique_ptr<Instance> {
-            return std::make_unique<Subject<Make, Handle, Push, Pop>>(make, handle, push, pop, capacity, threads);
+            return std::make_unique<Subject<Make, Handle, Put, Get>>(make, handle, put, get, capacity, threads);
         };
         return options.in_process ? run_here(settings, maker, memory) : run_apart(settings, maker, memory);
     } else {
@@ -1709,34 +1711,34 @@ CheckReport run(Make &make, Handle &handle, Push &push, Pop &pop, const CheckOpt
 //
 // make() or make(capacity) returns a new queue, or a std::unique_ptr or std::shared_ptr to one. It need not be movable,
 // and may hold more or fewer items than the capacity: a wrong Full is not judged.
-// push(queue, item), with a std::uint32_t from 1 to 16,777,215, returns bool or kfifo::Answer.
-// pop(queue) returns a std::optional of a whole number, or kfifo::Popped.
-// Many threads call push and pop at once. What they call must return: a push to a full queue says so and does not wait.
-template <class Make, class Push, class Pop>
-CheckReport run_check(Make make, Push push, Pop pop, const CheckOptions &options = {}) {
+// put(queue, item), with a std::uint32_t from 1 to 16,777,215, returns bool or kfifo::Answer.
+// get(queue) returns a std::optional of a whole number, or kfifo::Got.
+// Many threads call put and get at once. What they call must return: a put to a full queue says so and does not wait.
+template <class Make, class Put, class Get>
+CheckReport run_check(Make make, Put put, Get get, const CheckOptions &options = {}) {
     checking::NoHandles none;
-    return checking::run(make, none, push, pop, options);
+    return checking::run(make, none, put, get, options);
 }
 
-// The same for a queue whose threads call through handles: handle(queue, thread) returns what push and pop get in place
+// The same for a queue whose threads call through handles: handle(queue, thread) returns what put and get take in place
 // of the queue. Handles are made with the queue, one for each thread from 0 up, and destroyed before it.
-template <class Make, class Handle, class Push, class Pop>
-CheckReport run_check_with_handles(Make make, Handle handle, Push push, Pop pop, const CheckOptions &options = {}) {
-    return checking::run(make, handle, push, pop, options);
+template <class Make, class Handle, class Put, class Get>
+CheckReport run_check_with_handles(Make make, Handle handle, Put put, Get get, const CheckOptions &options = {}) {
+    return checking::run(make, handle, put, get, options);
 }
 
 // Runs rounds as run_check does, and throws CheckFailed where they did not pass.
-template <class Make, class Push, class Pop>
-CheckReport check(Make make, Push push, Pop pop, const CheckOptions &options = {}) {
-    CheckReport report = run_check(std::move(make), std::move(push), std::move(pop), options);
+template <class Make, class Put, class Get>
+CheckReport check(Make make, Put put, Get get, const CheckOptions &options = {}) {
+    CheckReport report = run_check(std::move(make), std::move(put), std::move(get), options);
     if (!report.passed()) throw CheckFailed(std::move(report));
     return report;
 }
 
-template <class Make, class Handle, class Push, class Pop>
-CheckReport check_with_handles(Make make, Handle handle, Push push, Pop pop, const CheckOptions &options = {}) {
+template <class Make, class Handle, class Put, class Get>
+CheckReport check_with_handles(Make make, Handle handle, Put put, Get get, const CheckOptions &options = {}) {
     CheckReport report =
-        run_check_with_handles(std::move(make), std::move(handle), std::move(push), std::move(pop), options);
+        run_check_with_handles(std::move(make), std::move(handle), std::move(put), std::move(get), options);
     if (!report.passed()) throw CheckFailed(std::move(report));
     return report;
 }

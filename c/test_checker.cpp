@@ -23,7 +23,6 @@
 
 namespace {
 
-using kfifo::Callers;
 using kfifo::CheckOptions;
 using kfifo::CheckReport;
 using kfifo::Outcome;
@@ -68,7 +67,7 @@ kfifo::Answer answer_of(kfifo::Put put) {
     }
 }
 
-kfifo::Popped popped_of(const kfifo::Taken &taken) {
+kfifo::Got got_of(const kfifo::Taken &taken) {
     if (taken.item) return {kfifo::Answer::got, *taken.item};
     switch (taken.why) {
     case kfifo::Miss::empty: return {kfifo::Answer::empty, 0};
@@ -86,7 +85,7 @@ CheckReport run_kfifo(const CheckOptions &options) {
         },
         [](kfifo::Queue &queue, unsigned thread) { return queue.pass(thread); },
         [](kfifo::Pass &pass, std::uint32_t item) { return answer_of(pass.enqueue(item)); },
-        [](kfifo::Pass &pass) { return popped_of(pass.dequeue()); }, options);
+        [](kfifo::Pass &pass) { return got_of(pass.dequeue()); }, options);
 }
 
 // ---- Queues of values and of cells whose generations change all the time ----
@@ -190,7 +189,7 @@ template <class Kind> class Changing {
         return counted(thread, answer_of(kind.give(&passes[thread], item)));
     }
 
-    kfifo::Popped take(unsigned thread) {
+    kfifo::Got take(unsigned thread) {
         std::uint64_t value = 0;
         const kfifo::Answer answer = counted(thread, answer_of(kind.take(&passes[thread], &value)));
         return {answer, value};
@@ -212,7 +211,7 @@ template <class Kind> class Changing {
 template <class Kind, std::uint32_t k, unsigned threads> CheckReport run_changing(const CheckOptions &options) {
     CheckOptions of_these = options;
     of_these.k = k + threads - 1;
-    of_these.threads = {threads};
+    of_these.threads = threads;
     of_these.capacities = {2, 4, 8, 16};
     of_these.undecided_fails = true;
     using Queue = Changing<Kind>;
@@ -247,10 +246,10 @@ constexpr Run MOODYCAMEL = nullptr;
 
 struct Row {
     const char *name;
-    unsigned faults;        // what may be found, of which one must be; NOTHING of a right queue
-    Run run;                // null where the library is not there
-    const char *needs = ""; // the package of that library
-    Callers callers = Callers::any;
+    unsigned faults;             // what may be found, of which one must be; NOTHING of a right queue
+    Run run;                     // null where the library is not there
+    const char *needs = "";      // the package of that library
+    bool is_one_of_each = false; // one producer and one consumer
     std::uint32_t k = 1;
     bool is_hard = false; // its fault may take 20 seconds
     double hang_seconds = 0.5;
@@ -258,7 +257,7 @@ struct Row {
 };
 
 constexpr Row changing(const char *name, Run run) {
-    return {name, NOTHING, run, "libkfifo", Callers::any, 1, false, 0.5, true};
+    return {name, NOTHING, run, "libkfifo", false, 1, false, 0.5, true};
 }
 
 const Row ROWS[] = {
@@ -277,20 +276,20 @@ const Row ROWS[] = {
     {"michael-scott-no-tags", NEVER_PUT | TWICE | EMPTY | OVERTAKEN | HANG, run<queues::MichaelScott<0, true>>},
     {"michael-scott-3-bit-tags", NEVER_PUT | TWICE | EMPTY | OVERTAKEN | HANG, run<queues::MichaelScott<3, true>>},
     {"michael-scott-6-bit-tags", NEVER_PUT | TWICE | EMPTY | OVERTAKEN | HANG, run<queues::MichaelScott<6, true>>, "",
-     Callers::any, 1, true},
+     false, 1, true},
     {"michael-scott-one-look", NEVER_PUT | TWICE | EMPTY | OVERTAKEN | HANG, run<queues::MichaelScott<32, false>>},
-    {"kept-lock", HANG, run<queues::KeptLock>, "", Callers::any, 1, false, 0.2},
+    {"kept-lock", HANG, run<queues::KeptLock>, "", false, 1, false, 0.2},
     {"mutex", NOTHING, run<queues::MutexDeque>},
     {"ring", NOTHING, run<queues::Ring<RingFault::none>>},
     {"michael-scott", NOTHING, run<queues::MichaelScott<32, true>>},
-    {"two-thread-ring-used-rightly", NOTHING, run<queues::TwoThreadRing>, "", Callers::one_of_each},
+    {"two-thread-ring-used-rightly", NOTHING, run<queues::TwoThreadRing>, "", true},
     {"boost", NOTHING, BOOST, "libboost-dev"},
     {"tbb", NOTHING, TBB, "libtbb-dev"},
     {"cds-michael-scott", NOTHING, CDS, "libcds-dev"},
-    {"moodycamel-two-threads", NOTHING, MOODYCAMEL, "libconcurrentqueue-dev", Callers::one_of_each},
+    {"moodycamel-two-threads", NOTHING, MOODYCAMEL, "libconcurrentqueue-dev", true},
     {"kfifo-1", NOTHING, run_kfifo, "libkfifo"},
-    {"kfifo-4", NOTHING, run_kfifo, "libkfifo", Callers::any, 4},
-    {"kfifo-16", NOTHING, run_kfifo, "libkfifo", Callers::any, 16},
+    {"kfifo-4", NOTHING, run_kfifo, "libkfifo", false, 4},
+    {"kfifo-16", NOTHING, run_kfifo, "libkfifo", false, 16},
     changing("kfifo-1-changing-2", run_changing<OfValues, 1, 2>),
     changing("kfifo-1-changing-4", run_changing<OfValues, 1, 4>),
     changing("kfifo-4-changing-4", run_changing<OfValues, 4, 4>),
@@ -347,7 +346,7 @@ std::string folder = ".";
 CheckOptions options_of(const Row &row, double seconds) {
     CheckOptions options;
     options.k = row.k;
-    options.callers = row.callers;
+    options.one_producer = options.one_consumer = row.is_one_of_each;
     options.hang_seconds = row.hang_seconds;
     options.seconds = seconds;
     options.files = folder + "/test_checker";

@@ -17,14 +17,14 @@ extern "C" kfifo_judge_status __wrap_kfifo_judge_calls(const kfifo_judge_call *c
                                                        kfifo_judge_report *report) {
     if (pretended == KFIFO_JUDGE_LEGAL) return __real_kfifo_judge_calls(calls, count, k, tries, report);
     *report = {};
-    if (pretended == KFIFO_JUDGE_UNDECIDED) report->text = strdup("undecided for k = 1: the tries ran out\n");
+    if (pretended == KFIFO_JUDGE_UNDECIDED)
+        report->text = strdup("undecided for k = 1\nthe tries ran out after 1000000 tries\n");
     return report->status = pretended;
 }
 
 namespace {
 
 using kfifo::Answer;
-using kfifo::Callers;
 using kfifo::CheckOptions;
 using kfifo::CheckReport;
 using kfifo::Outcome;
@@ -151,19 +151,21 @@ void options_out_of_range() {
     };
     refused([](auto &of) { of.k = 0; }, "k is");
     refused([](auto &of) { of.k = 65; }, "k is");
-    refused([](auto &of) { of.threads = {}; }, "threads are");
-    refused([](auto &of) { of.threads = {4, 1}; }, "threads are");
-    refused([](auto &of) { of.threads = {65}; }, "threads are");
-    refused([](auto &of) { of.calls = {0}; }, "the calls of a thread");
-    refused([](auto &of) { of.calls = {}; }, "the calls of a thread");
+    refused([](auto &of) { of.threads = 1; }, "threads are");
+    refused([](auto &of) { of.threads = 65; }, "threads are");
+    refused([](auto &of) { of.threads = 3, of.one_producer = of.one_consumer = true; }, "with one producer and one");
+    refused([](auto &of) { of.calls = 0; }, "the calls of a thread");
+    refused([](auto &of) { of.calls = 30001; }, "the calls of a thread");
+    refused([](auto &of) { of.capacities = {}; }, "a capacity");
     refused([](auto &of) { of.capacities = {0}; }, "a capacity");
     refused([](auto &of) { of.seconds = -1; }, "the seconds");
     refused([](auto &of) { of.seconds = std::stod("nan"); }, "the seconds");
-    refused([](auto &of) { of.seconds = 0, of.rounds = 0; }, "neither");
+    refused([](auto &of) { of.rounds = 0; }, "the rounds");
     refused([](auto &of) { of.hang_seconds = 0; }, "the time of a hang");
+    refused([](auto &of) { of.repeated = 0; }, "repeated");
     refused([](auto &of) { of.repeated = 16777216; }, "repeated");
     refused([](auto &of) { of.name = ""; }, "the name");
-    refused([](auto &of) { of.threads = {64}, of.calls = {1000}; }, "too many calls");
+    refused([](auto &of) { of.threads = 64, of.calls = 1000; }, "too many calls");
 }
 
 void limits_and_counts() {
@@ -173,15 +175,19 @@ void limits_and_counts() {
     const std::string said = "\n" + std::to_string(rounds.rounds) + " rounds, ";
     expect(rounds.seed != 0 && rounds.log.empty() && has(rounds.text, said), "what is said of a pass", rounds);
     expect(rounds.least_at_least == 0, "the least k only where it is asked for", rounds);
-    CheckOptions options = some(0);
+    CheckOptions options = some(1);
+    options.rounds = std::nullopt;
     options.seconds = 0.3;
     options.least = true;
     const CheckReport time = run(Fault::none, options);
     expect(time.passed() && time.seconds >= 0.3 && time.seconds < 60 && time.rounds > 0, "a limit of time", time);
     expect(time.least_at_least == 1 && time.least_at_most == 1, "the least k of a plain queue", time);
+    CheckOptions brief = some(40);
+    brief.seconds = 0;
+    expect(run(Fault::none, brief).rounds == 1, "the first round is made in any case");
     CheckOptions wide = some(4);
-    wide.threads = {64};
-    wide.calls = {40};
+    wide.threads = 64;
+    wide.calls = 40;
     expect(run(Fault::none, wide).passed(), "64 threads");
     CheckOptions seeded = some(3);
     seeded.seed = 7;
@@ -199,7 +205,7 @@ void makers_and_handles() {
                                       },
                                       [](Queue &queue) {
                                           const auto item = queue.pop();
-                                          return item ? kfifo::Popped{Answer::got, *item} : kfifo::Popped{};
+                                          return item ? kfifo::Got{Answer::got, *item} : kfifo::Got{};
                                       },
                                       some(20));
     expect(answers.passed(), "a shared_ptr to a queue, and answers of its own", answers);
@@ -224,39 +230,38 @@ void makers_and_handles() {
     expect(handles.passed(), "a handle for each thread", handles);
 }
 
-// Each kind of caller keeps to its calls: thread 0 pops where one thread pops, and thread 1 pushes where one pushes.
-void callers() {
+// Each kind of caller keeps to its calls: thread 0 gets where one thread gets, and the last one puts where one puts.
+void callers(bool one_puts, bool one_gets) {
     struct Handle {
         Queue &queue;
         unsigned thread;
     };
-    for (const Callers kind : {Callers::any, Callers::one_producer, Callers::one_consumer, Callers::one_of_each}) {
-        CheckOptions options = some(60);
-        options.callers = kind;
-        const bool one_pushes = kind == Callers::one_producer || kind == Callers::one_of_each;
-        const bool one_pops = kind == Callers::one_consumer || kind == Callers::one_of_each;
-        const CheckReport report =
-            kfifo::run_check_with_handles([] { return Queue(); },
-                                          [](Queue &queue, unsigned thread) {
-                                              return Handle{queue, thread};
-                                          },
-                                          [=](Handle &handle, std::uint32_t item) {
-                                              if (one_pushes && handle.thread != 1)
-                                                  throw std::logic_error("a second thread pushes");
-                                              if (one_pops && handle.thread == 0)
-                                                  throw std::logic_error("the one that pops pushes");
-                                              return handle.queue.push(item);
-                                          },
-                                          [=](Handle &handle) {
-                                              if (one_pops && handle.thread != 0)
-                                                  throw std::logic_error("a second thread pops");
-                                              if (one_pushes && handle.thread == 1)
-                                                  throw std::logic_error("the one that pushes pops");
-                                              return handle.queue.pop();
-                                          },
-                                          options);
-        expect(report.passed() && is_whole(report, options), "which thread makes which calls", report);
-    }
+    CheckOptions options = some(60);
+    options.one_producer = one_puts;
+    options.one_consumer = one_gets;
+    if (!(one_puts && one_gets)) options.threads = 4;
+    const unsigned last = options.threads.value_or(2) - 1;
+    const CheckReport report = kfifo::run_check_with_handles([] { return Queue(); },
+                                                             [](Queue &queue, unsigned thread) {
+                                                                 return Handle{queue, thread};
+                                                             },
+                                                             [=](Handle &handle, std::uint32_t item) {
+                                                                 if (one_puts && handle.thread != last)
+                                                                     throw std::logic_error("a second thread puts");
+                                                                 if (one_gets && handle.thread == 0)
+                                                                     throw std::logic_error("the one that gets puts");
+                                                                 return handle.queue.push(item);
+                                                             },
+                                                             [=](Handle &handle) {
+                                                                 // Thread 0 empties the queue behind a round.
+                                                                 if (one_gets && handle.thread != 0)
+                                                                     throw std::logic_error("a second thread gets");
+                                                                 if (one_puts && handle.thread == last)
+                                                                     throw std::logic_error("the one that puts gets");
+                                                                 return handle.queue.pop();
+                                                             },
+                                                             options);
+    expect(report.passed() && is_whole(report, options), "which thread makes which calls", report);
 }
 
 // Items are distinct in a queue's life, or drawn from few.
@@ -368,6 +373,7 @@ void other_verdicts() {
     pretended = KFIFO_JUDGE_UNDECIDED;
     const CheckReport all = run(Fault::none, some(20));
     expect(all.outcome == Outcome::undecided && all.undecided == all.rounds, "each round is undecided", all);
+    expect(has(all.text, " undecided after at most 1000000 tries each, seed "), "after how many tries", all);
     CheckOptions options = some(20);
     options.undecided_fails = true;
     const CheckReport first = run(Fault::none, options);
@@ -461,7 +467,8 @@ int main(int, char **words) {
     options_out_of_range();
     limits_and_counts();
     makers_and_handles();
-    callers();
+    for (const bool one_puts : {false, true})
+        for (const bool one_gets : {false, true}) callers(one_puts, one_gets);
     items();
     no_order();
     relaxed();

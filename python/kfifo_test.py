@@ -754,6 +754,7 @@ class Report:
     taken: int = 0  # how many gets took an item
     overlapping: float = 0.0  # the share of calls that overlapped one of another thread, over a sample of rounds
     undecided: int = 0  # how many rounds had neither an order nor a reason against each
+    tries: int = TRIES  # how many choices the search for an order could take back in a round
     least: Optional[tuple[int, int]] = None  # for k > 1: the greatest bounds of the least k, over a sample of rounds
     failed_round: str = ""
     log: Optional[str] = None  # the file with the log of the round that failed
@@ -786,7 +787,10 @@ class Report:
         if self.unwritten:
             lines.append(f"not written: {self.unwritten}")
         last = f"{self.rounds} rounds, {self.calls} calls, {100 * self.overlapping:.0f} % overlapping"
-        last += f", {self.undecided} undecided, seed {self.seed}"
+        last += f", {self.undecided} undecided"
+        if self.undecided:
+            last += f" after at most {self.tries} tries each"
+        last += f", seed {self.seed}"
         if self.least:
             last += f"; of a sample the least k is at least {self.least[0]} and at most {self.least[1]}"
         return "\n".join(lines + [last])
@@ -855,7 +859,7 @@ class _Check:
         self.options = options
         seed = random.SystemRandom().randrange(2**32) if options.seed is None else options.seed
         self.dice = random.Random(seed)
-        self.report = Report(options.name, options.k, seed)
+        self.report = Report(options.name, options.k, seed, tries=options.tries)
         self.done: queue.SimpleQueue[int] = queue.SimpleQueue()
         self.lanes = [_Lane(number, put, get, self.done) for number in range(options.most_threads())]
         self.kept: dict[int, _Kept] = {}

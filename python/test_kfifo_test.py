@@ -425,13 +425,15 @@ class WrongUse(Checks):
         self.assertEqual((report.outcome, report.rounds), ("nothing taken", 20))
 
     def test_undecided_rounds_pass_but_not_all(self):
-        undecided = kfifo_test.Verdict("undecided", "undecided for k = 1\nthe tries ran out\n")
+        undecided = kfifo_test.Verdict("undecided", "undecided for k = 1\nthe tries ran out after 7 tries\n")
         with mock.patch.object(kfifo_test, "_judge_round", return_value=(undecided, None)):
             report = kfifo_test.run_check(queue.Queue, put_nowait, get_nowait, **self.options(rounds=3))
             self.assertEqual((report.outcome, report.undecided, report.rounds), ("undecided", 3, 3))
-            options = self.options(rounds=3, undecided_fails=True)
+            options = self.options(rounds=3, undecided_fails=True, tries=7)
             report = kfifo_test.run_check(queue.Queue, put_nowait, get_nowait, **options)
             self.assertEqual((report.outcome, report.undecided, report.rounds), ("undecided", 1, 1))
+            self.assertIn("\nthe tries ran out after 7 tries\n", str(report))
+            self.assertIn(" 1 undecided after at most 7 tries each, seed ", str(report))
         found = [(undecided, None), (kfifo_test.Verdict("legal", ""), None), (undecided, None)]
         with mock.patch.object(kfifo_test, "_judge_round", side_effect=found):
             report = kfifo_test.run_check(queue.Queue, put_nowait, get_nowait, **self.options(rounds=3))

@@ -10,33 +10,33 @@ struct Queue {
 };
 
 inline Queue make() { return Queue(); }
-inline bool push(Queue &queue, std::uint32_t item) { return queue.push(item); }
-inline std::optional<std::uint32_t> pop(Queue &queue) { return queue.pop(); }
+inline bool put(Queue &queue, std::uint32_t item) { return queue.push(item); }
+inline std::optional<std::uint32_t> get(Queue &queue) { return queue.pop(); }
 
 int main() {
 #if CASE == 0
-    kfifo::run_check(make, push, pop);
+    kfifo::run_check(make, put, get);
 #elif CASE == 1 // says: the maker has to take (std::size_t capacity) or nothing
-    kfifo::run_check([](std::string) { return Queue(); }, push, pop);
+    kfifo::run_check([](std::string) { return Queue(); }, put, get);
 #elif CASE == 2 // says: the maker has to return a queue
-    kfifo::run_check([] {}, push, pop);
-#elif CASE == 3 // says: push has to take (queue, std::uint32_t item)
+    kfifo::run_check([] {}, put, get);
+#elif CASE == 3 // says: put has to take (queue, std::uint32_t item)
     kfifo::run_check(
-        make, [](Queue &, std::string) { return true; }, pop);
-#elif CASE == 4 // says: push has to return bool
+        make, [](Queue &, std::string) { return true; }, get);
+#elif CASE == 4 // says: put has to return bool
     kfifo::run_check(
-        make, [](Queue &queue, std::uint32_t item) { queue.push(item); }, pop);
-#elif CASE == 5 // says: pop has to take (queue)
-    kfifo::run_check(make, push, [] { return std::optional<int>(); });
-#elif CASE == 6 // says: pop has to return a std::optional of a whole number
-    kfifo::run_check(make, push, [](Queue &) { return std::optional<std::string>(); });
-#elif CASE == 7 // says: pop has to return a std::optional of a whole number
-    kfifo::run_check(make, push, [](Queue &) { return 7; });
+        make, [](Queue &queue, std::uint32_t item) { queue.push(item); }, get);
+#elif CASE == 5 // says: get has to take (queue)
+    kfifo::run_check(make, put, [] { return std::optional<int>(); });
+#elif CASE == 6 // says: get has to return a std::optional of a whole number
+    kfifo::run_check(make, put, [](Queue &) { return std::optional<std::string>(); });
+#elif CASE == 7 // says: get has to return a std::optional of a whole number
+    kfifo::run_check(make, put, [](Queue &) { return 7; });
 #elif CASE == 8 // says: handle has to take (queue, unsigned thread)
     kfifo::run_check_with_handles(
-        make, [](Queue &queue) { return &queue; }, push, pop);
-#elif CASE == 9 // says: push has to take (queue, std::uint32_t item)
+        make, [](Queue &queue) { return &queue; }, put, get);
+#elif CASE == 9 // says: put has to take (queue, std::uint32_t item)
     kfifo::run_check_with_handles(
-        make, [](Queue &queue, unsigned) { return &queue; }, push, [](Queue *queue) { return queue->pop(); });
+        make, [](Queue &queue, unsigned) { return &queue; }, put, [](Queue *queue) { return queue->pop(); });
 #endif
 }

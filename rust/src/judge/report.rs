@@ -65,6 +65,8 @@ pub struct Report {
     pub overlapping: f64,
     /// How many rounds had neither an order nor a reason against each.
     pub undecided: u64,
+    /// How many choices the search for an order could take back in a round, from the options.
+    pub tries: u64,
     /// Where k is over 1: the greatest lower and the greatest upper bound of the least k, over the rounds of a sample
     /// that had both.
     pub least: Option<(u32, u32)>,
@@ -91,6 +93,7 @@ impl Report {
             taken: 0,
             overlapping: 0.0,
             undecided: 0,
+            tries: options.tries,
             least: None,
             seed,
             failed_round: None,
@@ -205,7 +208,11 @@ impl Display for Report {
             "{} rounds, {} calls, {share:.0} % overlapping",
             self.rounds, self.calls
         )?;
-        write!(f, ", {} undecided, seed {}", self.undecided, self.seed)?;
+        write!(f, ", {} undecided", self.undecided)?;
+        if self.undecided > 0 {
+            write!(f, " after at most {} tries each", self.tries)?;
+        }
+        write!(f, ", seed {}", self.seed)?;
         if let Some((at_least, at_most)) = self.least {
             write!(
                 f,
