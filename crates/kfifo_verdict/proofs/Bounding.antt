@@ -3,6 +3,7 @@ use Rattle.std.proofs.Common.{ℕ, zero, suc, ◌≡◌, ◌≢◌, ◌+◌, ◌
 use Rattle.std.proofs.Common.{get_or, set, refl, sym, ◌∙◌, ap, subst, inl, inr, arith, get_or-set_other, get_or-set_same}
 use Rattle.std.proofs.lemmas.Bool.{cases_lt, cases_eq, cases_Bool, and_parts, and_from, leb-true, le-leb, false_from_ne_true}
 use Rattle.std.proofs.lemmas.Bool.Decides.{nat_tests}
+use Rattle.std.proofs.lemmas.List.{get_or_default}
 use Rattle.kfifo_verdict.proofs.Types.{Call, End, Presence}
 use Rattle.kfifo_model.specs.Histories.{call}
 use Rattle.kfifo_model.specs.Validity.{IsHistory}
@@ -10,7 +11,8 @@ use Rattle.kfifo_verdict.specs.Evidence.{Gets, count_below, IsSingle}
 use Rattle.kfifo_verdict.specs.Finding.{IsStart, ArePresences, no_presence, lasts_at}
 use Rattle.kfifo_verdict.specs.Judging.{GotTooYoung, IsLowerBound}
 use Rattle.kfifo_verdict.specs.Bound.{IsEndOfGet, IsOwnEnd, IsSoonest, AreSoonest, since, until, counts_at, counts_from, counts_until}
-use Rattle.kfifo_verdict.specs.Bound.{IsMostAtOnce}
+use Rattle.kfifo_verdict.specs.Bound.{AreChanges, IsMostAtOnce}
+use Rattle.kfifo_verdict.specs.declared.bound.Changes.{Changes}
 use Rattle.kfifo_verdict.proofs.Being.{same_put}
 use Rattle.kfifo_verdict.proofs.Counting.{below_more}
 use Rattle.kfifo_verdict.proofs.Moments.{precedes_below}
@@ -245,15 +247,34 @@ ends_here : (a m b : ℕ)
     → ◌≡◌ {A = ℕ} (cond (leb a m && leb m b) 1 0) (cond (ltb a (m + 1) && leb (m + 1) b) 1 0 + cond (leb a m && eqb m b) 1 0)
 ends_here a m b = grind (arith, nat_tests)
 
-pub counts_begin : (soonest : List ℕ) (ps : List Presence) (m n : ℕ)
+counts_begin : (soonest : List ℕ) (ps : List Presence) (m n : ℕ)
     → count_below (counts_at soonest ps m) n ≡ count_below (counts_before soonest ps m) n + count_below (counts_from soonest ps m) n
 counts_begin soonest ps m n = count_parts (counts_at soonest ps m) (counts_before soonest ps m) (counts_from soonest ps m) n
     (λ p. begins_here (since soonest ps p) m (until ps p))
 
-pub counts_end : (soonest : List ℕ) (ps : List Presence) (m n : ℕ)
+counts_end : (soonest : List ℕ) (ps : List Presence) (m n : ℕ)
     → count_below (counts_at soonest ps m) n ≡ count_below (counts_before soonest ps (m + 1)) n + count_below (counts_until soonest ps m) n
 counts_end soonest ps m n = count_parts (counts_at soonest ps m) (counts_before soonest ps (m + 1)) (counts_until soonest ps m) n
     (λ p. ends_here (since soonest ps p) m (until ps p))
+
+-- how many count at a moment, from those that begin, and how many go on, from those that end
+pub begun_at : (soonest : List ℕ) (ps : List Presence) (c : Changes) (m count from : ℕ) → AreChanges soonest ps (length ps) c
+    → m < length soonest → count ≡ count_below (counts_before soonest ps m) (length ps) → from ≡ get_or c.from.items m from
+    → count_below (counts_at soonest ps m) (length ps) ≡ count + from
+begun_at soonest ps c m count from are inside so_far is =
+    let sized = are.sized.0 in
+    let value = is ∙ get_or_default c.from.items m from 0 (omega (arith, inside, sized)) in
+    let here = are.from m inside in
+    omega (arith, so_far, value, here, counts_begin soonest ps m (length ps))
+
+pub ended_at : (soonest : List ℕ) (ps : List Presence) (c : Changes) (m gone : ℕ) → AreChanges soonest ps (length ps) c → m < length soonest
+    → gone ≡ get_or c.until.items m gone
+    → count_below (counts_at soonest ps m) (length ps) ≡ gone + count_below (counts_before soonest ps (m + 1)) (length ps)
+ended_at soonest ps c m gone are inside is =
+    let sized = are.sized.1 in
+    let value = is ∙ get_or_default c.until.items m gone 0 (omega (arith, inside, sized)) in
+    let here = are.until m inside in
+    omega (arith, value, here, counts_end soonest ps m (length ps))
 
 none_before : (a b : ℕ) → (ltb a 0 && leb 0 b) ≡ false
 none_before a b = grind (arith, nat_tests)
