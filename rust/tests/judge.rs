@@ -10,6 +10,7 @@ use kfifo::judge::{
     run_check_sized,
 };
 use queues::{Linked, Locked, Pair, Ring, RingFault, Stack, TestOutside, Wrapping};
+use std::collections::VecDeque;
 use std::path::{Path, PathBuf};
 use std::process::{Command, Output};
 use std::sync::{Mutex, MutexGuard, PoisonError, mpsc};
@@ -142,6 +143,34 @@ fn passes_with_overlaps(check: impl Fn(Options) -> Result<Report, BadOption>, op
         report = passes(&check, options.clone());
     }
     assert!(report.overlapping > 0.0 || is_alone(), "{report}");
+}
+
+#[test]
+fn a_report_of_undecided_rounds_says_after_how_many_tries() {
+    let _turn = turn();
+    let options = Options {
+        rounds: Some(1),
+        tries: 7,
+        quiet: true,
+        ..Options::default()
+    };
+    let make = || Mutex::new(VecDeque::new());
+    let put = |queue: &Mutex<VecDeque<u32>>, item| {
+        queue.lock().expect("no thread panics").push_back(item)
+    };
+    let get = |queue: &Mutex<VecDeque<u32>>| queue.lock().expect("no thread panics").pop_front();
+    let mut report = run_check(make, put, get, options).expect("the options are good");
+    assert!(
+        report.to_string().contains(", 0 undecided, seed "),
+        "{report}"
+    );
+    report.undecided = 2;
+    assert!(
+        report
+            .to_string()
+            .contains(", 2 undecided after at most 7 tries each, seed "),
+        "{report}"
+    );
 }
 
 #[test]
