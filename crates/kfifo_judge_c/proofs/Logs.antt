@@ -1,6 +1,6 @@
 -- The log that the calls of C are.
-use Rattle.std.proofs.Common.{ℕ, ◌≡◌, ◌∙◌, ◌<◌, ◌≤◌, ◌+◌, List, MatchResult, None, Result, Ok, Err, Some, arith}
-use Rattle.std.proofs.Common.{length, map, sym}
+use Rattle.std.proofs.Common.{ℕ, ◌≡◌, ◌∙◌, ◌≤◌, ◌+◌, List, MatchResult, None, Result, Ok, Err, Some, arith}
+use Rattle.std.proofs.Common.{length, sym}
 use Rattle.std.specs.Prelude.{position}
 use Rattle.std.specs.List.{enumerate_from}
 use Rattle.std.proofs.lemmas.List.{length-map}
@@ -9,7 +9,6 @@ use Rattle.std.proofs.lemmas.List.Quantifiers.{position-Some}
 use Rattle.std.proofs.lemmas.Option.{none-some}
 use Rattle.kfifo_import.specs.declared.log.ImportFault.{ImportFault}
 use Rattle.kfifo_import.specs.declared.log.ImportFault.TheVariants as faults
-use Rattle.kfifo_import.specs.declared.log.Line.{Line}
 use Rattle.kfifo_import.specs.declared.log.Log.{Log}
 use Rattle.kfifo_import.specs.Foreign.{IsFaultToJudge, IsLogToJudge}
 use Rattle.kfifo_import.specs.declared.log.TheConstants.{MAX_LOG_CALLS}

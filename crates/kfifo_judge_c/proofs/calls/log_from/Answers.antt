@@ -3,7 +3,7 @@ use Rattle.std.specs.Prelude.{position}
 use Rattle.kfifo_import.specs.declared.log.Line.{Line}
 use Rattle.kfifo_import.specs.Foreign.{IsFaultToJudge, IsLogToJudge}
 use Rattle.kfifo_import.specs.declared.log.TheConstants.{MAX_LOG_CALLS}
-use Rattle.kfifo_judge_c.specs.Lines.{is_unknown, lines_of}
+use Rattle.kfifo_judge_c.specs.Lines.{is_unknown}
 use Rattle.kfifo_judge_c.proofs.Logs.{all_known, few, of_calls}
 use Rattle.kfifo_judge_c.proofs.calls.log_from.Goals as goal
 use Rattle.kfifo_judge_c.proofs.calls.log_from.Goals.{in-Some+else-place-lt-MAX_LOG_CALLS, in_default}
