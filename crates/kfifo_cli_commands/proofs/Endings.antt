@@ -5,7 +5,10 @@ use Rattle.kfifo_cli_texts.specs.declared.fault.Fault.TheVariants.{Shape, Word, 
 use Rattle.kfifo_cli_texts.specs.declared.fault.Fault.TheVariants.{NotJson, Record, Search, RepeatedItem, Import, TooManyDrawn}
 use Rattle.kfifo_cli_texts.specs.declared.fault.Fault.TheVariants.{Contradiction, Stretch, NoLines, NoEvidence, Unexplained, Memory, Output}
 use Rattle.kfifo_cli_texts.specs.Faults.{fault_line}
-use Rattle.kfifo_cli_texts.specs.Printing.{Nothing, Part, Tells, Written}
+use Rattle.kfifo_cli_texts.specs.Printing.{Nothing, Part, Tells, Whole, Written}
+use Rattle.kfifo_cli_commands.specs.declared.status.Status.{Status}
+use Rattle.kfifo_cli_commands.specs.declared.status.Status.TheVariants.{Answered, Failed, Misused, Unordered, Undecided}
+use Rattle.kfifo_cli_commands.specs.Statuses.{status_number}
 use Rattle.kfifo_cli_commands.specs.Endings.{Ends}
 
 -- a fault is the failure of writing, or not
@@ -55,7 +58,36 @@ module _ (answers : List ℕ → ℕ → Type 0) (causes : Fault → Type 0) (ou
     printed = λ e. absurd (no_answer 1 refl e);
     failed = λ e. elim (is_output fault) [
       | inl is ↦ inl (silent is, broke is)
-      | inr not ↦ inr (untouched not, (fault, cause not, told not))
+      | inr not ↦ inr (inl (untouched not, (fault, cause not, told not)))
     ];
     misused = λ e. absurd (no_misuse 1 refl e);
+  }
+
+  -- A run whose whole text was written ends with the status of that text.
+  pub ends_well : (status : Status) (text : List ℕ) → status ≢ Misused → faults Nothing → answers text (status_number status)
+      → output (Whole text) → Ends answers causes ⊥ output faults (status_number status)
+  ends_well Answered text known silent answered whole = record {
+    known = omega arith;
+    printed = λ e. (silent, (text, answered, whole));
+    failed = λ e. absurd (omega (arith, e));
+    misused = λ e. absurd (omega (arith, e));
+  }
+  ends_well Failed text known silent answered whole = record {
+    known = omega arith;
+    printed = λ e. absurd (no_answer 1 refl e);
+    failed = λ e. inr (inr (silent, (text, answered, whole)));
+    misused = λ e. absurd (no_misuse 1 refl e);
+  }
+  ends_well Misused text known silent answered whole = absurd (known refl)
+  ends_well Unordered text known silent answered whole = record {
+    known = omega arith;
+    printed = λ e. (silent, (text, answered, whole));
+    failed = λ e. absurd (omega (arith, e));
+    misused = λ e. absurd (omega (arith, e));
+  }
+  ends_well Undecided text known silent answered whole = record {
+    known = omega arith;
+    printed = λ e. (silent, (text, answered, whole));
+    failed = λ e. absurd (omega (arith, e));
+    misused = λ e. absurd (omega (arith, e));
   }

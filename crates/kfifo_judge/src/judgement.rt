@@ -138,7 +138,7 @@ fn no_order(
 }
 
 /// Why the search stopped.
-fn reason_of(stuck: Stuck) -> &'static str
+pub(crate) fn reason_of(stuck: Stuck) -> &'static str
     ensures { result.now ≡ stuck_text stuck }
 {
     match stuck {
@@ -172,7 +172,7 @@ fn undecided(alloc: Global, history: &History, k: u32, stuck: Stuck) -> Result<S
 }
 
 /// What a verdict says of a history.
-fn outcome_of(judgement: &Judgement) -> Outcome
+pub(crate) fn outcome_of(judgement: &Judgement) -> Outcome
     ensures { result ≡ outcome judgement.now }
 {
     match judgement {
