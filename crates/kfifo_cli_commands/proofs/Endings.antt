@@ -1,5 +1,5 @@
 -- How a run ends with a fault.
-use Rattle.std.proofs.Common.{◌≡◌, ◌≢◌, ◌⊎◌, inl, inr, ℕ, List, refl, arith}
+use Rattle.std.proofs.Common.{◌≡◌, ◌≢◌, ◌≤◌, ◌⊎◌, inl, inr, ℕ, List, refl, arith}
 use Rattle.kfifo_cli_commands.proofs.Types.{Fault}
 use Rattle.kfifo_cli_texts.specs.declared.fault.Fault.TheVariants.{Shape, Word, Order, Picks, Replay, Trace, Open, Dispatch, Input, NoInput}
 use Rattle.kfifo_cli_texts.specs.declared.fault.Fault.TheVariants.{NotJson, Record, Search, RepeatedItem, Import, TooManyDrawn}
@@ -63,31 +63,29 @@ module _ (answers : List ℕ → ℕ → Type 0) (causes : Fault → Type 0) (ou
     misused = λ e. absurd (no_misuse 1 refl e);
   }
 
-  -- A run whose whole text was written ends with the status of that text.
+  -- a run whose whole text was written, with a status of an answer
+  answered_by : (status : ℕ) (text : List ℕ) → status ≤ 4 → (status ≡ 1 → ⊥) → (status ≡ 2 → ⊥) → faults Nothing
+      → answers text status → output (Whole text) → Ends answers causes ⊥ output faults status
+  answered_by status text known no_failure no_misuse silent answered whole = record {
+    known = known;
+    printed = λ e. (silent, (text, answered, whole));
+    failed = λ e. absurd (no_failure e);
+    misused = λ e. absurd (no_misuse e);
+  }
+
+  -- A run whose whole text was written ends with the status of that text, which may be that of a failure.
   pub ends_well : (status : Status) (text : List ℕ) → status ≢ Misused → faults Nothing → answers text (status_number status)
       → output (Whole text) → Ends answers causes ⊥ output faults (status_number status)
-  ends_well Answered text known silent answered whole = record {
-    known = omega arith;
-    printed = λ e. (silent, (text, answered, whole));
-    failed = λ e. absurd (omega (arith, e));
-    misused = λ e. absurd (omega (arith, e));
-  }
+  ends_well Answered text known silent answered whole =
+      answered_by 0 text (omega arith) (λ e. omega (arith, e)) (λ e. omega (arith, e)) silent answered whole
+  ends_well Unordered text known silent answered whole =
+      answered_by 3 text (omega arith) (λ e. omega (arith, e)) (λ e. omega (arith, e)) silent answered whole
+  ends_well Undecided text known silent answered whole =
+      answered_by 4 text (omega arith) (λ e. omega (arith, e)) (λ e. omega (arith, e)) silent answered whole
+  ends_well Misused text known silent answered whole = absurd (known refl)
   ends_well Failed text known silent answered whole = record {
     known = omega arith;
     printed = λ e. absurd (no_answer 1 refl e);
     failed = λ e. inr (inr (silent, (text, answered, whole)));
     misused = λ e. absurd (no_misuse 1 refl e);
-  }
-  ends_well Misused text known silent answered whole = absurd (known refl)
-  ends_well Unordered text known silent answered whole = record {
-    known = omega arith;
-    printed = λ e. (silent, (text, answered, whole));
-    failed = λ e. absurd (omega (arith, e));
-    misused = λ e. absurd (omega (arith, e));
-  }
-  ends_well Undecided text known silent answered whole = record {
-    known = omega arith;
-    printed = λ e. (silent, (text, answered, whole));
-    failed = λ e. absurd (omega (arith, e));
-    misused = λ e. absurd (omega (arith, e));
   }

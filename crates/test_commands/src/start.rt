@@ -67,8 +67,7 @@ fn shows_what_is_done_with_a_long_log(rt: HostRuntime) -> Result<(), Fail> {
     progress.begun(Stage::Judging(10_000_000));
     progress.ended();
     drop(progress);
-    let wanted = format!(
-        in rt.alloc();
+    let wanted = format!(in rt.alloc();
         "\rkfifo: parsing 351 MB{BLANKS}\rkfifo: judging 10000000 calls{BLANKS}"
     )?;
     assert_eq!(rt; shown.as_slice(), wanted.as_bytes());

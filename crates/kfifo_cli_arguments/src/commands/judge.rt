@@ -108,7 +108,7 @@ Of several files, each is judged by itself, and has a line:
                                            read, or is no record and no log
   files <N> for k = <K>: legal <N>, no order <N>, undecided <N>, fault <N>
                                            the last line, which counts them
-`kfifo judge FILE` says all of one of them. Each of several is a file, also -.
+`kfifo judge FILE` says all of one of them. Of several, - is the name of a file.
 
 With --json the verdict is an object in one line, and so is that of each of
 several files, with no line behind them. What does not apply is null.

@@ -150,7 +150,7 @@ fn fault_line(
     ensures { IfOk result (λ text. IsFaultLine options.entry.json name.now failure.now.fault (string_bytes text)) }
 {
     let words = words_behind(alloc, failure)?;
-    let fault = failure.fault.to_string(alloc)?;
+    let fault = failure.fault.text(alloc)?;
     if options.json {
         return fault_report(alloc, name, fault.as_str(), words.as_str());
     }
