@@ -1,5 +1,5 @@
 -- Several files, judged one after the other.
-use Rattle.std.proofs.Common.{◌≡◌, ◌∙◌, ◌+◌, ◌<◌, ◌^◌, ℕ, List, [], ◌∷◌, ◌++◌, Result, Ok, Err, IfErr, MatchResult, ap, arith, get_or, length, map, refl, subst}
+use Rattle.std.proofs.Common.{◌≡◌, ◌∙◌, ◌+◌, ◌<◌, ℕ, List, [], ◌∷◌, ◌++◌, Result, Ok, Err, IfErr, MatchResult, ap, arith, get_or, length, map, refl, subst}
 use Rattle.std.proofs.Common.{sym, take}
 use Rattle.std.proofs.lemmas.Fn.{FoldsTo-push}
 use Rattle.std.proofs.lemmas.List.{map-append, take_more}

@@ -1,5 +1,5 @@
 //! How an input begins: as a record in JSON or as a log in CSV.
-ghost use Rattle.std.specs.Prelude.{ℕ, ◌≡◌, ◌↔◌, ◌≤◌, IsTrue, List, length};
+ghost use Rattle.std.specs.Prelude.{◌↔◌, ◌≤◌, IsTrue, length};
 ghost use Rattle.kfifo_judge.specs.Inputs.{AreSpaces, BeginsRecord, EndsSpaces, IsLongRecord, IsSpace};
 
 use crate::streams::MAX_BYTES;

@@ -1,6 +1,5 @@
 //! A verdict in one line, for the judge of many files.
 ghost use Rattle.std.specs.Prelude.{◌≡◌, ◌≤◌, ◌++◌, IfOk, OnOk, string_bytes};
-ghost use Rattle.kfifo_verdict.specs.Judging.{IsJudgement};
 ghost use Rattle.kfifo_judge.specs.Briefs.{IsBrief, brief, counted, said_of};
 
 use crate::headlines::headline;

@@ -1,5 +1,5 @@
 //! Records as texts, and why a stream gets no answer.
-ghost use Rattle.std.specs.Prelude.{ℕ, ◌≡◌, List, MatchResult};
+ghost use Rattle.std.specs.Prelude.{◌≡◌, MatchResult};
 ghost use Rattle.kfifo_model.specs.RecordTexts.{IsRecordText};
 ghost use Rattle.kfifo_judge.specs.TextFaults.{IsTextFault};
 

@@ -6,7 +6,6 @@ ghost use Rattle.serde_json.specs.Written.{compact_text, has_float};
 ghost use Rattle.kfifo_model.specs.RecordTexts.{line, whole};
 ghost use Rattle.kfifo_judge.specs.Reports as specs;
 ghost use Rattle.kfifo_judge.specs.Reports.{IsReport, report_text};
-ghost use Rattle.kfifo_judge.specs.Judgements.{outcome};
 
 use crate::headlines::{headline, kind_name, kind_number};
 use crate::judgement::{Judged, judged_text, outcome_of};

@@ -1,6 +1,5 @@
-use Rattle.std.proofs.Common.{◌≡◌, ◌∙◌, ◌+◌, ◌++◌, ap, refl, rules, subst}
+use Rattle.std.proofs.Common.{◌≡◌, ◌+◌, ◌++◌, ap, rules}
 use Rattle.std.specs.Prelude.{string_bytes}
-use Rattle.kfifo_cli_commands.specs.FileVerdicts.{AreJudged}
 use Rattle.kfifo_cli_commands.proofs.Filing.{below_more, judged_more}
 use Rattle.kfifo_cli_commands.proofs.commands.judge_files.push_lines.Goals as goal
 
