@@ -6,8 +6,9 @@ use Rattle.clap.specs.declared.error.kind.ErrorKind.{ErrorKind}
 use Rattle.clap.specs.declared.error.kind.ErrorKind.TheVariants.{DisplayHelp, DisplayVersion}
 use Rattle.clap.specs.declared.parser.matches.Found.{Found}
 use Rattle.kfifo_cli_requests.specs.declared.requests.Request.{Request}
-use Rattle.kfifo_cli_requests.specs.declared.requests.Request.TheVariants.{Run, Check, Measure, Replay, Judge, JudgeFiles}
-use Rattle.kfifo_cli_requests.specs.declared.requests.Request.TheVariants.{Least, Record, Import, Draw, Dispatch, Explain}
+use Rattle.kfifo_cli_requests.specs.declared.requests.Request.TheVariants.{Run, Check, Measure, Replay, Judge}
+use Rattle.kfifo_cli_requests.specs.declared.requests.Request.TheVariants.{JudgeFiles, Least, Record, Import, Draw}
+use Rattle.kfifo_cli_requests.specs.declared.requests.Request.TheVariants.{Dispatch, Explain}
 use Rattle.kfifo_cli_arguments.specs.CommandLine.{Names, kinds, named}
 use Rattle.kfifo_cli_arguments.specs.Options.{GivesCheck, GivesDispatch, GivesDraw, GivesExplain, GivesFile}
 use Rattle.kfifo_cli_arguments.specs.Options.{GivesJudge, GivesJudgeFiles, GivesLeast, GivesRecord}

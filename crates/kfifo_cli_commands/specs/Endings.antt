@@ -3,8 +3,9 @@ use Rattle.std.specs.Prelude.{◌≡◌, ◌≢◌, ◌⊎◌, ◌≤◌, ℕ, L
 use Rattle.kfifo_cli_texts.specs.declared.fault.Fault.{Fault}
 use Rattle.kfifo_cli_texts.specs.declared.fault.Fault.TheVariants.{Input, Memory}
 use Rattle.kfifo_cli_requests.specs.declared.requests.Request.{Request}
-use Rattle.kfifo_cli_requests.specs.declared.requests.Request.TheVariants.{Run, Check, Measure, Replay, Judge, JudgeFiles}
-use Rattle.kfifo_cli_requests.specs.declared.requests.Request.TheVariants.{Least, Record, Import, Draw, Dispatch, Explain}
+use Rattle.kfifo_cli_requests.specs.declared.requests.Request.TheVariants.{Run, Check, Measure, Replay, Judge}
+use Rattle.kfifo_cli_requests.specs.declared.requests.Request.TheVariants.{JudgeFiles, Least, Record, Import, Draw}
+use Rattle.kfifo_cli_requests.specs.declared.requests.Request.TheVariants.{Dispatch, Explain}
 use Rattle.kfifo_cli_commands.specs.Dispatches.{IsDispatch, IsDispatchRefusal}
 use Rattle.kfifo_cli_texts.specs.Faults.{fault_line}
 use Rattle.kfifo_cli_texts.specs.Printing.{Nothing, Part, Tells, Whole, Written}

@@ -40,6 +40,5 @@ counts_line t = codes "legal " ++ (decimal t.legal ++ (codes ", no order " ++ (d
 
 -- the last line, where the others are no objects
 abbrev pub summary : JudgeFilesOptions → Tally → List ℕ
-summary options t = cond options.json []
-    ((codes "files " ++ (decimal (length options.files.now) ++ (codes " for k = " ++ (decimal options.k ++ codes ": "))))
-    ++ counts_line t)
+summary options t = cond options.json [] ((codes "files " ++ (decimal (length options.files.now)
+    ++ (codes " for k = " ++ (decimal options.k ++ codes ": ")))) ++ counts_line t)

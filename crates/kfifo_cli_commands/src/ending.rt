@@ -31,10 +31,9 @@ pub enum Notice {
     Misuse,
 }
 
-/// Does what is requested, and writes its answer or the line of its fault. Files may be named,
-/// and `record` and `dispatch` start threads: `rt` may do both. Commands whose work may be long tell the
-/// progress how far it has come, and that it has ended before anything is written; behind the line of a fault it is told
-/// what is wrong.
+/// Does what is requested, and writes its answer or the line of its fault. Files may be named, and `record` and
+/// `dispatch` start threads: `rt` may do both. Commands whose work may be long tell the progress how far it has come,
+/// and that it has ended before anything is written; behind the line of a fault it is told what is wrong.
 pub fn carry_out<H: Threads + Files + Sync, S: Source, W: Write, F: Write, P: Progress + Notes>(
     alloc: Global,
     rt: &H,

@@ -213,8 +213,8 @@ fn report_value(
     })
 }
 
-/// Returns a verdict on a history, for a queue that may give any of its k oldest items, 1 to 64, as one line of JSON: an
-/// object with the verdict (`status`), the text of `judge_text`, how many calls were judged and items left, and of
+/// Returns a verdict on a history, for a queue that may give any of its k oldest items, 1 to 64, as one line of JSON:
+/// an object with the verdict (`status`), the text of `judge_text`, how many calls were judged and items left, and of
 /// `no order` the evidence, with its kind by number and name, a headline and the calls that it names, and the bounds of
 /// the least k where the text says them. What does not apply is null. `file` is the name of the file that was judged,
 /// null where there is none; `order` is there where it is to be shown. An error means that an allocation failed.

@@ -172,8 +172,8 @@ pub fn read_all<R: Source>(alloc: Global, source: &mut R) -> Result<Vec<u8>, Rea
 }
 
 /// Returns all that a source gives, a record or a log: a record of at most 16,777,216 bytes, a log of any number.
-/// Refuses: Failed where a call of the source failed, which is not made again; TooLong where the input begins as a record
-/// and over 16,777,216 bytes came; Memory where an allocation failed.
+/// Refuses: Failed where a call of the source failed, which is not made again; TooLong where the input begins as a
+/// record and over 16,777,216 bytes came; Memory where an allocation failed.
 pub fn read_record_or_log<R: Source>(alloc: Global, source: &mut R) -> Result<Vec<u8>, ReadFault>
     ensures read { IfOk result (λ v. IfSome (R.remaining source.old) (λ xs. xs ≡ v.items)) }
     ensures small { IfOk result (λ v. ¬ (IsLongRecord v.items)) }
