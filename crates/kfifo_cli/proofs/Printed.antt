@@ -18,7 +18,10 @@ ends_as answers answers' causes causes' misuse misuse' output faults status answ
   printed = λ h. let p = e.printed h in (p.0, (p.1.0, answer p.1.0 status p.1.1, p.1.2));
   failed = λ h. elim (e.failed h) [
     | inl p ↦ inl (p.0, (p.1.0, p.1.1, answer p.1.0 p.1.1 p.1.2, p.1.3))
-    | inr p ↦ inr (p.0, (p.1.0, cause p.1.0 p.1.1, p.1.2))
+    | inr q ↦ elim q [
+      | inl p ↦ inr (inl (p.0, (p.1.0, cause p.1.0 p.1.1, p.1.2)))
+      | inr p ↦ inr (inr (p.0, (p.1.0, answer p.1.0 status p.1.1, p.1.2)))
+    ]
   ];
   misused = λ h. let p = e.misused h in (p.0, misused p.1);
 }
@@ -39,7 +42,10 @@ ends_on answers causes misuse misuse' output output' faults faults' status out t
   printed = λ h. let p = e.printed h in (told Nothing p.0, (p.1.0, p.1.1, out (Whole p.1.0) p.1.2));
   failed = λ h. elim (e.failed h) [
     | inl p ↦ inl (told Nothing p.0, (p.1.0, p.1.1, p.1.2, out (Part p.1.0) p.1.3))
-    | inr p ↦ inr (out Nothing p.0, (p.1.0, p.1.1, tells_on faults faults' told (fault_line p.1.0) p.1.2))
+    | inr q ↦ elim q [
+      | inl p ↦ inr (inl (out Nothing p.0, (p.1.0, p.1.1, tells_on faults faults' told (fault_line p.1.0) p.1.2)))
+      | inr p ↦ inr (inr (told Nothing p.0, (p.1.0, p.1.1, out (Whole p.1.0) p.1.2)))
+    ]
   ];
   misused = λ h. let p = e.misused h in (out Nothing p.0, misused p.1);
 }

@@ -14,7 +14,7 @@ use Rattle.clap.specs.declared.builder.command.Command.TheViews.{out-Command as 
 use Rattle.clap.specs.declared.builder.range.ValueRange.{ValueRange}
 use Rattle.clap.specs.declared.builder.texts.Texts.TheVariants.{One}
 use Rattle.clap.specs.declared.builder.value_parser.ValueParser.{ValueParser}
-use Rattle.kfifo_cli_arguments.specs.CommandLine.{IsCommand, any_words, bare_program, default_option, file_rule, number_option}
+use Rattle.kfifo_cli_arguments.specs.CommandLine.{IsCommand, any_words, bare_program, default_option, file_rule, many, number_option}
 use Rattle.kfifo_cli_arguments.specs.CommandLine.{option, places_option, script, small_numbers, text_option}
 
 -- a parse reads this of the option, and it is not global
@@ -62,17 +62,24 @@ some_is : {X : Type 0} (o : Option X) (v : X) → IsSomeAnd o (λ x. x ≡ v) �
 some_is None v h = absurd h
 some_is (Some x) v h = ap (λ y. Some y) h
 
--- words, of which there may be none
-pub words_rule : (n v a m : Arg) (word : Bor (List ℕ)) → IsArg (new_rule (codes "words")) n → v ≡ record n { val_names = One word }
+-- arguments behind the options, of which there may be none
+pub many_rule : (n v a m : Arg) (name : Text) (word : Bor (List ℕ)) → IsArg (new_rule name) n → v ≡ record n { val_names = One word }
     → a ≡ record v { action = Some Append }
     → m ≡ record a { num_vals = m.num_vals } → IsSomeAnd m.num_vals
-    (λ range. range ≡ record { start_inclusive = 1; end_inclusive = usize_max }) → IsArg any_words m
-words_rule n v a m word ne ve ae me range = (
+    (λ range. range ≡ record { start_inclusive = 1; end_inclusive = usize_max }) → IsArg (many name) m
+many_rule n v a m name word ne ve ae me range = (
   ap rule_of me ∙ ap₂ (λ (x : Rule) (y : Option ValueRange). record x { range = y })
       (ap rule_of ae ∙ ap (λ (x : Rule). record x { action = Some Append })
       (ap rule_of ve ∙ ap (λ (x : Rule). record x { value_names = 1 }) ne.0)) (some_is m.num_vals _ range),
   ap (λ (x : Arg). x.global) me ∙ (ap (λ (x : Arg). x.global) ae ∙ (ap (λ (x : Arg). x.global) ve ∙ ne.1)),
 )
+
+-- words, of which there may be none
+pub words_rule : (n v a m : Arg) (word : Bor (List ℕ)) → IsArg (new_rule (codes "words")) n → v ≡ record n { val_names = One word }
+    → a ≡ record v { action = Some Append }
+    → m ≡ record a { num_vals = m.num_vals } → IsSomeAnd m.num_vals
+    (λ range. range ≡ record { start_inclusive = 1; end_inclusive = usize_max }) → IsArg any_words m
+words_rule n v a m word = many_rule n v a m (codes "words") word
 
 -- the argument that names a file
 pub file_rule_is : (n v a : Arg) (word : Bor (List ℕ)) → IsArg (new_rule (codes "file")) n → v ≡ record n { val_names = One word }

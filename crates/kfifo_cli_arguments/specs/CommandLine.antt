@@ -75,13 +75,21 @@ file_rule = record (new_rule (codes "file")) { value_names = 1; action = Some Se
 abbrev pub with_file : App → App
 with_file app = with_rule app file_rule
 
--- words, or none
-abbrev pub any_words : Rule
-any_words = record (new_rule (codes "words")) {
+-- the arguments behind the options, of which there may be any number
+abbrev pub many : Text → Rule
+many name = record (new_rule name) {
   value_names = 1;
   action = Some Append;
   range = Some (record { start_inclusive = 1; end_inclusive = usize_max });
 }
+
+-- the files to be read, of which there may be any number
+abbrev pub with_files : App → App
+with_files app = with_rule app (many (codes "file"))
+
+-- words, or none
+abbrev pub any_words : Rule
+any_words = many (codes "words")
 
 -- the words of a script, at least one
 abbrev pub script : Rule
@@ -112,8 +120,8 @@ replay_command = with_rule (with_rule
 
 -- the command `judge`
 abbrev pub judge_command : App
-judge_command = with_file (with_rule (with_tries (with_places (codes "1") (new_app (codes "judge"))))
-    (flag (codes "show")))
+judge_command = with_files (with_rule (with_rule (with_tries (with_places (codes "1") (new_app (codes "judge"))))
+    (flag (codes "show"))) (flag (codes "json")))
 
 -- the command `least`
 abbrev pub least_command : App

@@ -9,6 +9,7 @@ use Rattle.kfifo_cli_requests.specs.declared.requests.CheckOptions.{CheckOptions
 use Rattle.kfifo_cli_requests.specs.declared.requests.DispatchOptions.{DispatchOptions}
 use Rattle.kfifo_cli_requests.specs.declared.requests.DrawOptions.{DrawOptions}
 use Rattle.kfifo_cli_requests.specs.declared.requests.ExplainOptions.{ExplainOptions}
+use Rattle.kfifo_cli_requests.specs.declared.requests.JudgeFilesOptions.{JudgeFilesOptions}
 use Rattle.kfifo_cli_requests.specs.declared.requests.JudgeOptions.{JudgeOptions}
 use Rattle.kfifo_cli_requests.specs.declared.requests.LeastOptions.{LeastOptions}
 use Rattle.kfifo_cli_requests.specs.declared.requests.RecordOptions.{RecordOptions}
@@ -97,12 +98,27 @@ pub record GivesLeast (found : Found) (options : LeastOptions) : Type 0 where
   pub tries : GivesTries found options.tries
   pub file : GivesFile found options.file
 
--- the options of `judge`
+-- the paths of all files to be read, none where no file is named
+abbrev pub given_files : Found → List (List ℕ)
+given_files found = unwrap_or (option_map raw_values (matched_of found (codes "file"))) []
+
+-- the options of `judge` for at most one file
 pub record GivesJudge (found : Found) (options : JudgeOptions) : Type 0 where
   pub k : GivesPlaces found 1 options.k
   pub tries : GivesTries found options.tries
   pub show : GivesFlag (one_text found (codes "show")) options.show
+  pub json : GivesFlag (one_text found (codes "json")) options.json
+  pub one : length (given_files found) ≤ 1
   pub file : GivesFile found options.file
+
+-- the options of `judge` for several files
+pub record GivesJudgeFiles (found : Found) (options : JudgeFilesOptions) : Type 0 where
+  pub k : GivesPlaces found 1 options.k
+  pub tries : GivesTries found options.tries
+  pub show : GivesFlag (one_text found (codes "show")) options.show
+  pub json : GivesFlag (one_text found (codes "json")) options.json
+  pub several : 1 < length (given_files found)
+  pub files : map (λ file. file.now) options.files.now ≡ given_files found
 
 -- the options of `check`
 pub record GivesCheck (found : Found) (options : CheckOptions) : Type 0 where

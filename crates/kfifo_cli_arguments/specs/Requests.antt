@@ -6,11 +6,13 @@ use Rattle.clap.specs.declared.error.kind.ErrorKind.{ErrorKind}
 use Rattle.clap.specs.declared.error.kind.ErrorKind.TheVariants.{DisplayHelp, DisplayVersion}
 use Rattle.clap.specs.declared.parser.matches.Found.{Found}
 use Rattle.kfifo_cli_requests.specs.declared.requests.Request.{Request}
-use Rattle.kfifo_cli_requests.specs.declared.requests.Request.TheVariants.{Run, Check, Measure, Replay, Judge, Least}
-use Rattle.kfifo_cli_requests.specs.declared.requests.Request.TheVariants.{Record, Import, Draw, Dispatch, Explain}
+use Rattle.kfifo_cli_requests.specs.declared.requests.Request.TheVariants.{Run, Check, Measure, Replay, Judge}
+use Rattle.kfifo_cli_requests.specs.declared.requests.Request.TheVariants.{JudgeFiles, Least, Record, Import, Draw}
+use Rattle.kfifo_cli_requests.specs.declared.requests.Request.TheVariants.{Dispatch, Explain}
 use Rattle.kfifo_cli_arguments.specs.CommandLine.{Names, kinds, named}
 use Rattle.kfifo_cli_arguments.specs.Options.{GivesCheck, GivesDispatch, GivesDraw, GivesExplain, GivesFile}
-use Rattle.kfifo_cli_arguments.specs.Options.{GivesJudge, GivesLeast, GivesRecord, GivesReplay, GivesRun}
+use Rattle.kfifo_cli_arguments.specs.Options.{GivesJudge, GivesJudgeFiles, GivesLeast, GivesRecord}
+use Rattle.kfifo_cli_arguments.specs.Options.{GivesReplay, GivesRun}
 
 -- the command that was named, with what its options were given, makes this request
 abbrev pub Requests : Option (Text × List Row) → Request → Type 0
@@ -19,6 +21,8 @@ Requests command (Check options) = (found : Found) × Names command (codes "chec
 Requests command Measure = (found : Found) × Names command (codes "measure") found
 Requests command (Replay options) = (found : Found) × Names command (codes "replay") found × GivesReplay found options
 Requests command (Judge options) = (found : Found) × Names command (codes "judge") found × GivesJudge found options
+Requests command (JudgeFiles options) = (found : Found) × Names command (codes "judge") found
+    × GivesJudgeFiles found options
 Requests command (Least options) = (found : Found) × Names command (codes "least") found
     × GivesLeast found options
 Requests command (Record options) = (found : Found) × Names command (codes "record") found × GivesRecord found options

@@ -75,6 +75,9 @@ pub fn request_of<'a>(matches: &'a ArgMatches<'_>) -> Option<Request<'a>>
         return Some(Request::Replay(replay::options_of(options)));
     }
     if let Some(options) = matches.subcommand_matches(judge::NAME) {
+        if judge::names_several(options) {
+            return Some(Request::JudgeFiles(judge::files_options_of(options)));
+        }
         return Some(Request::Judge(judge::options_of(options)));
     }
     if let Some(options) = matches.subcommand_matches(least::NAME) {

@@ -1,10 +1,10 @@
 //! Options that several commands share.
-ghost use Rattle.std.specs.Prelude.{◌≡◌, ◌≤◌, false, IfOk};
+ghost use Rattle.std.specs.Prelude.{◌≡◌, ◌≤◌, false, IfOk, map};
 ghost use Rattle.clap.specs.Words.{app_of, found_of, one_text, rule_of};
 ghost use Rattle.clap.specs.declared.builder.command.Command.TheViews.{out-Command as fields_of};
 ghost use Rattle.kfifo_cli_arguments.specs.CommandLine as line;
 ghost use Rattle.kfifo_cli_arguments.specs.Options.{GivesFile, GivesOr, GivesPlaces, GivesSizes, GivesTries};
-ghost use Rattle.kfifo_cli_arguments.specs.Options.{GivesTurns};
+ghost use Rattle.kfifo_cli_arguments.specs.Options.{GivesTurns, given_files};
 
 use clap::{Arg, ArgAction, ArgMatches, Command, value_parser};
 use kfifo_cli_requests::Sizes;
@@ -173,6 +173,26 @@ pub fn with_file<'a>(alloc: Global, command: Command<'a>) -> Result<Command<'a>,
         .action(ArgAction::Set)
         .help("The file to read; standard input if none is named,\nor -");
     command.arg(file)
+}
+
+/// Adds the argument `[FILE]..`.
+pub fn with_files<'a>(alloc: Global, command: Command<'a>) -> Result<Command<'a>, AllocError>
+    ensures { IfOk result (λ c. (app_of c ≡ line.with_files (app_of command.entry))
+        × ((fields_of c).has_globals ≡ (fields_of command.entry).has_globals)) }
+{
+    let files = Arg::new(alloc, FILE)
+        .value_name("FILE")
+        .action(ArgAction::Append)
+        .num_args(1..)
+        .help("The files to read; standard input if none is named,\nor - alone");
+    command.arg(files)
+}
+
+/// The paths of all files that are named.
+pub fn files_of<'a>(matches: &'a ArgMatches<'_>) -> &'a [&'a str]
+    ensures { map (λ file. file.now) result.now ≡ given_files (found_of matches.now) }
+{
+    matches.get_strs(FILE).unwrap_or(&[])
 }
 
 /// The path of the file that is read, where one is named; none of standard input.

@@ -8,7 +8,8 @@ use Rattle.kfifo_cli_commands.specs.declared.cut.Cut.{Cut}
 use Rattle.kfifo_cli_requests.specs.declared.requests.DrawOptions.{DrawOptions}
 use Rattle.kfifo_cli_commands.specs.Cuts.{AsksFor, IsCutFault}
 use Rattle.kfifo_cli_commands.specs.Pictures.{IsDrawRefusal, IsNoPicture, IsUndrawn}
-use Rattle.kfifo_cli_commands.specs.Records.{IsInput, IsOrderFault, IsUnread}
+use Rattle.kfifo_cli_commands.specs.Inputs.{IsCallsInput, IsCallsUnread}
+use Rattle.kfifo_cli_commands.specs.Records.{IsOrderFault}
 
 module _ (input : Option (List ℕ)) (before after : ℕ) (options : DrawOptions) where
   -- options that ask for no calls are a refusal
@@ -44,12 +45,12 @@ module _ (input : Option (List ℕ)) (before after : ℕ) (options : DrawOptions
   order_refused fault (inr w) = subst (λ f. IsDrawRefusal options input before after f) (sym w.0) w.1
 
   -- an input that was not read is a refusal
-  pub input_refused : (fault : Fault) → (fault ≡ Memory) ⊎ ((fault ≡ Input) × IsUnread input before after)
+  pub input_refused : (fault : Fault) → (fault ≡ Memory) ⊎ ((fault ≡ Input) × IsCallsUnread input before after)
       → IsDrawRefusal options input before after fault
   input_refused fault (inl is) = subst (λ f. IsDrawRefusal options input before after f) (sym is) tt
   input_refused fault (inr w) = subst (λ f. IsDrawRefusal options input before after f) (sym w.0) w.1
 
-  module _ (cut : Cut) (asked : AsksFor options cut) (bytes : List ℕ) (read : IsInput input bytes) where
+  module _ (cut : Cut) (asked : AsksFor options cut) (bytes : List ℕ) (read : IsCallsInput input bytes) where
     undrawn : (fault : Fault) → IsNoPicture options.check.k options.evidence cut bytes fault → IsUndrawn options input fault
     undrawn fault u = record { cut = cut; asked = asked; bytes = bytes; read = read; unpictured = u }
 

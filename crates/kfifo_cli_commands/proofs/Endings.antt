@@ -1,11 +1,14 @@
 -- How a run ends with a fault.
-use Rattle.std.proofs.Common.{◌≡◌, ◌≢◌, ◌⊎◌, inl, inr, ℕ, List, refl, arith}
+use Rattle.std.proofs.Common.{◌≡◌, ◌≢◌, ◌≤◌, ◌⊎◌, inl, inr, ℕ, List, refl, arith}
 use Rattle.kfifo_cli_commands.proofs.Types.{Fault}
 use Rattle.kfifo_cli_texts.specs.declared.fault.Fault.TheVariants.{Shape, Word, Order, Picks, Replay, Trace, Open, Dispatch, Input, NoInput}
 use Rattle.kfifo_cli_texts.specs.declared.fault.Fault.TheVariants.{NotJson, Record, Search, RepeatedItem, Import, TooManyDrawn}
 use Rattle.kfifo_cli_texts.specs.declared.fault.Fault.TheVariants.{Contradiction, Stretch, NoLines, NoEvidence, Unexplained, Memory, Output}
 use Rattle.kfifo_cli_texts.specs.Faults.{fault_line}
-use Rattle.kfifo_cli_texts.specs.Printing.{Nothing, Part, Tells, Written}
+use Rattle.kfifo_cli_texts.specs.Printing.{Nothing, Part, Tells, Whole, Written}
+use Rattle.kfifo_cli_commands.specs.declared.status.Status.{Status}
+use Rattle.kfifo_cli_commands.specs.declared.status.Status.TheVariants.{Answered, Failed, Misused, Unordered, Undecided}
+use Rattle.kfifo_cli_commands.specs.Statuses.{status_number}
 use Rattle.kfifo_cli_commands.specs.Endings.{Ends}
 
 -- a fault is the failure of writing, or not
@@ -55,7 +58,34 @@ module _ (answers : List ℕ → ℕ → Type 0) (causes : Fault → Type 0) (ou
     printed = λ e. absurd (no_answer 1 refl e);
     failed = λ e. elim (is_output fault) [
       | inl is ↦ inl (silent is, broke is)
-      | inr not ↦ inr (untouched not, (fault, cause not, told not))
+      | inr not ↦ inr (inl (untouched not, (fault, cause not, told not)))
     ];
+    misused = λ e. absurd (no_misuse 1 refl e);
+  }
+
+  -- a run whose whole text was written, with a status of an answer
+  answered_by : (status : ℕ) (text : List ℕ) → status ≤ 4 → (status ≡ 1 → ⊥) → (status ≡ 2 → ⊥) → faults Nothing
+      → answers text status → output (Whole text) → Ends answers causes ⊥ output faults status
+  answered_by status text known no_failure no_misuse silent answered whole = record {
+    known = known;
+    printed = λ e. (silent, (text, answered, whole));
+    failed = λ e. absurd (no_failure e);
+    misused = λ e. absurd (no_misuse e);
+  }
+
+  -- A run whose whole text was written ends with the status of that text, which may be that of a failure.
+  pub ends_well : (status : Status) (text : List ℕ) → status ≢ Misused → faults Nothing → answers text (status_number status)
+      → output (Whole text) → Ends answers causes ⊥ output faults (status_number status)
+  ends_well Answered text known silent answered whole =
+      answered_by 0 text (omega arith) (λ e. omega (arith, e)) (λ e. omega (arith, e)) silent answered whole
+  ends_well Unordered text known silent answered whole =
+      answered_by 3 text (omega arith) (λ e. omega (arith, e)) (λ e. omega (arith, e)) silent answered whole
+  ends_well Undecided text known silent answered whole =
+      answered_by 4 text (omega arith) (λ e. omega (arith, e)) (λ e. omega (arith, e)) silent answered whole
+  ends_well Misused text known silent answered whole = absurd (known refl)
+  ends_well Failed text known silent answered whole = record {
+    known = omega arith;
+    printed = λ e. absurd (no_answer 1 refl e);
+    failed = λ e. inr (inr (silent, (text, answered, whole)));
     misused = λ e. absurd (no_misuse 1 refl e);
   }

@@ -10,3 +10,4 @@ pub mod Drawing
 pub mod Picturing
 pub mod Endings
 pub mod EventLines
+pub mod Filing

@@ -1,5 +1,5 @@
 -- What the commands `judge`, `least`, `import` and `draw` read, and the calls of it: a record in JSON, or a log in CSV.
-use Rattle.std.specs.Prelude.{◌≡◌, ◌≢◌, ℕ, List, [], Option, Some, None, length}
+use Rattle.std.specs.Prelude.{◌≡◌, ◌≢◌, ◌⊎◌, ℕ, List, [], Option, Some, None, IfSome, length}
 use denote.Ref.{Bor}
 use Rattle.kfifo_model.specs.declared.calls.Call.{Call}
 use Rattle.kfifo_model.specs.declared.history.RecordFault.{RecordFault}
@@ -7,7 +7,8 @@ use Rattle.kfifo_import.specs.declared.log.ImportFault.{ImportFault}
 use Rattle.kfifo_model.specs.declared.logged.LoggedCall.{LoggedCall}
 use Rattle.kfifo_import.specs.Foreign.{IsJudgedLog, IsUnjudged}
 use Rattle.kfifo_judge.specs.declared.record.StreamFault.TheVariants as streams
-use Rattle.kfifo_judge.specs.Inputs.{BeginsRecord}
+use Rattle.kfifo_judge.specs.Inputs.{BeginsRecord, IsLongRecord}
+use Rattle.kfifo_judge.specs.Streams.{CountsOne}
 use Rattle.kfifo_model.specs.RecordTexts.{IsRecordText}
 use Rattle.kfifo_judge.specs.TextFaults.{IsTextFault}
 use Rattle.kfifo_cli_texts.specs.declared.fault.Fault.{Fault}
@@ -17,6 +18,14 @@ use Rattle.kfifo_cli_texts.specs.declared.fault.Fault.TheVariants.{Import, NoInp
 abbrev pub read_from : Option (Bor (List ℕ)) → Option (List ℕ) → Option (List ℕ)
 read_from None input = input
 read_from (Some path) input = None
+
+-- these are the bytes of the input, where those are known; a record has at most 16,777,216, a log any number
+abbrev pub IsCallsInput : Option (List ℕ) → List ℕ → Type 0
+IsCallsInput input bytes = IfSome input (λ given. (given ≡ bytes) × ¬ (IsLongRecord given))
+
+-- it was not read whole: a read failed, or over 16,777,216 bytes of a record came
+abbrev pub IsCallsUnread : Option (List ℕ) → ℕ → ℕ → Type 0
+IsCallsUnread input before after = CountsOne before after ⊎ ((after ≡ before) × IfSome input IsLongRecord)
 
 -- The calls of an input: the record's, or the log's with what the log says of each beside them.
 abbrev pub IsCalls : List ℕ → List Call → Option (List LoggedCall) → Type 0

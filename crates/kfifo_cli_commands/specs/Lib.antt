@@ -2,6 +2,7 @@ pub mod Cuts
 pub mod Dispatches
 pub mod Endings
 pub mod Explanations
+pub mod FileVerdicts
 pub mod Imports
 pub mod Inputs
 pub mod Pictures
@@ -11,4 +12,5 @@ pub mod Replays
 pub mod Reports
 pub mod Runs
 pub mod Statuses
+pub mod Tallies
 pub mod Verdicts

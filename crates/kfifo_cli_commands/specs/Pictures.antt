@@ -16,8 +16,8 @@ use Rattle.kfifo_cli_commands.specs.declared.cut.Cut.{Cut}
 use Rattle.kfifo_cli_commands.specs.Cuts.{AsksFor, IsCutFault, IsOfLines, IsPartOf, LacksEvidence}
 use Rattle.kfifo_judge.specs.Inputs.{BeginsRecord}
 use Rattle.kfifo_judge.specs.Reasons.{named_by}
-use Rattle.kfifo_cli_commands.specs.Inputs.{IsCalls, IsNoCalls, logged_calls}
-use Rattle.kfifo_cli_commands.specs.Records.{IsInput, IsOrder, IsOrderFault, IsUnread}
+use Rattle.kfifo_cli_commands.specs.Inputs.{IsCalls, IsCallsInput, IsCallsUnread, IsNoCalls, logged_calls}
+use Rattle.kfifo_cli_commands.specs.Records.{IsOrder, IsOrderFault}
 
 -- the evidence for this k, where it is asked for
 abbrev pub IsSought : Bool → ℕ → List Call → Option Evidence → Type 0
@@ -85,7 +85,7 @@ pub record IsDraw (options : DrawOptions) (input : Option (List ℕ)) : Type 0 w
   pub order : Option (List ℕ)
   pub order_given : IsOrder options.check order
   pub bytes : List ℕ
-  pub read : IsInput input bytes
+  pub read : IsCallsInput input bytes
   pub pictured : IsPicture options.check.k options.evidence cut bytes
 
 -- the options ask for calls of the input that have no picture
@@ -93,7 +93,7 @@ pub record IsUndrawn (options : DrawOptions) (input : Option (List ℕ)) (fault 
   pub cut : Cut
   pub asked : AsksFor options cut
   pub bytes : List ℕ
-  pub read : IsInput input bytes
+  pub read : IsCallsInput input bytes
   pub unpictured : IsNoPicture options.check.k options.evidence cut bytes fault
 
 -- why there is no picture
@@ -101,6 +101,6 @@ abbrev pub IsDrawRefusal : DrawOptions → Option (List ℕ) → ℕ → ℕ →
 IsDrawRefusal options input before after Contradiction = IsCutFault options Contradiction
 IsDrawRefusal options input before after Stretch = IsCutFault options Stretch
 IsDrawRefusal options input before after Order = IsOrderFault options.check
-IsDrawRefusal options input before after Input = IsUnread input before after
+IsDrawRefusal options input before after Input = IsCallsUnread input before after
 IsDrawRefusal options input before after Memory = Unit {0}
 IsDrawRefusal options input before after fault = IsUndrawn options input fault

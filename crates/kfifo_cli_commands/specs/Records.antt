@@ -3,6 +3,8 @@ use Rattle.std.specs.Prelude.{◌≡◌, ◌≢◌, ◌⊎◌, ◌<◌, ◌≤�
 use Rattle.std.specs.Prelude.{option_map}
 use Rattle.kfifo_judge.specs.declared.streams.TheConstants.{MAX_BYTES}
 use Rattle.kfifo_judge.specs.declared.outcome.Outcome.{Outcome}
+use Rattle.kfifo_judge.specs.declared.streams.ReadFault.{ReadFault}
+use Rattle.kfifo_judge.specs.declared.streams.ReadFault.TheVariants as reads
 use Rattle.kfifo_judge.specs.declared.record.StreamFault.{StreamFault}
 use Rattle.kfifo_judge.specs.declared.record.StreamFault.TheVariants as streams
 use Rattle.kfifo_judge.specs.Check.{IsChecked, IsCheckFault}
@@ -25,6 +27,12 @@ IsInput input bytes = IfSome input (λ given. (given ≡ bytes) × (length given
 abbrev pub IsUnread : Option (List ℕ) → ℕ → ℕ → Type 0
 IsUnread input before after = CountsOne before after
     ⊎ ((after ≡ before) × IfSome input (λ given. MAX_BYTES < length given))
+
+-- the fault of a command whose input was not read
+abbrev pub input_fault : ReadFault → Fault
+input_fault reads.Failed = Input
+input_fault reads.TooLong = Input
+input_fault reads.Memory = Memory
 
 -- no read failed, unless that is the fault that is reported
 abbrev pub FailsWell : {T : Type 0} → Result T Failure → ℕ → ℕ → Type 0

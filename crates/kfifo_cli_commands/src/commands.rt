@@ -6,6 +6,7 @@ pub mod draw;
 pub mod explain;
 pub mod import;
 pub mod judge;
+pub mod judge_files;
 pub mod least;
 pub mod measure;
 pub mod record;

@@ -7,7 +7,7 @@ ghost use Rattle.kfifo_cli_commands.specs.Records.{FailsWell};
 ghost use Rattle.kfifo_cli_commands.specs.Statuses.{status_number};
 
 use crate::commands::{
-    check, dispatch, draw, explain, import, judge, least, measure, record, replay, run,
+    check, dispatch, draw, explain, import, judge, judge_files, least, measure, record, replay, run,
 };
 use crate::explaining::{NO_MEMORY, lines_of};
 use crate::failure::Failure;
@@ -31,9 +31,9 @@ pub enum Notice {
     Misuse,
 }
 
-/// Does what is requested, and writes its answer or the line of its fault. Files may be named,
-/// and `record` and `dispatch` start threads: `rt` may do both. `replay` tells the progress how far it has
-/// come, and that it has ended before anything is written; behind the line of a fault it is told what is wrong.
+/// Does what is requested, and writes its answer or the line of its fault. Files may be named, and `record` and
+/// `dispatch` start threads: `rt` may do both. Commands whose work may be long tell the progress how far it has come,
+/// and that it has ended before anything is written; behind the line of a fault it is told what is wrong.
 pub fn carry_out<H: Threads + Files + Sync, S: Source, W: Write, F: Write, P: Progress + Notes>(
     alloc: Global,
     rt: &H,
@@ -129,7 +129,7 @@ fn answer<H: Threads + Files + Sync, S: Source, W: Write, P: Progress>(
     output: &mut Printer<'_, W>,
     progress: &mut P,
 ) -> Result<Status, Failure>
-    ensures statuses { IfOk result (λ status. (status ≢ Status.Failed) × (status ≢ Status.Misused)) }
+    ensures statuses { IfOk result (λ status. status ≢ Status.Misused) }
     ensures printed { IfOk result (λ status. (text : List ℕ)
         × Answers request.entry (S.remaining input.old) text (status_number status)
         × Writes W.contents output.old text output.new) }
@@ -165,12 +165,23 @@ fn answer<H: Threads + Files + Sync, S: Source, W: Write, P: Progress>(
             Ok(Status::Answered)
         }
         Request::Judge(options) => {
-            let (text, status) = judge::answer(alloc, rt, options, input)?;
+            let said = judge::answer(alloc, rt, options, input, progress);
+            progress.ended();
+            let (text, status) = said?;
+            output.print(text.as_bytes())?;
+            Ok(status)
+        }
+        Request::JudgeFiles(options) => {
+            let said = judge_files::answer(alloc, rt, options, progress);
+            progress.ended();
+            let (text, status) = said?;
             output.print(text.as_bytes())?;
             Ok(status)
         }
         Request::Least(options) => {
-            let (text, status) = least::answer(alloc, rt, options, input)?;
+            let said = least::answer(alloc, rt, options, input, progress);
+            progress.ended();
+            let (text, status) = said?;
             output.print(text.as_bytes())?;
             Ok(status)
         }
@@ -185,7 +196,9 @@ fn answer<H: Threads + Files + Sync, S: Source, W: Write, P: Progress>(
             Ok(Status::Answered)
         }
         Request::Draw(options) => {
-            let text = draw::answer(alloc, rt, options, input)?;
+            let drawn = draw::answer(alloc, rt, options, input, progress);
+            progress.ended();
+            let text = drawn?;
             output.print(text.as_bytes())?;
             Ok(Status::Answered)
         }

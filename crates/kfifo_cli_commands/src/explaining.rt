@@ -34,6 +34,27 @@ pub(crate) fn lines_of<H: Files>(
     Ok(text)
 }
 
+/// What is wrong with an input of calls, in words.
+pub(crate) fn words_behind(alloc: Global, failure: &Failure) -> Result<String, AllocError> {
+    let mut text = String::new(alloc);
+    match &failure.detail {
+        Detail::Words(words) => text.push_str(words.as_str())?,
+        Detail::Field(wrong) => write!(text, "{wrong}")?,
+        Detail::Nothing => push_fault(&mut text, failure.fault)?,
+    }
+    Ok(text)
+}
+
+/// Adds what is wrong where no more is known than the fault, whatever was requested.
+fn push_fault(text: &mut String, fault: Fault) -> Result<(), AllocError> {
+    match fault {
+        Fault::Record(RecordFault::Memory) => text.push_str(NO_MEMORY),
+        Fault::Record(fault) => write!(text, "{fault}"),
+        Fault::Import(fault) => write!(text, "{fault}"),
+        _ => text.push_str(words_of(fault)),
+    }
+}
+
 /// Adds what is wrong where no more is known than the fault and the request.
 fn push_words<H: Files>(
     alloc: Global,
@@ -50,10 +71,7 @@ fn push_words<H: Files>(
         Fault::Replay(fault) => push_replay(text, request, fault),
         Fault::Open(fault) => push_open(text, request, fault),
         Fault::Dispatch(fault) => push_dispatch(text, request, fault),
-        Fault::Record(RecordFault::Memory) => text.push_str(NO_MEMORY),
-        Fault::Record(fault) => write!(text, "{fault}"),
-        Fault::Import(fault) => write!(text, "{fault}"),
-        _ => text.push_str(words_of(fault)),
+        _ => push_fault(text, fault),
     }
 }
 

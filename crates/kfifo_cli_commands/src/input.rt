@@ -1,12 +1,15 @@
 //! What the commands read.
 ghost use Rattle.std.specs.Prelude.{◌≡◌, ◌⊎◌, IfErr, IfOk, IsSome, MatchResult, option_map};
-ghost use Rattle.kfifo_cli_commands.specs.Inputs.{IsCalls, IsNoCalls, logged_calls, read_from};
-ghost use Rattle.kfifo_cli_commands.specs.Records.{FailsWell, IsInput, IsUnread};
+ghost use Rattle.kfifo_cli_commands.specs.Inputs.{IsCalls, IsCallsInput, IsCallsUnread, IsNoCalls, logged_calls};
+ghost use Rattle.kfifo_cli_commands.specs.Inputs.{read_from};
+ghost use Rattle.kfifo_cli_commands.specs.Records.{FailsWell, IsInput, IsUnread, input_fault};
+ghost use Rattle.kfifo_judge.specs.Inputs.{IsLongRecord};
 
 use crate::failure::Failure;
-use kfifo_cli_texts::{Fault, FileFault, read_file};
+use crate::progress::{Progress, Stage};
+use kfifo_cli_texts::{Fault, FileFault, read_calls_file, read_file};
 use kfifo_import::read_log_to_judge;
-use kfifo_judge::{ReadFault, Source, begins_record, read_all, read_record};
+use kfifo_judge::{ReadFault, Source, begins_record, read_all, read_record, read_record_or_log};
 use kfifo_model::{History, LoggedCall};
 use std::alloc::Global;
 use std::io;
@@ -31,17 +34,55 @@ impl Calls {
     }
 }
 
-/// What is said of standard input or a file with this name that cannot be read, for this reason.
-fn unread(alloc: Global, name: &str, reason: Option<&io::Error>) -> Option<String> {
-    match reason {
+/// How standard input is called.
+const STANDARD_INPUT: &str = "standard input";
+
+/// What is said of an input that has too many bytes.
+const TOO_LONG: &str = "has over 16,777,216 bytes, which are allowed";
+
+/// The same of a record, where a log may have more.
+const LONG_RECORD: &str =
+    "is a record of over 16,777,216 bytes, which are allowed; a log may have any number";
+
+/// The failure of a reading of standard input or a file with this name, which the system refused for this reason.
+fn unread(alloc: Global, name: &str, reason: Option<&io::Error>) -> Failure
+    ensures { result.fault ≡ Fault.Input }
+{
+    let words = match reason {
         Some(reason) => format!(in alloc; "{name} cannot be read: {reason}").ok(),
         None => format!(in alloc; "{name} cannot be read").ok(),
+    };
+    Failure::from(Fault::Input).with_words(words)
+}
+
+/// The failure of an input with this name that is too long.
+fn too_long(alloc: Global, name: &str, why: &str) -> Failure
+    ensures { result.fault ≡ Fault.Input }
+{
+    let words = format!(in alloc; "{name} {why}").ok();
+    Failure::from(Fault::Input).with_words(words)
+}
+
+/// The failure of standard input.
+fn input_failure<S: Source>(alloc: Global, input: &S, fault: ReadFault, long: &str) -> Failure
+    ensures { result.fault ≡ input_fault fault }
+{
+    match fault {
+        ReadFault::Failed => unread(alloc, STANDARD_INPUT, input.reason()),
+        ReadFault::TooLong => too_long(alloc, STANDARD_INPUT, long),
+        ReadFault::Memory => Failure::from(Fault::Memory),
     }
 }
 
-/// What is said of standard input or a file with this name that is too long.
-fn too_long(alloc: Global, name: &str) -> Option<String> {
-    format!(in alloc; "{name} has over 16,777,216 bytes, which are allowed").ok()
+/// The failure of the file with this path.
+fn file_failure(alloc: Global, path: &str, fault: FileFault, long: &str) -> Failure
+    ensures { (result.fault ≡ Fault.Memory) ⊎ (result.fault ≡ Fault.Input) }
+{
+    match fault {
+        FileFault::Failed(reason) => unread(alloc, path, reason.as_ref()),
+        FileFault::TooLong => too_long(alloc, path, long),
+        FileFault::Memory => Failure::from(Fault::Memory),
+    }
 }
 
 /// All bytes of the input, at most 16,777,216.
@@ -51,18 +92,9 @@ pub fn read_input<S: Source>(alloc: Global, input: &mut S) -> Result<Vec<u8>, Fa
         × IsUnread (S.remaining input.old) (S.failed input.old) (S.failed input.new))) }
     ensures reads { FailsWell result (S.failed input.old) (S.failed input.new) }
 {
-    const NAME: &str = "standard input";
     match read_all(alloc, input) {
         Ok(bytes) => Ok(bytes),
-        Err(ReadFault::Failed) => {
-            let words = unread(alloc, NAME, input.reason());
-            Err(Failure::from(Fault::Input).with_words(words))
-        }
-        Err(ReadFault::TooLong) => {
-            let words = too_long(alloc, NAME);
-            Err(Failure::from(Fault::Input).with_words(words))
-        }
-        Err(ReadFault::Memory) => Err(Failure::from(Fault::Memory)),
+        Err(fault) => Err(input_failure(alloc, input, fault, TOO_LONG)),
     }
 }
 
@@ -80,27 +112,60 @@ pub fn read_given<H: Files, S: Source>(
     ensures reads { FailsWell result (S.failed input.old) (S.failed input.new) }
     ensures aside { IsSome file.entry → input.new ≡ input.old }
 {
-    match file {
-        Some(path) => read_named(alloc, files, path),
-        None => read_input(alloc, input),
+    let Some(path) = file else {
+        return read_input(alloc, input);
+    };
+    match read_file(alloc, files, path) {
+        Ok(bytes) => Ok(bytes),
+        Err(fault) => Err(file_failure(alloc, path, fault, TOO_LONG)),
     }
 }
 
-/// All bytes of the file with this path.
-fn read_named<H: Files>(alloc: Global, files: &H, path: &str) -> Result<Vec<u8>, Failure>
-    ensures { IfErr result (λ failure. (failure.fault ≡ Fault.Memory) ⊎ (failure.fault ≡ Fault.Input)) }
+/// All bytes of the input, which is a record or a log: of a record at most 16,777,216.
+fn read_calls_input<S: Source>(alloc: Global, input: &mut S) -> Result<Vec<u8>, Failure>
+    ensures ok { IfOk result (λ bytes. IsCallsInput (S.remaining input.old) bytes.items) }
+    ensures err { IfErr result (λ failure. (failure.fault ≡ Fault.Memory) ⊎ ((failure.fault ≡ Fault.Input)
+        × IsCallsUnread (S.remaining input.old) (S.failed input.old) (S.failed input.new))) }
+    ensures reads { FailsWell result (S.failed input.old) (S.failed input.new) }
 {
-    match read_file(alloc, files, path) {
+    match read_record_or_log(alloc, input) {
         Ok(bytes) => Ok(bytes),
-        Err(FileFault::Memory) => Err(Failure::from(Fault::Memory)),
-        Err(FileFault::Failed(reason)) => {
-            let words = unread(alloc, path, reason.as_ref());
-            Err(Failure::from(Fault::Input).with_words(words))
-        }
-        Err(FileFault::TooLong) => {
-            let words = too_long(alloc, path);
-            Err(Failure::from(Fault::Input).with_words(words))
-        }
+        Err(fault) => Err(input_failure(alloc, input, fault, LONG_RECORD)),
+    }
+}
+
+/// All bytes of the file with this path, which is a record or a log: of a record at most 16,777,216.
+pub(crate) fn read_calls_named<H: Files>(
+    alloc: Global,
+    files: &H,
+    path: &str,
+) -> Result<Vec<u8>, Failure>
+    ensures ok { IfOk result (λ bytes. ¬ (IsLongRecord bytes.items)) }
+    ensures err { IfErr result (λ failure. (failure.fault ≡ Fault.Memory) ⊎ (failure.fault ≡ Fault.Input)) }
+{
+    match read_calls_file(alloc, files, path) {
+        Ok(bytes) => Ok(bytes),
+        Err(fault) => Err(file_failure(alloc, path, fault, LONG_RECORD)),
+    }
+}
+
+/// All bytes of the file, or of the input where no file is named: a record of at most 16,777,216 bytes, or a log of any
+/// number. A file that cannot be read is the fault Input.
+pub fn read_calls_given<H: Files, S: Source>(
+    alloc: Global,
+    files: &H,
+    file: Option<&str>,
+    input: &mut S,
+) -> Result<Vec<u8>, Failure>
+    ensures ok { IfOk result (λ bytes. IsCallsInput (read_from file.entry (S.remaining input.old)) bytes.items) }
+    ensures err { IfErr result (λ failure. (failure.fault ≡ Fault.Memory) ⊎ ((failure.fault ≡ Fault.Input)
+        × IsCallsUnread (read_from file.entry (S.remaining input.old)) (S.failed input.old) (S.failed input.new))) }
+    ensures reads { FailsWell result (S.failed input.old) (S.failed input.new) }
+    ensures aside { IsSome file.entry → input.new ≡ input.old }
+{
+    match file {
+        Some(path) => read_calls_named(alloc, files, path),
+        None => read_calls_input(alloc, input),
     }
 }
 
@@ -109,7 +174,23 @@ fn read_named<H: Files>(alloc: Global, files: &H, path: &str) -> Result<Vec<u8>,
 /// of an item that no call can put is none. An input of
 /// white space alone is a log that lacks its header. One with no byte is neither: the command before it in a pipe has
 /// probably failed.
-pub(crate) fn read_calls(alloc: Global, bytes: &[u8]) -> Result<Calls, Failure>
+pub(crate) fn read_calls<P: Progress>(
+    alloc: Global,
+    bytes: &[u8],
+    progress: &mut P,
+) -> Result<Calls, Failure>
+    ensures { MatchResult result (λ calls.
+        IsCalls bytes.now calls.history (option_map (λ logged. logged.items) calls.logged))
+        (λ failure. IsNoCalls bytes.now failure.fault) }
+{
+    progress.begun(Stage::Parsing(bytes.len()));
+    let calls = parse_calls(alloc, bytes)?;
+    progress.begun(Stage::Judging(calls.history.calls().len()));
+    Ok(calls)
+}
+
+/// The calls of an input, as `read_calls` reads them.
+fn parse_calls(alloc: Global, bytes: &[u8]) -> Result<Calls, Failure>
     ensures { MatchResult result (λ calls.
         IsCalls bytes.now calls.history (option_map (λ logged. logged.items) calls.logged))
         (λ failure. IsNoCalls bytes.now failure.fault) }

@@ -11,10 +11,11 @@ mod input;
 mod progress;
 mod start;
 mod status;
+mod tally;
 mod tracing;
 
 pub use ending::{Notice, carry_out, end_with_fault, end_with_text};
 pub use failure::{Detail, Failure};
-pub use progress::{Notes, Progress, Silent};
+pub use progress::{Notes, Progress, Silent, Stage};
 pub use start::{Prompting, Showing, Started, start as start_program};
 pub use status::Status;

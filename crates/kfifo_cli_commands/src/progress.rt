@@ -6,8 +6,36 @@ pub trait Progress {
     /// So many steps of so many in all are made.
     fn told(&mut self, made: u64, all: u64);
 
+    /// This part of the work begins.
+    fn begun(&mut self, stage: Stage);
+
     /// The work is done, or was given up.
     fn ended(&mut self);
+}
+
+/// A part of the work on the calls of an input.
+#[derive(Clone, Copy, Debug, PartialEq, Eq)]
+pub enum Stage {
+    /// So many bytes are parsed.
+    Parsing(usize),
+    /// So many calls are judged, or looked for evidence.
+    Judging(usize),
+}
+
+/// Bytes that are parsed in about a second.
+const LONG_TEXT: usize = 33_554_432;
+
+/// Calls that are judged in about a second.
+const LONG_HISTORY: usize = 1_000_000;
+
+impl Stage {
+    /// Whether it takes long enough to be shown.
+    pub fn is_long(self) -> bool {
+        match self {
+            Stage::Parsing(bytes) => bytes >= LONG_TEXT,
+            Stage::Judging(calls) => calls >= LONG_HISTORY,
+        }
+    }
 }
 
 /// Gets told why there is no answer. No answer depends on what it does with that.
@@ -22,6 +50,8 @@ pub struct Silent;
 
 impl Progress for Silent {
     fn told(&mut self, _made: u64, _all: u64) {}
+
+    fn begun(&mut self, _stage: Stage) {}
 
     fn ended(&mut self) {}
 }

@@ -4,7 +4,7 @@ ghost use Rattle.kfifo_cli_texts.specs.Faults.{fault_line};
 ghost use Rattle.kfifo_cli_texts.specs.Printing.{OnPrinter, Tells};
 
 use crate::ending::end_with_fault;
-use crate::progress::{Notes, Progress};
+use crate::progress::{Notes, Progress, Stage};
 use crate::status::Status;
 use kfifo_cli_texts::{Fault, Printer};
 use std::env;
@@ -158,6 +158,24 @@ impl<C: Clock, W: Write> Progress for Showing<'_, C, W> {
             let percent = made.saturating_mul(100) / all.max(1);
             // A line that cannot be written changes nothing.
             let _ = write!(screen, "\rkfifo: {percent} %");
+            self.shown = true;
+        }
+    }
+
+    fn begun(&mut self, stage: Stage) {
+        if !stage.is_long() {
+            return;
+        }
+        self.ended();
+        if let Some(screen) = &mut self.screen {
+            // A line that cannot be written changes nothing.
+            let _ = match stage {
+                Stage::Parsing(bytes) => {
+                    let size = bytes / 1_000_000;
+                    write!(screen, "\rkfifo: parsing {size} MB")
+                }
+                Stage::Judging(calls) => write!(screen, "\rkfifo: judging {calls} calls"),
+            };
             self.shown = true;
         }
     }

@@ -6,8 +6,8 @@ mod sizes;
 mod topics;
 
 pub use requests::{
-    CheckOptions, DispatchOptions, DrawOptions, ExplainOptions, ImportOptions, JudgeOptions,
-    LeastOptions, RecordOptions, ReplayOptions, Request, RunOptions,
+    CheckOptions, DispatchOptions, DrawOptions, ExplainOptions, ImportOptions, JudgeFilesOptions,
+    JudgeOptions, LeastOptions, RecordOptions, ReplayOptions, Request, RunOptions,
 };
 pub use sizes::Sizes;
 pub use topics::{Help, HelpTexts, Topic};

@@ -58,8 +58,27 @@ pub struct JudgeOptions<'a> {
     pub tries: u64,
     /// Whether the order that was found is printed too.
     pub show: bool,
+    /// Whether the verdict is printed as JSON.
+    pub json: bool,
     /// The path of the file that is read; none to read standard input.
     pub file: Option<&'a str>,
+    pub ghost some_places: { 1 ≤ k },
+    pub ghost few_places: { k ≤ 64 },
+}
+
+/// What `judge` is given where it names several files.
+#[derive(Clone, Copy)]
+pub struct JudgeFilesOptions<'a> {
+    /// A dequeue takes one of the k oldest items, 1 to 64.
+    pub k: u32,
+    /// How many choices the search for an order of each file may undo.
+    pub tries: u64,
+    /// Whether the orders that were found are in the verdicts, where these are printed as JSON.
+    pub show: bool,
+    /// Whether the verdicts are printed as JSON, one in a line.
+    pub json: bool,
+    /// The paths of the files that are read, in turn.
+    pub files: &'a [&'a str],
     pub ghost some_places: { 1 ≤ k },
     pub ghost few_places: { k ≤ 64 },
 }
@@ -162,6 +181,8 @@ pub enum Request<'a> {
     Replay(ReplayOptions<'a>),
     /// Gives a verdict on a record of any length.
     Judge(JudgeOptions<'a>),
+    /// Gives a verdict on each of several files.
+    JudgeFiles(JudgeFilesOptions<'a>),
     /// Says between which bounds the least k of a record lies.
     Least(LeastOptions<'a>),
     /// Runs each script on a thread of its own, and records the calls.

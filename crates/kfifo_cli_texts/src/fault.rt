@@ -1,5 +1,5 @@
 //! What ends a command without its answer.
-ghost use Rattle.std.specs.Prelude.{◌≡◌, ◌++◌, MatchBool, Some, codes, decimal};
+ghost use Rattle.std.specs.Prelude.{◌≡◌, ◌++◌, IfOk, MatchBool, Some, codes, decimal, string_bytes};
 ghost use Rattle.kfifo_cli_texts.specs.declared.fault.Fault.TheVariants.{Dispatch, Memory, Open, Replay, Shape};
 ghost use Rattle.kfifo_cli_texts.specs.Faults.{at_line_text, fault_line, fault_text, import_fault_text, log_fault};
 ghost use Rattle.kfifo_cli_texts.specs.Faults.{numbered, picture_fault, stream_fault};
@@ -15,7 +15,7 @@ use kfifo_live::OpenFault;
 use kfifo_model::{RecordFault, SearchFault};
 use kfifo_replay::ReplayFault;
 use kfifo_words::ShapeFault;
-use std::alloc::{AllocError, AllocFailed};
+use std::alloc::{AllocError, AllocFailed, Global};
 use std::fmt;
 use std::io::Write;
 use thiserror::Error;
@@ -85,6 +85,13 @@ impl Fault {
             return false;
         }
         faults.write(b"\n")
+    }
+
+    /// What the line of the fault says, without its ends.
+    pub fn text(self, alloc: Global) -> Result<String, AllocError>
+        ensures { IfOk result (λ text. string_bytes text ≡ fault_text self) }
+    {
+        self.line().to_string(alloc)
     }
 
     /// What the line of the fault says.

@@ -1,8 +1,9 @@
 -- The texts of records.
-use Rattle.std.specs.Prelude.{ℕ, ◌≡◌, ◌⊎◌, ◌<◌, List, None, length, slice_index}
+use Rattle.std.specs.Prelude.{ℕ, ◌≡◌, ◌⊎◌, ◌<◌, ◌≤◌, List, None, length, slice_index}
 use Rattle.std.specs.Str.{IsUtf8}
 use Rattle.serde_json.specs.Data.{Data}
 use Rattle.serde_json.specs.Read.{read}
+use Rattle.kfifo_judge.specs.declared.streams.TheConstants.{MAX_BYTES}
 use Rattle.kfifo_model.specs.declared.history.RecordFault.{RecordFault}
 use Rattle.kfifo_model.specs.Records.{IsReadFault}
 use Rattle.kfifo_model.specs.RecordTexts.{IsJson}
@@ -11,13 +12,27 @@ use Rattle.kfifo_model.specs.RecordTexts.{IsJson}
 abbrev pub IsSpace : ℕ → Type 0
 IsSpace byte = (byte ≡ 32) ⊎ (byte ≡ 9) ⊎ (byte ≡ 10) ⊎ (byte ≡ 13)
 
+-- the first bytes, so many, are white space
+abbrev pub AreSpaces : List ℕ → ℕ → Type 0
+AreSpaces bytes count = (n : ℕ) → n < count → IsSpace (slice_index bytes n)
+
+-- the first byte that is no white space stands there, or the text ends
+pub record EndsSpaces (bytes : List ℕ) (place : ℕ) : Type 0 where
+  pub inside : place ≤ length bytes
+  pub spaces : AreSpaces bytes place
+  pub other : place < length bytes → ¬ (IsSpace (slice_index bytes place))
+
 -- The first byte that is no white space is `[`: the input is a record in JSON. Any other input with a byte is a log in
 -- CSV.
 pub record BeginsRecord (bytes : List ℕ) : Type 0 where
   pub place : ℕ
   pub inside : place < length bytes
   pub bracket : slice_index bytes place ≡ 91
-  pub spaces : (n : ℕ) → n < place → IsSpace (slice_index bytes n)
+  pub spaces : AreSpaces bytes place
+
+-- the input is a record of over 16,777,216 bytes: a log may have any number
+abbrev pub IsLongRecord : List ℕ → Type 0
+IsLongRecord bytes = BeginsRecord bytes × (MAX_BYTES < length bytes)
 
 -- the bytes are no JSON text
 abbrev pub IsNoJson : List ℕ → Type 0

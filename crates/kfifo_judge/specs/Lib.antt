@@ -13,3 +13,5 @@ pub mod Headlines
 pub mod Repeats
 pub mod Bounds
 pub mod Judgements
+pub mod Briefs
+pub mod Reports

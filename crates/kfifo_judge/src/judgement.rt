@@ -148,7 +148,7 @@ fn reason_of(stuck: Stuck) -> &'static str
 }
 
 /// Adds why the search stopped, and after how many tries.
-fn push_stuck(text: &mut String, stuck: Stuck) -> Result<(), AllocError>
+pub(crate) fn push_stuck(text: &mut String, stuck: Stuck) -> Result<(), AllocError>
     ensures { OnOk result (string_bytes text.new ≡ string_bytes text.old ++ stuck_text stuck) }
 {
     let (reason, tries) = (reason_of(stuck), stuck.tries());
@@ -181,7 +181,7 @@ fn undecided(alloc: Global, history: &History, k: u32, stuck: Stuck) -> Result<S
 }
 
 /// What a verdict says of a history.
-fn outcome_of(judgement: &Judgement) -> Outcome
+pub(crate) fn outcome_of(judgement: &Judgement) -> Outcome
     ensures { result ≡ outcome judgement.now }
 {
     match judgement {

@@ -1,6 +1,5 @@
 //! Records as texts, and why a stream gets no answer.
-ghost use Rattle.std.specs.Prelude.{ℕ, ◌≡◌, ◌↔◌, IsTrue, List, MatchResult};
-ghost use Rattle.kfifo_judge.specs.Inputs.{BeginsRecord, IsSpace};
+ghost use Rattle.std.specs.Prelude.{◌≡◌, MatchResult};
 ghost use Rattle.kfifo_model.specs.RecordTexts.{IsRecordText};
 ghost use Rattle.kfifo_judge.specs.TextFaults.{IsTextFault};
 
@@ -17,7 +16,7 @@ pub enum StreamFault {
     #[error("reading failed, or the input is over 16,777,216 bytes")]
     Input,
     /// `not json`: the input is no JSON text, or is not UTF-8.
-    #[error("the input is no JSON text in UTF-8")]
+    #[error("the input is no JSON text, or is not UTF-8")]
     NotJson,
     /// `record fault <number>`, and `at call <number>` for the faults of a call.
     #[error("{0}")]
@@ -57,25 +56,6 @@ impl From<ReadFault> for StreamFault {
             ReadFault::Memory => StreamFault::Memory,
         }
     }
-}
-
-/// Whether a byte is a space, a tab, a line feed or a carriage return.
-fn is_space(byte: u8) -> bool
-    ensures { IsTrue result ↔ IsSpace byte }
-{
-    byte == b' ' || byte == b'\t' || byte == b'\n' || byte == b'\r'
-}
-
-/// Whether a text is a record in JSON, and not a log in CSV: its first byte that is no white space is `[`.
-pub fn begins_record(bytes: &[u8]) -> bool
-    ensures { IsTrue result ↔ BeginsRecord bytes.now }
-{
-    for place in 0..bytes.len() {
-        if !is_space(bytes[place]) {
-            return bytes[place] == b'[';
-        }
-    }
-    false
 }
 
 /// Returns the history that a text records: a record in JSON, as `read_history` of `kfifo_model` takes it.

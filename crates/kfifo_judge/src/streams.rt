@@ -4,8 +4,10 @@ ghost use Rattle.std.specs.Prelude.{IfErr, IfSome, Err, IsTrue, false, MatchResu
 ghost use Rattle.std.specs.Io.{ReadsAtMost, WritesAtMost};
 ghost use Rattle.std.specs.Io.KnownBytes.{Appends, Consumes, Keeps, ReadConsumes, WriteAppends};
 ghost use Rattle.kfifo_judge.specs.Streams.{countable, CountsOne, CountsRead, CountsWrite, AppendsPart};
+ghost use Rattle.kfifo_judge.specs.Inputs.{IsLongRecord};
 ghost use Rattle.kfifo_judge.specs.ReadCounts.{IsReadCount};
 
+use crate::beginning::{is_long_record, skip_spaces};
 use std::alloc::{AllocError, Global};
 use std::io;
 use std::io::{Read, Write};
@@ -125,7 +127,7 @@ pub enum ReadFault {
     /// A call of the source failed.
     #[error("reading failed")]
     Failed,
-    /// Over 16,777,216 bytes came.
+    /// Over 16,777,216 bytes came, which are allowed; of `read_record_or_log`, over so many of a record.
     #[error("the input is over 16,777,216 bytes")]
     TooLong,
     /// An allocation failed.
@@ -166,6 +168,34 @@ pub fn read_all<R: Source>(alloc: Global, source: &mut R) -> Result<Vec<u8>, Rea
             return Err(ReadFault::TooLong);
         }
         bytes.extend_from_slice(&piece[..count])?;
+    }
+}
+
+/// Returns all that a source gives, a record or a log: a record of at most 16,777,216 bytes, a log of any number.
+/// Refuses: Failed where a call of the source failed, which is not made again; TooLong where the input begins as a
+/// record and over 16,777,216 bytes came; Memory where an allocation failed.
+pub fn read_record_or_log<R: Source>(alloc: Global, source: &mut R) -> Result<Vec<u8>, ReadFault>
+    ensures read { IfOk result (λ v. IfSome (R.remaining source.old) (λ xs. xs ≡ v.items)) }
+    ensures small { IfOk result (λ v. ¬ (IsLongRecord v.items)) }
+    ensures too_long { result ≡ Err ReadFault.TooLong → IfSome (R.remaining source.old) IsLongRecord }
+    ensures failures { MatchResult result (λ _. R.failed source.new ≡ R.failed source.old)
+        (λ f. IsReadCount f (R.failed source.old) (R.failed source.new)) }
+{
+    let mut bytes = Vec::new(alloc);
+    let mut piece = [0u8; 4096];
+    let mut spaces = 0;
+    'pieces: loop {
+        let Ok(count) = source.read(&mut piece) else {
+            return Err(ReadFault::Failed);
+        };
+        if count == 0 {
+            return Ok(bytes);
+        }
+        bytes.extend_from_slice(&piece[..count])?;
+        spaces = skip_spaces(bytes.as_slice(), spaces);
+        if is_long_record(bytes.as_slice(), spaces) {
+            return Err(ReadFault::TooLong);
+        }
     }
 }
 

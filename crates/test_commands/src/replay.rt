@@ -1,6 +1,6 @@
 //! What a replay tells of how far it has come.
 
-use kfifo_cli_commands::{Notes, Progress, Status, carry_out};
+use kfifo_cli_commands::{Notes, Progress, Stage, Status, carry_out};
 use kfifo_cli_requests::{ReplayOptions, Request, Sizes};
 use kfifo_cli_texts::Printer;
 use kfifo_judge::FromStd;
@@ -29,6 +29,8 @@ impl Progress for Counted {
         self.made = made;
         self.all = all;
     }
+
+    fn begun(&mut self, _stage: Stage) {}
 
     fn ended(&mut self) {
         self.endings = self.endings.saturating_add(1);

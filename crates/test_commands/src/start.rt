@@ -1,6 +1,6 @@
 //! The hint of a reader that waits, and the line of the progress.
 
-use kfifo_cli_commands::{Notes, Progress, Prompting, Showing};
+use kfifo_cli_commands::{Notes, Progress, Prompting, Showing, Stage};
 use std::io;
 use std::io::Read;
 use std::test::Fail;
@@ -51,6 +51,25 @@ fn shows_the_progress_once_a_second_has_gone_by(rt: HostRuntime) -> Result<(), F
     progress.ended();
     drop(progress);
     let wanted = format!(in rt.alloc(); "\rkfifo: 25 %\rkfifo: 50 %{BLANKS}")?;
+    assert_eq!(rt; shown.as_slice(), wanted.as_bytes());
+    Ok(())
+}
+
+#[test]
+fn shows_what_is_done_with_a_long_log(rt: HostRuntime) -> Result<(), Fail> {
+    let mut shown = Vec::new(rt.alloc());
+    let mut notes = Vec::new(rt.alloc());
+    let begun = Instant::now(&Still(2)).ok();
+    let mut progress = Showing::new(&Still(2), begun, Some(&mut shown), &mut notes);
+    progress.begun(Stage::Parsing(33_554_431));
+    progress.begun(Stage::Judging(999_999));
+    progress.begun(Stage::Parsing(351_666_715));
+    progress.begun(Stage::Judging(10_000_000));
+    progress.ended();
+    drop(progress);
+    let wanted = format!(in rt.alloc();
+        "\rkfifo: parsing 351 MB{BLANKS}\rkfifo: judging 10000000 calls{BLANKS}"
+    )?;
     assert_eq!(rt; shown.as_slice(), wanted.as_bytes());
     Ok(())
 }

@@ -87,7 +87,10 @@ const TOLD: [(StreamFault, &str); 7] = [
         StreamFault::Input,
         "reading failed, or the input is over 16,777,216 bytes",
     ),
-    (StreamFault::NotJson, "the input is no JSON text in UTF-8"),
+    (
+        StreamFault::NotJson,
+        "the input is no JSON text, or is not UTF-8",
+    ),
     (
         StreamFault::Record(RecordFault::TooMany),
         "the record has over 65,536 calls",

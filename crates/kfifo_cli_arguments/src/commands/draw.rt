@@ -40,8 +40,9 @@ Examples:
 pub(crate) const DETAILS: &str = "\
 FILE, or standard input where no file is named, has a record, as
 `kfifo check --help` says, or a log, as `kfifo import --help` says: a record
-where its first byte that is no white space is `[`. It has at most 16777216
-bytes, and at most 4096 calls are drawn.
+where its first byte that is no white space is `[`. A record has at most 65536
+calls and 16777216 bytes, a log 16777215 calls, and at most 4096 calls are
+drawn.
 
 The picture has a lane for each thread, and in it a bar for each call from its
 beginning to its end, with the call's number, what it asks for and its answer.
@@ -90,12 +91,11 @@ and one that names its explanation:
                               or --lines
   kfifo: order fault          the value of --order, or its file, is no order or
                               cannot be read; the input is not read then
-  kfifo: input                the file or standard input cannot be read, or has
-                              over 16777216 bytes
+  kfifo: input                the file or standard input cannot be read, or is a
+                              record of over 16777216 bytes
   kfifo: no input             no byte came; in a pipe the command before has
                               probably failed, and said why
-  kfifo: not json             the input begins as a record, and is no JSON text
-                              or not UTF-8
+  kfifo: not json             the input is no JSON text, or is not UTF-8
   kfifo: record fault <F>     record faults 1, 2 and 9, as `kfifo check --help`
                               lists them
   kfifo: record fault <F> at call <N>   record faults 3 to 8

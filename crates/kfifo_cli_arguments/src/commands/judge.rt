@@ -1,12 +1,12 @@
 //! The command `judge`: a verdict on a record or a log of any length.
-ghost use Rattle.std.specs.Prelude.{IfOk};
+ghost use Rattle.std.specs.Prelude.{◌↔◌, ◌<◌, ◌≤◌, IfOk, IsTrue, length};
 ghost use Rattle.clap.specs.Words.{found_of};
 ghost use Rattle.kfifo_cli_arguments.specs.CommandLine.{IsCommand, judge_command};
-ghost use Rattle.kfifo_cli_arguments.specs.Options.{GivesJudge};
+ghost use Rattle.kfifo_cli_arguments.specs.Options.{GivesJudge, GivesJudgeFiles, given_files};
 
 use crate::options;
 use clap::{ArgMatches, Command};
-use kfifo_cli_requests::JudgeOptions;
+use kfifo_cli_requests::{JudgeFilesOptions, JudgeOptions};
 use std::alloc::{AllocError, Global};
 
 /// The name of the command.
@@ -14,19 +14,24 @@ pub const NAME: &str = "judge";
 
 const SHOW: &str = "show";
 
+const JSON: &str = "json";
+
 const EXAMPLES: &str = "\
 Examples:
   kfifo judge log.csv                    is this the log of a plain queue, and
                                          why not?
   kfifo judge -k 4 --show < record.json  read standard input, and print an
-                                         order, too";
+                                         order, too
+  kfifo judge logs/*.csv                 a line for each log of a folder
+  kfifo judge --json logs/*.csv | jq -r 'select(.status != \"legal\").file'
+                                         the names of those that are not legal";
 
 pub(crate) const DETAILS: &str = "\
 FILE, or standard input where no file is named, has a record, as
 `kfifo check --help` says, or a log in CSV, as `kfifo import --help` says: a
-record begins with `[`. It has at most 16777216 bytes; a record has at most
-65536 calls, a log 16777215. `check` decides records of at most 12 calls; this
-command takes any, and gives a reason.
+record begins with `[`. A record has at most 65536 calls and 16777216 bytes, a
+log 16777215 calls. `check` decides records of at most 12 calls; this command
+takes any, and gives a reason.
 
 Drain the queue until it answers empty before the log ends, or a loss cannot be
 seen. Give each item a number of its own: repeated ones may leave even k = 1
@@ -95,13 +100,37 @@ The answer is one of these:
 Call numbers are places in the array, from 0; those of a log are by rising first
 time.
 
+Of several files, each is judged by itself, and has a line:
+  <FILE>: legal, calls <N>
+  <FILE>: no order, calls <N>: <REASON>    what the evidence says of the queue
+  <FILE>: undecided, calls <N>: <REASON>   why the search stopped
+  <FILE>: <FAULT> (<WORDS>)                the file has no verdict: it cannot be
+                                           read, or is no record and no log
+  files <N> for k = <K>: legal <N>, no order <N>, undecided <N>, fault <N>
+                                           the last line, which counts them
+`kfifo judge FILE` says all of one of them. Of several, - is the name of a file.
+
+With --json the verdict is an object in one line, and so is that of each of
+several files, with no line behind them. What does not apply is null.
+  calls, left     how many calls were judged, and how many items were left
+  evidence        of `no order`: its kind, 1 to 7, and its name, a headline, and
+                  the calls that it names (named)
+  file            the name of the file
+  k, status       the k, and `legal`, `no order` or `undecided`
+  least           the bounds of the least k (at_least, at_most), where the text
+                  says them
+  order           with --show: the order that was found
+  text            what is printed without --json
+A file of several that has no verdict has the status `fault`, the fault, and
+what is wrong (words).
+
 Faults, each a line on standard error, behind it one that says what is wrong,
 and one that names its explanation:
-  kfifo: input                the file or standard input cannot be read, or has
-                              over 16777216 bytes
+  kfifo: input                the file or standard input cannot be read, or is a
+                              record of over 16777216 bytes
   kfifo: no input             no byte came; in a pipe the command before has
                               probably failed, and said why
-  kfifo: not json             a record is no JSON text, or is not UTF-8
+  kfifo: not json             the input is no JSON text, or is not UTF-8
   kfifo: record fault <F>     record faults 1, 2 and 9, as `kfifo check --help`
                               lists them
   kfifo: record fault <F> at call <N>   record faults 3 to 8 of a record
@@ -118,12 +147,17 @@ Exit status:
   2  the command line is at fault
   3  `no order` was printed
   4  `undecided` was printed
+Of several files: 3 if one has no order; else 1 if one has no verdict; else 4 if
+one is undecided; else 0.
 
 Examples:
   kfifo judge log.csv                    is this the log of a plain queue, and
                                          why not?
   kfifo judge -k 4 --show < record.json  read standard input, and print an
                                          order, too
+  kfifo judge logs/*.csv                 a line for each log of a folder
+  kfifo judge --json logs/*.csv | jq -r 'select(.status != \"legal\").file'
+                                         the names of those that are not legal
 
 docs/JUDGE.md and docs/PROGRAM.md, where this program comes from, say more.";
 
@@ -132,23 +166,49 @@ pub fn command<'a>(alloc: Global) -> Result<Command<'a>, AllocError>
     ensures { IfOk result (IsCommand judge_command) }
 {
     let show = options::flag(alloc, SHOW).help("Print the order that was found, too");
+    let json = options::flag(alloc, JSON).help(
+        "Print the verdict as JSON, an object in a line for\neach file",
+    );
     let command = Command::new(alloc, NAME)
         .about("Says whether a record or a log has a legal order, or why not")
         .after_help(EXAMPLES)
         .after_long_help(DETAILS);
     let command = options::with_places(alloc, command, "1")?;
-    let command = options::with_tries(alloc, command)?.arg(show)?;
-    options::with_file(alloc, command)
+    let command = options::with_tries(alloc, command)?.arg(show)?.arg(json)?;
+    options::with_files(alloc, command)
 }
 
-/// What the options give.
+/// Whether several files are named.
+pub fn names_several(matches: &ArgMatches<'_>) -> bool
+    ensures { IsTrue result ↔ 1 < length (given_files (found_of matches.now)) }
+{
+    options::files_of(matches).len() > 1
+}
+
+/// What the options give for at most one file.
 pub fn options_of<'a>(matches: &'a ArgMatches<'_>) -> JudgeOptions<'a>
+    requires { length (given_files (found_of matches.now)) ≤ 1 }
     ensures { GivesJudge (found_of matches.now) result }
 {
     JudgeOptions {
         k: options::places_of(matches, 1),
         tries: options::tries_of(matches),
         show: matches.get_flag(SHOW),
+        json: matches.get_flag(JSON),
         file: options::file_of(matches),
+    }
+}
+
+/// What the options give for several files.
+pub fn files_options_of<'a>(matches: &'a ArgMatches<'_>) -> JudgeFilesOptions<'a>
+    requires { 1 < length (given_files (found_of matches.now)) }
+    ensures { GivesJudgeFiles (found_of matches.now) result }
+{
+    JudgeFilesOptions {
+        k: options::places_of(matches, 1),
+        tries: options::tries_of(matches),
+        show: matches.get_flag(SHOW),
+        json: matches.get_flag(JSON),
+        files: options::files_of(matches),
     }
 }

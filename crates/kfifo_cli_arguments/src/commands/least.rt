@@ -20,10 +20,9 @@ Examples:
 pub(crate) const DETAILS: &str = "\
 FILE, or standard input where no file is named, has a record, as
 `kfifo check --help` says, or a log in CSV, as `kfifo import --help` says: a
-record begins with `[`. It has at most 16777216 bytes; a record has at most
-65536 calls, a log 16777215. k says how far a queue may stray from first in,
-first out: a dequeue takes one of the k oldest items. With k = 1 it is a plain
-queue.
+record begins with `[`. A record has at most 65536 calls and 16777216 bytes, a
+log 16777215 calls. k says how far a queue may stray from first in, first out: a
+dequeue takes one of the k oldest items. With k = 1 it is a plain queue.
 
 The answer is
   k at least <N>              for no k below N is an order of the calls legal
@@ -36,11 +35,11 @@ or, where no k at all would do,
 
 Faults, each a line on standard error, behind it one that says what is wrong,
 and one that names its explanation:
-  kfifo: input                the file or standard input cannot be read, or has
-                              over 16777216 bytes
+  kfifo: input                the file or standard input cannot be read, or is a
+                              record of over 16777216 bytes
   kfifo: no input             no byte came; in a pipe the command before has
                               probably failed, and said why
-  kfifo: not json             a record is no JSON text, or is not UTF-8
+  kfifo: not json             the input is no JSON text, or is not UTF-8
   kfifo: record fault <F>     record faults 1, 2 and 9, as `kfifo check --help`
                               lists them
   kfifo: record fault <F> at call <N>   record faults 3 to 8 of a record

@@ -9,8 +9,10 @@ const TOPICS: &[Topic] = &[
         help: Help::Judge,
         line: "  kfifo: input",
         advice: "\
-Allowed: at most 16777216 bytes.
-To do: see that the file is there and can be read, or judge a shorter run.
+Allowed: at most 16777216 bytes, of a log for `judge`, `least` and `draw` any
+number.
+To do: see that the file is there and can be read, or judge a log in CSV in
+place of a long record.
 ",
     },
     Topic {

@@ -18,7 +18,8 @@ To do: nothing.
         line: "  status 1 ",
         advice: "\
 To do: read the line on standard error, and explain that one. There is none if
-standard output could not be written.
+standard output could not be written, nor where `judge` was given several files:
+there the line of each file without a verdict says why.
 ",
     },
     Topic {

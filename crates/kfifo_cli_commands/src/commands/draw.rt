@@ -10,7 +10,8 @@ ghost use Rattle.kfifo_draw.specs.Drawing.{AreFew, AreMany, IsInPart};
 
 use crate::cut::{Cut, cut_of, is_of_lines, part_of};
 use crate::failure::Failure;
-use crate::input::{read_calls, read_given};
+use crate::input::{read_calls, read_calls_given};
+use crate::progress::Progress;
 use kfifo_cli_requests::DrawOptions;
 use kfifo_cli_texts::{Fault, order_of};
 use kfifo_draw::{DEFAULT_WIDTH, DrawFault, Drawing, Marking, Part, Style, draw};
@@ -22,11 +23,12 @@ use std::rt::Files;
 
 /// The picture of the calls of the file, or of the input where no file is named: of all of them, or of the part that
 /// the options ask for.
-pub fn answer<H: Files, S: Source>(
+pub fn answer<H: Files, S: Source, P: Progress>(
     alloc: Global,
     files: &H,
     options: DrawOptions<'_>,
     input: &mut S,
+    progress: &mut P,
 ) -> Result<String, Failure>
     ensures ok { IfOk result (λ _. IsDraw options.entry (read_from options.entry.file (S.remaining input.old))) }
     ensures err { IfErr result (λ failure. IsDrawRefusal options.entry
@@ -37,8 +39,8 @@ pub fn answer<H: Files, S: Source>(
 {
     let cut = cut_of(options)?;
     let order = order_given(alloc, files, options)?;
-    let bytes = read_given(alloc, files, options.file, input)?;
-    let text = picture(alloc, bytes.as_slice(), options, cut, &order)?;
+    let bytes = read_calls_given(alloc, files, options.file, input)?;
+    let text = picture(alloc, bytes.as_slice(), options, cut, &order, progress)?;
     Ok(text)
 }
 
@@ -71,17 +73,18 @@ fn style_of(options: DrawOptions<'_>) -> Style {
 }
 
 /// The picture of these calls of an input, with this order.
-fn picture(
+fn picture<P: Progress>(
     alloc: Global,
     bytes: &[u8],
     options: DrawOptions<'_>,
     cut: Cut,
     order: &Option<Vec<usize>>,
+    progress: &mut P,
 ) -> Result<String, Failure>
     ensures { MatchResult result (λ _. IsPicture options.entry.check.k options.entry.evidence cut bytes.now)
         (λ failure. IsNoPicture options.entry.check.k options.entry.evidence cut bytes.now failure.fault) }
 {
-    let calls = read_calls(alloc, bytes)?;
+    let calls = read_calls(alloc, bytes, progress)?;
     let history = &calls.history;
     if let Some(logged) = &calls.logged {
         let text = picture_of(alloc, history, logged.as_slice(), options, cut, order)?;

@@ -3,23 +3,26 @@ ghost use Rattle.std.specs.Prelude.{◌≡◌, ◌≢◌, ◌⊎◌, IfErr, IfOk
 ghost use Rattle.kfifo_cli_commands.specs.Inputs.{IsNoCalls, read_from};
 ghost use Rattle.kfifo_cli_commands.specs.Records.{FailsWell};
 ghost use Rattle.kfifo_cli_commands.specs.Statuses.{status_number};
-ghost use Rattle.kfifo_cli_commands.specs.Verdicts.{IsJudge, IsJudged, IsVerdictRefusal};
+ghost use Rattle.kfifo_cli_commands.specs.Verdicts.{IsJudge, IsJudged, IsVerdict, IsVerdictRefusal};
 
 use crate::failure::Failure;
-use crate::input::{read_calls, read_given};
+use crate::input::{read_calls, read_calls_given};
+use crate::progress::Progress;
 use crate::status::{Status, status_of};
 use kfifo_cli_requests::JudgeOptions;
 use kfifo_cli_texts::Fault;
-use kfifo_judge::{Source, judge_text};
-use std::alloc::Global;
+use kfifo_judge::{Outcome, Source, judge_report, judge_text};
+use kfifo_model::{History, LoggedCall};
+use std::alloc::{AllocError, Global};
 use std::rt::Files;
 
 /// The lines for the calls of the file, or of the input where no file is named, and the status.
-pub fn answer<H: Files, S: Source>(
+pub fn answer<H: Files, S: Source, P: Progress>(
     alloc: Global,
     files: &H,
     options: JudgeOptions<'_>,
     input: &mut S,
+    progress: &mut P,
 ) -> Result<(String, Status), Failure>
     ensures ok { IfOk result (λ a. IsJudge options.entry (read_from options.entry.file (S.remaining input.old))
         (string_bytes a.0) (status_number a.1)) }
@@ -30,23 +33,40 @@ pub fn answer<H: Files, S: Source>(
     ensures reads { FailsWell result (S.failed input.old) (S.failed input.new) }
     ensures aside { IsSome options.entry.file → input.new ≡ input.old }
 {
-    let bytes = read_given(alloc, files, options.file, input)?;
-    let (text, status) = text_of(alloc, options, bytes.as_slice())?;
+    let bytes = read_calls_given(alloc, files, options.file, input)?;
+    let (text, status) = text_of(alloc, options, bytes.as_slice(), progress)?;
     Ok((text, status))
 }
 
 /// The lines for the calls of these bytes, and the status.
-fn text_of(
+fn text_of<P: Progress>(
     alloc: Global,
     options: JudgeOptions<'_>,
     bytes: &[u8],
+    progress: &mut P,
 ) -> Result<(String, Status), Failure>
     ensures said { MatchResult result (λ a. IsJudged options.entry bytes.now (string_bytes a.0) (status_number a.1))
         (λ failure. IsNoCalls bytes.now failure.fault) }
     ensures status { IfOk result (λ a. (a.1 ≡ Status.Answered) ⊎ (a.1 ≡ Status.Unordered) ⊎ (a.1 ≡ Status.Undecided)) }
 {
-    let calls = read_calls(alloc, bytes)?;
-    let (k, tries, show) = (options.k, options.tries, options.show);
-    let (text, said) = judge_text(alloc, &calls.history, calls.logged(), k, tries, show)?;
+    let calls = read_calls(alloc, bytes, progress)?;
+    let (text, said) = verdict_on(alloc, options, &calls.history, calls.logged())?;
     Ok((text, status_of(said)))
+}
+
+/// The lines for these calls, or the object.
+fn verdict_on(
+    alloc: Global,
+    options: JudgeOptions<'_>,
+    history: &History,
+    logged: &[LoggedCall],
+) -> Result<(String, Outcome), AllocError>
+    ensures { IfOk result (λ a. IsVerdict options.entry logged.now history.now (string_bytes a.0) a.1) }
+{
+    let (k, tries, show) = (options.k, options.tries, options.show);
+    if options.json {
+        judge_report(alloc, options.file, history, logged, k, tries, show)
+    } else {
+        judge_text(alloc, history, logged, k, tries, show)
+    }
 }

@@ -6,7 +6,8 @@ ghost use Rattle.kfifo_cli_commands.specs.Statuses.{status_number};
 ghost use Rattle.kfifo_cli_commands.specs.Verdicts.{IsLeast, IsBounded, IsVerdictRefusal};
 
 use crate::failure::Failure;
-use crate::input::{read_calls, read_given};
+use crate::input::{read_calls, read_calls_given};
+use crate::progress::Progress;
 use crate::status::{Status, status_of};
 use kfifo_cli_requests::LeastOptions;
 use kfifo_cli_texts::Fault;
@@ -15,11 +16,12 @@ use std::alloc::Global;
 use std::rt::Files;
 
 /// The lines for the calls of the file, or of the input where no file is named, and the status.
-pub fn answer<H: Files, S: Source>(
+pub fn answer<H: Files, S: Source, P: Progress>(
     alloc: Global,
     files: &H,
     options: LeastOptions<'_>,
     input: &mut S,
+    progress: &mut P,
 ) -> Result<(String, Status), Failure>
     ensures ok { IfOk result (λ a. IsLeast (read_from options.entry.file (S.remaining input.old)) (string_bytes a.0)
         (status_number a.1)) }
@@ -30,22 +32,23 @@ pub fn answer<H: Files, S: Source>(
     ensures reads { FailsWell result (S.failed input.old) (S.failed input.new) }
     ensures aside { IsSome options.entry.file → input.new ≡ input.old }
 {
-    let bytes = read_given(alloc, files, options.file, input)?;
-    let (text, status) = text_of(alloc, options, bytes.as_slice())?;
+    let bytes = read_calls_given(alloc, files, options.file, input)?;
+    let (text, status) = text_of(alloc, options, bytes.as_slice(), progress)?;
     Ok((text, status))
 }
 
 /// The lines for the calls of these bytes, and the status.
-fn text_of(
+fn text_of<P: Progress>(
     alloc: Global,
     options: LeastOptions<'_>,
     bytes: &[u8],
+    progress: &mut P,
 ) -> Result<(String, Status), Failure>
     ensures said { MatchResult result (λ a. IsBounded bytes.now (string_bytes a.0) (status_number a.1))
         (λ failure. IsNoCalls bytes.now failure.fault) }
     ensures status { IfOk result (λ a. (a.1 ≡ Status.Answered) ⊎ (a.1 ≡ Status.Unordered)) }
 {
-    let calls = read_calls(alloc, bytes)?;
+    let calls = read_calls(alloc, bytes, progress)?;
     let tries = options.tries;
     let (text, said) = least_text(alloc, &calls.history, calls.logged(), tries)?;
     Ok((text, status_of(said)))

@@ -41,6 +41,14 @@ returns-in-Some-subcommand_matches-4-clause-some c =
       c.options_of-in-Some-subcommand_matches-4.ensures,
     )
 
+pub returns-then-names_several-clause-some : goal.returns-then-names_several-clause-some
+returns-then-names_several-clause-some c =
+    let found = c.in-Some-subcommand_matches-4 in (
+      found_of found.options.now,
+      named_as c.args.matches.now (codes "judge") (found_of found.options.now) (found.ensures.found.0 refl) found.ensures.rows,
+      c.files_options_of.ensures,
+    )
+
 pub returns-in-Some-subcommand_matches-5-clause-some : goal.returns-in-Some-subcommand_matches-5-clause-some
 returns-in-Some-subcommand_matches-5-clause-some c =
     let found = c.in-Some-subcommand_matches-5 in (

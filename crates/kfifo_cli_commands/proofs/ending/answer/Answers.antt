@@ -43,6 +43,14 @@ returns-in_err-print-in-Judge-clause-broken g c = any_err c.from_residual-in_err
   c.in_err-print-in-Judge.ensures.err,
 ))
 
+pub returns-in_err-print-in-JudgeFiles-clause-broken : goal.returns-in_err-print-in-JudgeFiles-clause-broken
+returns-in_err-print-in-JudgeFiles-clause-broken g c = any_err c.from_residual-in_err-print-in-JudgeFiles.result _ (λ fault is. (
+  c.as_bytes-in-JudgeFiles.result.now,
+  status_number c.in_ok-text-in-JudgeFiles.status,
+  rw (c.in-JudgeFiles.is, c.as_bytes-in-JudgeFiles.ensures.value) c.in_ok-text-in-JudgeFiles.ensures.ok,
+  c.in_err-print-in-JudgeFiles.ensures.err,
+))
+
 pub returns-in_err-print-in-Least-clause-broken : goal.returns-in_err-print-in-Least-clause-broken
 returns-in_err-print-in-Least-clause-broken g c = any_err c.from_residual-in_err-print-in-Least.result _ (λ fault is. (
   c.as_bytes-in-Least.result.now,

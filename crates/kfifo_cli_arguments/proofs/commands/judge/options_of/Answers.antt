@@ -5,5 +5,7 @@ returns c = record {
   k = c.places_of.ensures.given;
   tries = c.tries_of.ensures;
   show = (c.get_flag.ensures.none, c.get_flag.ensures.value, c.get_flag.ensures.other);
+  json = (c.get_flag-2.ensures.none, c.get_flag-2.ensures.value, c.get_flag-2.ensures.other);
+  one = c.requires;
   file = c.file_of.ensures;
 }

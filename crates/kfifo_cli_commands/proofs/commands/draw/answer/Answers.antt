@@ -1,8 +1,7 @@
 use Rattle.std.proofs.Common.{◌≡◌, ◌≢◌, List, ℕ, rules, subst, sym}
 use Rattle.kfifo_cli_texts.specs.declared.fault.Fault.TheVariants.{Output}
-use Rattle.kfifo_cli_commands.specs.Inputs.{read_from}
+use Rattle.kfifo_cli_commands.specs.Inputs.{IsCallsInput, read_from}
 use Rattle.kfifo_cli_commands.specs.Pictures.{IsDrawRefusal}
-use Rattle.kfifo_cli_commands.specs.Records.{IsInput}
 use Rattle.kfifo_cli_commands.proofs.Drawing.{cut_refused, input_refused, order_refused, picture_refused, refusal_told}
 use Rattle.kfifo_cli_commands.proofs.commands.draw.answer.Goals as goal
 
@@ -32,7 +31,7 @@ returns-in_err-order-clause-err g c =
 pub returns-in_err-bytes-clause-err : goal.returns-in_err-bytes-clause-err
 returns-in_err-bytes-clause-err g c =
     let before = g.S.Source.failed c.args.input.now in
-    let after = g.S.Source.failed c.read_given.new.input in
+    let after = g.S.Source.failed c.read_calls_given.new.input in
     let refusal : IsDrawRefusal c.args.options (read_from c.args.options.file (g.S.Source.remaining c.args.input.now)) before after c.in_err-bytes.field-0.0.fault =
     input_refused (read_from c.args.options.file (g.S.Source.remaining c.args.input.now)) before after c.args.options c.in_err-bytes.field-0.0.fault c.in_err-bytes.ensures.err in
     search (rules, refusal)
@@ -41,8 +40,8 @@ pub returns-in_err-text-clause-err : goal.returns-in_err-text-clause-err
 returns-in_err-text-clause-err g c =
     let input = read_from c.args.options.file (g.S.Source.remaining c.args.input.now) in
     let before = g.S.Source.failed c.args.input.now in
-    let after = g.S.Source.failed c.read_given.new.input in
-    let read = subst (λ (b : List ℕ). IsInput input b) (sym c.as_slice.ensures.value) c.in_ok-bytes.ensures.ok in
+    let after = g.S.Source.failed c.read_calls_given.new.input in
+    let read = subst (λ (b : List ℕ). IsCallsInput input b) (sym c.as_slice.ensures.value) c.in_ok-bytes.ensures.ok in
     let fault = c.in_err-text.field-0.0.fault in
     let refusal : IsDrawRefusal c.args.options input before after fault =
     picture_refused input before after c.args.options c.in_ok-cut.cut c.in_ok-cut.ensures c.as_slice.result.now read fault
@@ -53,7 +52,7 @@ pub returns-in_err-text-clause-silent : goal.returns-in_err-text-clause-silent
 returns-in_err-text-clause-silent g c =
     let input = read_from c.args.options.file (g.S.Source.remaining c.args.input.now) in
     let at = g.S.Source.failed c.args.input.now in
-    let read = subst (λ (b : List ℕ). IsInput input b) (sym c.as_slice.ensures.value) c.in_ok-bytes.ensures.ok in
+    let read = subst (λ (b : List ℕ). IsCallsInput input b) (sym c.as_slice.ensures.value) c.in_ok-bytes.ensures.ok in
     let fault = c.in_err-text.field-0.0.fault in
     let told : fault ≢ Output = refusal_told input at at c.args.options fault
     (picture_refused input at at c.args.options c.in_ok-cut.cut c.in_ok-cut.ensures c.as_slice.result.now read fault
@@ -69,6 +68,6 @@ returns-clause-ok g c =
       order = _;
       order_given = c.in_ok-order.ensures.ok;
       bytes = c.as_slice.result.now;
-      read = subst (λ (b : List ℕ). IsInput input b) (sym c.as_slice.ensures.value) c.in_ok-bytes.ensures.ok;
+      read = subst (λ (b : List ℕ). IsCallsInput input b) (sym c.as_slice.ensures.value) c.in_ok-bytes.ensures.ok;
       pictured = c.in_ok-text.ensures;
     }

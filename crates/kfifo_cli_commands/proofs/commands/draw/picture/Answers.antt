@@ -6,7 +6,7 @@ use Rattle.kfifo_cli_commands.proofs.Picturing.{not_drawn, of_calls}
 use Rattle.kfifo_cli_commands.proofs.commands.draw.picture.Goals as goal
 
 pub returns-in-Some : goal.returns-in-Some
-returns-in-Some c =
+returns-in-Some g c =
     let k = c.args.options.check.k in
     let asked = c.args.options.evidence in
     let history = c.in_ok-calls.calls.history in
@@ -16,7 +16,7 @@ returns-in-Some c =
     c.in_ok-text.ensures)
 
 pub returns-in_err-text : goal.returns-in_err-text
-returns-in_err-text c =
+returns-in_err-text g c =
     let k = c.args.options.check.k in
     let asked = c.args.options.evidence in
     let history = c.in_ok-calls.calls.history in
