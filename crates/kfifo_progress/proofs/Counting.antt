@@ -1,0 +1,2 @@
+-- placeholder
+use Rattle.std.proofs.Common.{◌≡◌}

@@ -1,0 +1,3 @@
+pub mod Counting
+pub mod Undos
+pub mod Charges
