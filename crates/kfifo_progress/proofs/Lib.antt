@@ -1,3 +1,4 @@
 pub mod Counting
 pub mod Undos
+pub mod Kept
 pub mod Charges
