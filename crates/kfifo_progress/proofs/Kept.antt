@@ -67,7 +67,7 @@ is_undo (R.Enqueue item start left (E.Undo index filled worn)) = true
 is_undo other = false
 
 module _ (shape : Shape) (w : ℕ → ℕ) (l : Ledger) (t : ℕ) (charge : ℕ → Option ℕ) (ok : EndsOk shape (w 0) l.head l.tail) where
-  grows : (r : Running) (v : ℕ) → is_some (charge v) ≡ true → is_some (charge_after shape w l t r charge v) ≡ true
+  pub grows : (r : Running) (v : ℕ) → is_some (charge v) ≡ true → is_some (charge_after shape w l t r charge v) ≡ true
   grows r v h = grind (arith, nat_tests, noted_tells)
 
   -- no step but an undo empties a slot while no item is taken
@@ -79,7 +79,7 @@ module _ (shape : Shape) (w : ℕ → ℕ) (l : Ledger) (t : ℕ) (charge : ℕ 
   charge_stays r v not_undo = grind arith
 
   -- the visit of an undo
-  undo_place : (index : ℕ) → IsSlotIndex shape index → (undo_visit shape w l index % shape.n ≡ segment_of shape index)
+  pub undo_place : (index : ℕ) → IsSlotIndex shape index → (undo_visit shape w l index % shape.n ≡ segment_of shape index)
       × (l.head ≤ undo_visit shape w l index) × (undo_visit shape w l index < l.head + shape.n)
   unfolding settle_visit segment_of
   undo_place index is_slot =
