@@ -1,5 +1,4 @@
--- A stretch in which no call ends: each visit that the tail left in it, and that the head left too, is charged to a
--- thread, and a thread is charged with one of n visits that follow each other.
+-- What is kept of the visits of head and tail by the threads that are about to move them.
 use Rattle.std.proofs.Common.{◌≡◌, ◌≢◌, ℕ, ◌+◌, ◌-◌, ◌%◌, ◌<◌, ◌≤◌, ◌⊎◌, inl, inr, Bool, true, false, refl, sym, ◌∙◌, ap, subst, arith}
 use Rattle.std.proofs.Common.{Option, Some, None, is_some}
 use Rattle.std.proofs.lemmas.Bool.{cases_eq, cases_lt}
@@ -53,18 +52,7 @@ HasKept shape from w l charge (R.Dequeue start left (D.MoveTail ends index fille
 HasKept shape from w l charge (R.Dequeue start left (D.MoveHead ends)) = Charged from w l charge ends
 HasKept shape from w l charge other = Unit {0}
 
--- a stretch that began when the tail was in visit `from`
-pub record Stretch (shape : Shape) (threads from : ℕ) (w : ℕ → ℕ) (p : ℕ → Option Running) (l : Ledger)
-    (charge : ℕ → Option ℕ) : Type 0 where
-  pub kept : (v : ℕ) → from < v → l.head ≤ v → v < l.tail → Kept shape w charge Every v
-  pub charged : (v : ℕ) → from < v → v < l.head → is_some (charge v) ≡ true
-  pub looks : (t : ℕ) (r : Running) → p t ≡ Some r → HasKept shape from w l charge r
-  pub to_tail : (v t : ℕ) → charge v ≡ Some t → v ≤ l.tail
-  pub to_round : (v t : ℕ) (r : Running) → charge v ≡ Some t → p t ≡ Some r → at_load r ≡ false → v ≤ l.tail_seen t
-  pub apart : (v u t : ℕ) → charge v ≡ Some t → charge u ≡ Some t → v < u → v + shape.n ≤ u
-  pub within : (v t : ℕ) → charge v ≡ Some t → t < threads
-
-HasKept-others : (shape : Shape) (from : ℕ) (w w' : ℕ → ℕ) (l l' : Ledger) (charge charge' : ℕ → Option ℕ) (u : ℕ) (q : Running)
+pub HasKept-others : (shape : Shape) (from : ℕ) (w w' : ℕ → ℕ) (l l' : Ledger) (charge charge' : ℕ → Option ℕ) (u : ℕ) (q : Running)
     → ((ends : ℕ) → Loaded shape w l u ends → w' 0 ≡ ends → (w 0 ≡ ends) × (l'.head ≡ l.head) × (l'.tail ≡ l.tail))
     → ((Slots : ℕ → Type 0) (v : ℕ) → l.head ≤ v → v ≤ l.tail → Kept shape w charge Slots v → Kept shape w' charge' Slots v)
     → ((v : ℕ) → is_some (charge v) ≡ true → is_some (charge' v) ≡ true) → l.head ≤ l.tail
@@ -149,7 +137,7 @@ module _ (shape : Shape) (from : ℕ) (w : ℕ → ℕ) (l : Ledger) (t : ℕ) (
   ends_scan ends start offset last empty k =
       scan_ends shape w l t charge ok ends start (offset + 1) l.head (omega (arith, last)) (goes_on_scan ends start offset empty k)
 
-  abbrev Leads : Running → Type 0
+  abbrev pub Leads : Running → Type 0
   Leads r = IfGoes (HasKept shape from (words_by (access shape r) w) (stepped shape w t r l) (charge_after shape w l t r charge))
       (advance shape r (found_in shape w r))
 
@@ -200,3 +188,7 @@ module _ (shape : Shape) (from : ℕ) (w : ℕ → ℕ) (l : Ledger) (t : ℕ) (
       let same = same_end shape (w 0) l.head l.tail ok in
       grind (arith, nat_tests)
   dequeue_keeps start left phase h mine = grind (arith, nat_tests)
+
+  pub own_kept : (r : Running) → Sane shape r → HasKept shape from w l charge r → Leads r
+  own_kept (R.Enqueue item start left phase) s mine = enqueue_keeps item start left phase mine
+  own_kept (R.Dequeue start left phase) s mine = dequeue_keeps start left phase s.0 mine

@@ -2,3 +2,4 @@ pub mod Counting
 pub mod Undos
 pub mod Kept
 pub mod Charges
+pub mod Stretches
