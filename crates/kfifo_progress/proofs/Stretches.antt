@@ -22,6 +22,7 @@ use Rattle.kfifo_machine.specs.Machine.{begun, may_begin, place_after}
 use Rattle.kfifo_machine.specs.Places.{IsSlotIndex}
 use Rattle.kfifo_machine.specs.Program.{access, advance}
 use Rattle.kfifo_words.specs.Ring.{clock_at}
+use Rattle.kfifo_progress.proofs.Counting.{pigeonhole}
 use Rattle.kfifo_progress.proofs.Kept.{Every, Kept, charge_after, goes, grows, keeps, undo_place, undo_visit}
 use Rattle.kfifo_progress.proofs.Charges.{HasKept, HasKept-others, own_kept}
 use Rattle.kfifo_progress.proofs.Undos.{HasPassed, Undos}
@@ -267,3 +268,34 @@ module _ (shape : Shape) (threads from : ℕ) (w : ℕ → ℕ) (p : ℕ → Opt
         apart = step_apart;
         within = λ v x c. elim (tells v x c) [ | inl was ↦ old.within v x was | inr new ↦ omega (arith, new.thread, in_range) ];
       }
+
+-- who is charged with a visit
+abbrev charged_thread : Option ℕ → ℕ
+charged_thread (Some t) = t
+charged_thread None = 0
+
+charged_is : (o : Option ℕ) → is_some o ≡ true → o ≡ Some (charged_thread o)
+charged_is (Some t) h = refl
+charged_is None h = absurd (false≢true h)
+
+-- so the head is soon past the visit in which the tail was
+pub head_bound : (shape : Shape) (threads from : ℕ) (w : ℕ → ℕ) (p : ℕ → Option Running) (l : Ledger) (charge : ℕ → Option ℕ)
+    → threads < shape.n → Stretch shape threads from w p l charge → l.head ≤ from + threads + 1
+head_bound shape threads from w p l charge few h = elim (cases_lt (from + threads + 1) l.head) [
+  | inr ge ↦ ge
+  | inl beyond ↦ absurd (pigeonhole threads (λ i. charged_thread (charge (from + 1 + i))) (below beyond) (apart beyond))
+]
+  where
+    is : from + threads + 1 < l.head → (i : ℕ) → i ≤ threads → charge (from + 1 + i) ≡ Some (charged_thread (charge (from + 1 + i)))
+    is beyond i b = charged_is (charge (from + 1 + i)) (h.charged (from + 1 + i) (omega arith) (omega arith))
+
+    below : from + threads + 1 < l.head → (i : ℕ) → i ≤ threads → charged_thread (charge (from + 1 + i)) < threads
+    below beyond i b = h.within (from + 1 + i) (charged_thread (charge (from + 1 + i))) (is beyond i b)
+
+    apart : from + threads + 1 < l.head → (i j : ℕ) → i < j → j ≤ threads
+        → charged_thread (charge (from + 1 + i)) ≢ charged_thread (charge (from + 1 + j))
+    apart beyond i j lt b e =
+        let far : from + 1 + i + shape.n ≤ from + 1 + j =
+        h.apart (from + 1 + i) (from + 1 + j) (charged_thread (charge (from + 1 + j)))
+        (is beyond i (omega arith) ∙ ap Some e) (is beyond j b) (omega arith) in
+        omega arith
