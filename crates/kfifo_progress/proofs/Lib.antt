@@ -3,3 +3,4 @@ pub mod Undos
 pub mod Kept
 pub mod Charges
 pub mod Stretches
+pub mod Cost
