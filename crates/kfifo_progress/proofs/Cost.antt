@@ -3,6 +3,7 @@
 use Rattle.std.proofs.Common.{◌≡◌, ◌≢◌, ℕ, ◌+◌, ◌-◌, ◌*◌, ◌<◌, ◌≤◌, Bool, true, false, refl, sym, ◌∙◌, ap, arith, Option, Some, None}
 use Rattle.std.specs.Prelude.{◌==◌, if◌then◌else◌, nat_le}
 use Rattle.std.proofs.lemmas.Bool.Decides.{nat_tests}
+use Rattle.std.proofs.Math.Path.{fun_ext}
 use Rattle.kfifo_linear.proofs.Types.{Running, Shape}
 use Rattle.kfifo_machine.specs.declared.place.Access.{Access}
 use Rattle.kfifo_machine.specs.declared.place.Access.TheVariants.{Exchange, Load}
@@ -15,10 +16,10 @@ use Rattle.kfifo_machine.specs.declared.place.Running.TheVariants as R
 use Rattle.kfifo_linear.proofs.Abstract.{noted-other, noted-same, noted_tells, words_by}
 use Rattle.kfifo_linear.proofs.Base.{Sane}
 use Rattle.kfifo_linear.proofs.Claims.{IfGoes}
-use Rattle.kfifo_linear.specs.Ledger.{found_in}
+use Rattle.kfifo_linear.specs.Ledger.{Ledger, found_in, stepped}
 use Rattle.kfifo_machine.proofs.Places.{dequeue_budget, enqueue_budget}
 use Rattle.kfifo_machine.specs.Places.{IsPlace}
-use Rattle.kfifo_machine.specs.Program.{access, advance}
+use Rattle.kfifo_machine.specs.Program.{access, accessed, advance}
 use Rattle.kfifo_progress.proofs.Kept.{goes}
 
 -- what a round costs; what a thread has for the others when it puts an item; and what it gets where the ends changed
@@ -101,3 +102,25 @@ pub moves_own : (shape : Shape) (threads : ℕ) (x : Prices) (w w' : ℕ → ℕ
     → IfGoes (λ q. cost shape x w' q ≤ cost shape x w r + (x.ends + x.ends + x.round)) (advance shape r (found_in shape w r))
 moves_own shape threads x w w' (R.Enqueue item start left phase) enough place calm = grind (arith, nat_tests)
 moves_own shape threads x w w' (R.Dequeue start left phase) enough place calm = grind (arith, nat_tests)
+
+-- a step that changes a slot leaves each thread what one round costs
+pub slot_own : (shape : Shape) (threads : ℕ) (x : Prices) (w w' : ℕ → ℕ) (r : Running) → AreEnough shape threads x → IsPlace shape r
+    → wins w (access shape r) ≡ true → accessed (access shape r) ≢ 0 → goes (advance shape r (found_in shape w r)) ≡ true → w' 0 ≡ w 0
+    → IfGoes (λ q. cost shape x w' q + (1 + x.put) ≤ cost shape x w r) (advance shape r (found_in shape w r))
+slot_own shape threads x w w' (R.Enqueue item start left phase) enough place won slot calm same = grind (arith, nat_tests)
+slot_own shape threads x w w' (R.Dequeue start left phase) enough place won slot calm same = grind (arith, nat_tests)
+
+-- one that changes the ends while its call goes on moves head or tail
+pub ends_move : (shape : Shape) (w : ℕ → ℕ) (l : Ledger) (t : ℕ) (r : Running) → wins w (access shape r) ≡ true
+    → accessed (access shape r) ≡ 0 → IsPlace shape r → goes (advance shape r (found_in shape w r)) ≡ true
+    → (stepped shape w t r l).head + (stepped shape w t r l).tail ≡ l.head + l.tail + 1
+unfolding stepped
+ends_move shape w l t (R.Enqueue item start left phase) won at place calm = grind (arith, nat_tests)
+ends_move shape w l t (R.Dequeue start left phase) won at place calm = grind (arith, nat_tests)
+
+pub words_same : (w : ℕ → ℕ) (a : Access) → wins w a ≡ false → words_by a w ≡ w
+words_same w (Load index) none = refl
+words_same w (Exchange index from to) none = fun_ext (λ i. grind (arith, nat_tests))
+
+pub ends_same : (w : ℕ → ℕ) (a : Access) → accessed a ≢ 0 → words_by a w 0 ≡ w 0
+ends_same w a slot = grind (arith, nat_tests, noted-other)

@@ -4,3 +4,4 @@ pub mod Kept
 pub mod Charges
 pub mod Stretches
 pub mod Cost
+pub mod Spending
