@@ -5,3 +5,4 @@ pub mod Charges
 pub mod Stretches
 pub mod Cost
 pub mod Spending
+pub mod Live
