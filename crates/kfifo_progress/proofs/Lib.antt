@@ -6,3 +6,4 @@ pub mod Stretches
 pub mod Cost
 pub mod Spending
 pub mod Live
+pub mod Schedule

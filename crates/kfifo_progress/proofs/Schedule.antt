@@ -1,0 +1,273 @@
+-- In every schedule a stretch in which no call ends has few steps.
+use Rattle.std.proofs.Common.{◌≡◌, ◌≢◌, ℕ, zero, suc, ◌+◌, ◌-◌, ◌*◌, ◌<◌, ◌≤◌, Bool, true, false, cond, inl, inr, refl, sym, ◌∙◌, ap, subst}
+use Rattle.std.proofs.Common.{arith, List, [], ◌∷◌, length, get_or, Option, Some, None, Ok, is_some, replicate}
+use Rattle.std.proofs.lemmas.Bool.{cases_Bool, cases_eq, false≢true}
+use Rattle.std.proofs.lemmas.Bool.Decides.{nat_tests}
+use Rattle.std.proofs.lemmas.Grind.{get_or-set_at}
+use Rattle.std.proofs.lemmas.List.{get_or-set_other, length-set}
+use Rattle.std.proofs.lemmas.Option.{none-some, same_Some}
+use Rattle.std.proofs.Math.Path.{fun_ext}
+use Rattle.kfifo_linear.proofs.Types.{Begin, Event, Next, Outcome, Running, Shape}
+use Rattle.kfifo_machine.specs.declared.event.Begin.TheVariants as B
+use Rattle.kfifo_machine.specs.declared.event.Outcome.TheVariants.{Ended, Went}
+use Rattle.kfifo_machine.specs.declared.place.DequeuePhase.TheVariants as D
+use Rattle.kfifo_machine.specs.declared.place.EnqueuePhase.TheVariants as E
+use Rattle.kfifo_machine.specs.declared.place.Next.TheVariants.{Answers, Goes}
+use Rattle.kfifo_machine.specs.declared.place.Running.TheVariants as R
+use Rattle.kfifo_linear.proofs.Abstract.{At, after_all, event_at, length-moved, noted-noted, noted-other, noted-same, place_of-moved}
+use Rattle.kfifo_linear.proofs.Abstract.{table_size}
+use Rattle.kfifo_linear.proofs.Abstract.{word_at-moved, words_by}
+use Rattle.kfifo_linear.proofs.Base.{opening_size}
+use Rattle.kfifo_linear.specs.Ledger.{Ledger, blank, called, found_in, ledger_after, ledger_from, ledger_of, noted, stepped}
+use Rattle.kfifo_linear.specs.Order.{ledger_after_all}
+use Rattle.kfifo_machine.proofs.NoWrap.{EndsOk}
+use Rattle.kfifo_machine.proofs.Schedules.{StepsFrom, Ticks, first_made, made_within, same_threads, stepped as steps_by, still_threads}
+use Rattle.kfifo_machine.proofs.Sound.{IsSound, going_place, place_is, run_sound, sound, sound_threads, step_sound}
+use Rattle.kfifo_machine.specs.Machine.{World, after, begun, found, may_begin, moved, opening, outcome_of, place_after, place_of, run, step}
+use Rattle.kfifo_machine.specs.Machine.{ticked, word_at}
+use Rattle.kfifo_machine.specs.Places.{IsPlace}
+use Rattle.kfifo_machine.specs.Program.{access, accessed, advance}
+use Rattle.kfifo_machine.specs.Runs.{going}
+use Rattle.kfifo_words.specs.Ring.{clock_at}
+use Rattle.kfifo_progress.proofs.Charges.{HasKept}
+use Rattle.kfifo_progress.proofs.Cost.{AreEnough, Prices, cost_bound}
+use Rattle.kfifo_progress.proofs.Counting.{total, total_rises}
+use Rattle.kfifo_progress.proofs.Kept.{goes}
+use Rattle.kfifo_progress.proofs.Live.{Begun, Live, live_begin, live_step, live_tick}
+use Rattle.kfifo_progress.proofs.Spending.{cost_at, move_price, purse}
+use Rattle.kfifo_progress.proofs.Stretches.{Stretch, head_bound}
+use Rattle.kfifo_progress.proofs.Undos.{Undos, undos_begin, undos_opening, undos_step, undos_table, undos_tick}
+use Rattle.kfifo_progress.specs.Progress.{call_steps, calls_ended, ends_of, steps_of}
+
+-- the stretch at a world
+pub record LiveAt (shape : Shape) (threads : ℕ) (x : Prices) (b : Begun) (world : World) (l : Ledger) (spent : ℕ) : Type 0 where
+  pub size : length world.words ≡ table_size shape
+  pub count : length world.places ≡ threads
+  pub sound : IsSound shape world
+  pub live : Live shape threads x b (word_at world) (place_of world) l spent
+
+went_goes : (next : Next) → Went ≡ outcome_of next → goes next ≡ true
+went_goes (Goes q) e = refl
+went_goes (Answers answer) e = absurd (cc)
+
+noted-there : (p : ℕ → Option Running) (t : ℕ) (r : Running) → p t ≡ Some r → noted p t (Some r) ≡ p
+noted-there p t r e =
+    fun_ext (λ j. elim (cases_eq j t) [
+      | inl s ↦ noted-same p t j (Some r) s ∙ sym e ∙ ap p (sym s)
+      | inr ne ↦ noted-other p t j (Some r) ne
+    ])
+
+begins : (m : Bool) (o : Option Running) (r : Running) → cond m o None ≡ Some r → (m ≡ true) × (o ≡ Some r)
+begins true o r e = (refl, e)
+begins false o r e = absurd (none-some r e)
+
+module _ (shape : Shape) (again : shape.holds_again ≡ true) (threads : ℕ) (x : Prices) (enough : AreEnough shape threads x) (b : Begun)
+    (world : World) (t : ℕ) (l : Ledger) (spent : ℕ) (size : length world.words ≡ table_size shape)
+    (count : length world.places ≡ threads) (within : t < length world.places) where
+  -- a thread's step from a place, be it the first of a call
+  step_live : (r : Running) (m : Ledger) → Live shape threads x b (word_at world) (noted (place_of world) t (Some r)) m spent
+      → IsPlace shape r → goes (advance shape r (found_in shape (word_at world) r)) ≡ true
+      → Live shape threads x b (word_at (moved shape world t r)) (place_of (moved shape world t r))
+      (stepped shape (word_at world) t r m) (spent + 1)
+  step_live r m h place calm =
+      let there : noted (place_of world) t (Some r) t ≡ Some r = noted-same (place_of world) t t (Some r) refl in
+      let in_table : accessed (access shape r) < length world.words =
+      omega (
+        arith,
+        undos_table shape again (word_at world) (noted (place_of world) t (Some r)) m t r h.undos there,
+        size,
+      ) in
+      let k = live_step shape again threads x enough b (word_at world) (noted (place_of world) t (Some r)) m spent h t r there
+      (omega (arith, count, within)) place calm in
+      let k2 = subst (λ p. Live shape threads x b (words_by (access shape r) (word_at world)) p (stepped shape (word_at world) t r m)
+      (spent + 1))
+      (noted-noted (place_of world) t (Some r) (place_after (advance shape r (found_in shape (word_at world) r)))) k in
+      let k3 = subst (λ w. Live shape threads x b w
+      (noted (place_of world) t (place_after (advance shape r (found_in shape (word_at world) r)))) (stepped shape (word_at world) t r m)
+      (spent + 1)) (sym (word_at-moved shape world t r in_table)) k2 in
+      subst (λ p. Live shape threads x b (word_at (moved shape world t r)) p (stepped shape (word_at world) t r m) (spent + 1))
+      (sym (place_of-moved shape world t r within)) k3
+
+  first_live : (begin : Begin) (r : Running) → Live shape threads x b (word_at world) (place_of world) l spent → place_of world t ≡ None
+      → may_begin shape begin ≡ true → begun begin ≡ Some r → IsPlace shape r
+      → goes (advance shape r (found_in shape (word_at world) r)) ≡ true
+      → Live shape threads x b (word_at (moved shape world t r)) (place_of (moved shape world t r))
+      (stepped shape (word_at world) t r (called t begin l)) (spent + 1)
+  first_live begin r h idle may g place calm =
+      step_live r (called t begin l)
+      (live_begin shape again threads x enough b (word_at world) (place_of world) l spent h t begin r idle may g) place calm
+
+  by_place : (place : Option Running) (begin : Option Begin) (r : Running) → Live shape threads x b (word_at world) (place_of world) l spent
+      → place_of world t ≡ place → going shape place begin ≡ Some r → IsPlace shape r
+      → goes (advance shape r (found_in shape (word_at world) r)) ≡ true
+      → Live shape threads x b (word_at (moved shape world t r)) (place_of (moved shape world t r))
+      (ledger_from shape (word_at world) t place begin l) (spent + steps_of begin)
+  by_place None None r h at g place calm = absurd (none-some r g)
+  by_place None (Some (B.Enqueue item start turns)) r h at g place calm =
+      let k = begins (may_begin shape (B.Enqueue item start turns)) (begun (B.Enqueue item start turns)) r g in
+      let same : R.Enqueue item start turns E.LoadEnds ≡ r = same_Some _ r k.1 in
+      rw (← same) (first_live (B.Enqueue item start turns) (R.Enqueue item start turns E.LoadEnds) h at k.0 refl
+      (subst (IsPlace shape) (sym same) place)
+      (subst (λ q. goes (advance shape q (found_in shape (word_at world) q)) ≡ true) (sym same) calm))
+  by_place None (Some (B.Dequeue start turns)) r h at g place calm =
+      let k = begins (may_begin shape (B.Dequeue start turns)) (begun (B.Dequeue start turns)) r g in
+      let same : R.Dequeue start turns D.LoadEnds ≡ r = same_Some _ r k.1 in
+      rw (← same) (first_live (B.Dequeue start turns) (R.Dequeue start turns D.LoadEnds) h at k.0 refl
+      (subst (IsPlace shape) (sym same) place)
+      (subst (λ q. goes (advance shape q (found_in shape (word_at world) q)) ≡ true) (sym same) calm))
+  by_place None (Some B.Tick) r h at g place calm = absurd (none-some r g)
+  by_place (Some q) None r h at g place calm =
+      let same : q ≡ r = same_Some q r g in
+      rw same (step_live r l (subst (λ p. Live shape threads x b (word_at world) p l spent)
+      (sym (noted-there (place_of world) t r (at ∙ g))) h) place calm)
+  by_place (Some q) (Some begin) r h at g place calm = absurd (none-some r g)
+
+word_at-ticked : (shape : Shape) (world : World) → length world.words ≡ table_size shape
+    → word_at (ticked shape world)
+    ≡ noted (word_at world) (clock_at shape.k shape.n) (word_at world (clock_at shape.k shape.n) + 1)
+unfolding ticked word_at
+word_at-ticked shape world size =
+    let within : clock_at shape.k shape.n < length world.words = omega (arith, size) in
+    fun_ext (λ i. elim (cases_eq i (clock_at shape.k shape.n)) [
+      | inl same ↦ get_or-set_at world.words (clock_at shape.k shape.n) i (get_or world.words (clock_at shape.k shape.n) 0 + 1) 0 same within
+          ∙ sym (noted-same (λ j. get_or world.words j 0) (clock_at shape.k shape.n) i
+          (get_or world.words (clock_at shape.k shape.n) 0 + 1) same)
+      | inr ne ↦ get_or-set_other world.words (clock_at shape.k shape.n) i (get_or world.words (clock_at shape.k shape.n) 0 + 1) 0 ne
+          ∙ sym (noted-other (λ j. get_or world.words j 0) (clock_at shape.k shape.n) i
+          (get_or world.words (clock_at shape.k shape.n) 0 + 1) ne)
+    ])
+
+ticked_size : (shape : Shape) (world : World) → length (ticked shape world).words ≡ length world.words
+unfolding ticked
+ticked_size shape world = length-set world.words (clock_at shape.k shape.n) (word_at world (clock_at shape.k shape.n) + 1)
+
+ticked_places : (shape : Shape) (world : World) → place_of (ticked shape world) ≡ place_of world
+unfolding ticked place_of
+ticked_places shape world = refl
+
+module _ (shape : Shape) (again : shape.holds_again ≡ true) (threads : ℕ) (x : Prices) (enough : AreEnough shape threads x) (b : Begun) where
+  by_tick : (world : World) (l : Ledger) (spent t : ℕ) → LiveAt shape threads x b world l spent → (o : Option Running) (c : Option Begin)
+      → o ≡ None → c ≡ Some B.Tick
+      → Live shape threads x b (word_at (ticked shape world)) (place_of (ticked shape world))
+      (ledger_from shape (word_at world) t o c l) (spent + steps_of c)
+  by_tick world l spent t h o c idle ticks =
+      let z : spent ≡ spent + 0 = omega arith in
+      rw (idle, ticks, word_at-ticked shape world h.size, ticked_places shape world)
+      (subst (Live shape threads x b (noted (word_at world) (clock_at shape.k shape.n) (word_at world (clock_at shape.k shape.n) + 1))
+      (place_of world) (record l { now = l.now + 1 })) z
+      (live_tick shape again threads x enough b (word_at world) (place_of world) l spent h.live))
+
+  -- an event that ends no call
+  event_live : (world next : World) (e : Event) (l : Ledger) (spent : ℕ) → LiveAt shape threads x b world l spent
+      → step shape world e ≡ Ok (next, Went) → LiveAt shape threads x b next (ledger_after shape world e l) (spent + steps_of e.begin)
+  unfolding ledger_after found
+  event_live world next e l spent h made =
+      let within : e.thread < length world.places = made_within shape world e next Went made in
+      let sound : IsSound shape next = step_sound shape world e next Went h.sound made in
+      let count : length next.places ≡ threads = same_threads shape world e next Went made ∙ h.count in
+      elim (steps_by shape world e next Went made) [
+        | inl s ↦
+            let place : IsPlace shape s.running = going_place shape (place_of world e.thread) e.begin s.running
+            (λ r at. place_is shape world e.thread r h.sound at) s.goes in
+            let k = by_place shape again threads x enough b world e.thread l spent h.size h.count within (place_of world e.thread) e.begin
+            s.running h.live refl s.goes place
+            (went_goes (advance shape s.running (found_in shape (word_at world) s.running)) s.outcome_is) in
+            record {
+              size = ap (λ (z : World). length z.words) s.there_is ∙ length-moved shape world e.thread s.running ∙ h.size;
+              count = count;
+              sound = sound;
+              live = subst (λ z. Live shape threads x b (word_at z) (place_of z)
+                  (ledger_from shape (word_at world) e.thread (place_of world e.thread) e.begin l) (spent + steps_of e.begin))
+                  (sym s.there_is) k;
+            }
+        | inr t ↦ record {
+            size = ap (λ (z : World). length z.words) t.there_is ∙ ticked_size shape world ∙ h.size;
+            count = count;
+            sound = sound;
+            live = subst (λ z. Live shape threads x b (word_at z) (place_of z)
+                (ledger_from shape (word_at world) e.thread (place_of world e.thread) e.begin l) (spent + steps_of e.begin))
+                (sym t.there_is) (by_tick world l spent e.thread h (place_of world e.thread) e.begin t.idle t.begins);
+          }
+      ]
+
+  no_end : (outcome : Outcome) (next : World) → ends_of (Ok (next, outcome)) ≡ 0 → outcome ≡ Went
+  no_end Went next e = refl
+  no_end (Ended answer) next e = absurd (omega (arith, e))
+
+  -- and a stretch of such events
+  stretch_live : (stretch : List Event) (here there : World) (l : Ledger) (spent : ℕ) → LiveAt shape threads x b here l spent
+      → run shape (Some here) stretch ≡ Some there → calls_ended shape (Some here) stretch ≡ 0
+      → LiveAt shape threads x b there (ledger_of shape (Some here) stretch l) (spent + call_steps stretch)
+  stretch_live [] here there l spent h is none =
+      let z : spent ≡ spent + 0 = omega arith in
+      subst (λ n. LiveAt shape threads x b there l n) z (subst (λ w. LiveAt shape threads x b w l spent) (same_Some here there is) h)
+  stretch_live (e ∷ es) here there l spent h is none =
+      let m = first_made shape here e there es is in
+      let ends : ends_of (Ok (m.0, m.1.0)) + calls_ended shape (Some m.0) es ≡ 0 = rw m.1.1.0 at none in
+      let went : m.1.0 ≡ Went = no_end m.1.0 m.0 (omega (arith, ends)) in
+      let k = event_live here m.0 e l spent h (m.1.1.0 ∙ ap (λ o. Ok (m.0, o)) went) in
+      let all = stretch_live es m.0 there (ledger_after shape here e l) (spent + steps_of e.begin) k m.1.1.1 (omega (arith, ends)) in
+      let z : spent + steps_of e.begin + call_steps es ≡ spent + call_steps (e ∷ es) = omega arith in
+      rw m.1.1.0 (subst (λ n. LiveAt shape threads x b there (ledger_of shape (Some m.0) es (ledger_after shape here e l)) n) z all)
+
+prices : Shape → ℕ → Prices
+prices shape threads = record {
+  round = 2 * shape.k + 9;
+  put = threads * (2 * shape.k + 9);
+  ends = 2 * shape.k + 9 + threads * (2 * shape.k + 9) + threads * (2 * shape.k + 9);
+}
+
+enough_prices : (shape : Shape) (threads : ℕ) → AreEnough shape threads (prices shape threads)
+unfolding prices
+enough_prices shape threads = record { round = refl; put = refl; ends = refl }
+
+-- where a stretch begins
+stretch_begins : (shape : Shape) (threads : ℕ) (w : ℕ → ℕ) (p : ℕ → Option Running) (l : Ledger) → l.head ≤ l.tail
+    → Stretch shape threads l.tail w p l (λ _. None)
+stretch_begins shape threads w p l ordered = record {
+  kept = λ v f a c. absurd (omega arith);
+  charged = λ v f a. absurd (omega arith);
+  looks = λ t r e. nothing_left shape w l r ordered;
+  to_tail = λ v t c. absurd (none-some t c);
+  to_round = λ v t r c e loaded. absurd (none-some t c);
+  apart = λ v u t c d lt. absurd (none-some t c);
+  within = λ v t c. absurd (none-some t c);
+}
+  where
+    nothing_left : (shape : Shape) (w : ℕ → ℕ) (l : Ledger) (r : Running) → l.head ≤ l.tail → HasKept shape l.tail w l (λ _. None) r
+    nothing_left shape w l r ordered = grind arith
+
+at_begin : Ledger → Shape → ℕ → World → Begun
+at_begin l shape threads here = record {
+  tail = l.tail;
+  ends = l.head + l.tail;
+  purse = purse shape (prices shape threads) (word_at here) (place_of here) threads;
+}
+
+module _ (shape : Shape) (again : shape.holds_again ≡ true) (threads : ℕ) where
+  undos_after : (events : List Event) (here : World) → after shape threads events ≡ Some here
+      → At shape (Undos shape) (undos_table shape again) (undos_begin shape again) (undos_step shape again) (undos_tick shape again) here
+      (ledger_after_all shape threads events)
+  undos_after events here is =
+      after_all shape (Undos shape) (undos_table shape again) (undos_begin shape again) (undos_step shape again) (undos_tick shape again)
+      events (opening shape threads) here blank
+      (record { size = opening_size shape threads; holds = undos_opening shape again threads }) is
+
+  live_begins : (events : List Event) (here : World) → after shape threads events ≡ Some here
+      → LiveAt shape threads (prices shape threads) (at_begin (ledger_after_all shape threads events) shape threads here) here
+      (ledger_after_all shape threads events) 0
+  unfolding at_begin
+  live_begins events here is =
+      let k = undos_after events here is in
+      record {
+        size = k.size;
+        count = sound_threads shape threads events here is;
+        sound = sound shape threads events here is;
+        live = record {
+          undos = k.holds;
+          charge = λ _. None;
+          stretch = stretch_begins shape threads (word_at here) (place_of here) (ledger_after_all shape threads events)
+              k.holds.inv.base.ends.ordered;
+          account = omega arith;
+        };
+      }
