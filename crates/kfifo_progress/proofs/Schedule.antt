@@ -1,5 +1,6 @@
 -- In every schedule a stretch in which no call ends has few steps.
 use Rattle.std.proofs.Common.{◌≡◌, ◌≢◌, ℕ, zero, suc, ◌+◌, ◌-◌, ◌*◌, ◌<◌, ◌≤◌, Bool, true, false, cond, inl, inr, refl, sym, ◌∙◌, ap, subst}
+use Rattle.std.proofs.Math.Nat.{mul-le-mul_left}
 use Rattle.std.proofs.Common.{arith, List, [], ◌∷◌, length, get_or, Option, Some, None, Ok, is_some, replicate}
 use Rattle.std.proofs.lemmas.Bool.{cases_Bool, cases_eq, false≢true}
 use Rattle.std.proofs.lemmas.Bool.Decides.{nat_tests}
@@ -37,7 +38,7 @@ use Rattle.kfifo_progress.proofs.Live.{Begun, Live, live_begin, live_step, live_
 use Rattle.kfifo_progress.proofs.Spending.{cost_at, move_price, purse}
 use Rattle.kfifo_progress.proofs.Stretches.{Stretch, head_bound}
 use Rattle.kfifo_progress.proofs.Undos.{Undos, undos_begin, undos_opening, undos_step, undos_table, undos_tick}
-use Rattle.kfifo_progress.specs.Progress.{call_steps, calls_ended, ends_of, steps_of}
+use Rattle.kfifo_progress.specs.Progress.{SomeCallEnds, call_steps, calls_ended, ends_of, most_moves, most_steps, steps_of}
 
 -- the stretch at a world
 pub record LiveAt (shape : Shape) (threads : ℕ) (x : Prices) (b : Begun) (world : World) (l : Ledger) (spent : ℕ) : Type 0 where
@@ -271,3 +272,68 @@ module _ (shape : Shape) (again : shape.holds_again ≡ true) (threads : ℕ) wh
           account = omega arith;
         };
       }
+
+total_none : (n : ℕ) → total (λ _. 0) n ≡ 0
+total_none zero = refl
+total_none (suc n) = omega (arith, total_none n)
+
+purse_bound : (shape : Shape) (threads : ℕ) (x : Prices) (w : ℕ → ℕ) (p : ℕ → Option Running) → AreEnough shape threads x
+    → purse shape x w p threads ≤ threads * (x.round + x.put + (x.ends + x.ends))
+purse_bound shape threads x w p enough =
+    let k = total_rises (λ _. 0) (λ u. cost_at shape x w (p u)) threads (x.round + x.put + (x.ends + x.ends))
+    (λ u _. below (p u)) in
+    omega (arith, k, total_none threads)
+  where
+    below : (o : Option Running) → cost_at shape x w o ≤ 0 + (x.round + x.put + (x.ends + x.ends))
+    below None = omega arith
+    below (Some q) = omega (arith, cost_bound shape threads x w q enough)
+
+-- the prices as the bound has them
+price_of_all : (t r : ℕ) → r + t * r + (r + t * r + t * r + (r + t * r + t * r)) ≡ r * (5 * t + 3)
+price_of_all t r = omega arith
+
+price_of_ends : (t r : ℕ) → (r + t * r + t * r) + (r + t * r + t * r) + r ≡ r * (4 * t + 3)
+price_of_ends t r = omega arith
+
+few_moves : (head tail from at threads n : ℕ) → head ≤ from + threads + 1 → tail < head + n → from < at + n
+    → head + tail ≤ at + from + 2 * (threads + n)
+few_moves head tail from at threads n h t f = omega arith
+
+spent_bound : (spent left all start ends moves price : ℕ) → spent + left + price * start ≤ all + price * ends → ends ≤ start + moves
+    → spent ≤ all + moves * price
+spent_bound spent left all start ends moves price account few =
+    let m : price * ends ≤ price * (start + moves) = mul-le-mul_left price few in
+    let d : price * (start + moves) ≡ price * start + moves * price = omega arith in
+    omega (arith, account, m, d)
+
+-- a live stretch has spent little
+live_spent : (shape : Shape) (threads : ℕ) (old l : Ledger) (here there : World) (spent : ℕ) → threads < shape.n
+    → EndsOk shape (word_at here 0) old.head old.tail
+    → LiveAt shape threads (prices shape threads) (at_begin old shape threads here) there l spent → spent ≤ most_steps shape threads
+unfolding prices at_begin
+live_spent shape threads old l here there spent few ok h =
+    let head : l.head ≤ old.tail + threads + 1 =
+    head_bound shape threads old.tail (word_at there) (place_of there) l h.live.charge few h.live.stretch in
+    let moves : l.head + l.tail ≤ old.head + old.tail + most_moves shape threads =
+    few_moves l.head l.tail old.tail old.head threads shape.n head h.live.undos.inv.base.ends.no_wrap ok.no_wrap in
+    let all = purse_bound shape threads (prices shape threads) (word_at here) (place_of here) (enough_prices shape threads) in
+    let bound = spent_bound spent (purse shape (prices shape threads) (word_at there) (place_of there) threads)
+    (purse shape (prices shape threads) (word_at here) (place_of here) threads) (old.head + old.tail) (l.head + l.tail)
+    (most_moves shape threads) (move_price (prices shape threads) threads) h.live.account moves in
+    let threads_have : purse shape (prices shape threads) (word_at here) (place_of here) threads
+    ≤ threads * ((2 * shape.k + 9) * (5 * threads + 3)) =
+    subst (λ z. purse shape (prices shape threads) (word_at here) (place_of here) threads ≤ threads * z)
+    (price_of_all threads (2 * shape.k + 9)) all in
+    let price : most_moves shape threads * move_price (prices shape threads) threads
+    ≡ most_moves shape threads * (threads * ((2 * shape.k + 9) * (4 * threads + 3)) + 1) =
+    ap (λ z. most_moves shape threads * (threads * z + 1)) (price_of_ends threads (2 * shape.k + 9)) in
+    omega (arith, bound, threads_have, price)
+
+pub some_call_ends : (shape : Shape) (threads : ℕ) → shape.holds_again ≡ true → threads < shape.n → SomeCallEnds shape threads
+some_call_ends shape threads again few events stretch here there is made none =
+    let l = ledger_after_all shape threads events in
+    let spent = live_spent shape threads l (ledger_of shape (Some here) stretch l) here there (0 + call_steps stretch) few
+    (undos_after shape again threads events here is).holds.inv.base.ends
+    (stretch_live shape again threads (prices shape threads) (enough_prices shape threads) (at_begin l shape threads here) stretch here
+    there l 0 (live_begins shape again threads events here is) made none) in
+    omega (arith, spent)

@@ -44,7 +44,7 @@ most_moves shape threads = 2 * (threads + shape.n)
 -- end its round and that of an item that it takes out again may be in vain
 abbrev pub most_steps : Shape → ℕ → ℕ
 most_steps shape threads =
-    threads * (round_steps shape * (5 * threads + 4))
+    threads * (round_steps shape * (5 * threads + 3))
     + most_moves shape threads * (threads * (round_steps shape * (4 * threads + 3)) + 1)
 
 -- Where no call ends, few steps are made, by whichever threads
