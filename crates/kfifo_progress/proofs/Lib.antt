@@ -4,6 +4,7 @@ pub mod Kept
 pub mod Charges
 pub mod Stretches
 pub mod Cost
+pub mod Rounds
 pub mod Spending
 pub mod Live
 pub mod Schedule
