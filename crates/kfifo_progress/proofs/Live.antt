@@ -1,13 +1,15 @@
 -- A stretch in which no call ends, with what was spent in it, goes on with each step, each begin of a call and each tick.
-use Rattle.std.proofs.Common.{◌≡◌, ◌≢◌, ℕ, zero, suc, ◌+◌, ◌-◌, ◌*◌, ◌<◌, ◌≤◌, true, false, inl, inr, refl, sym, ◌∙◌, ap, subst, arith, Option}
+use Rattle.std.proofs.Common.{◌≡◌, ◌≢◌, ℕ, zero, suc, ◌+◌, ◌-◌, ◌*◌, ◌<◌, ◌≤◌, Bool, true, false, inl, inr, refl, sym, ◌∙◌, ap, subst, arith, Option}
 use Rattle.std.proofs.Common.{Some, None, is_some}
 use Rattle.std.proofs.lemmas.Bool.{cases_eq, false≢true}
 use Rattle.std.proofs.lemmas.Bool.Decides.{nat_tests}
 use Rattle.std.proofs.lemmas.Option.{none-some, same_Some}
 use Rattle.kfifo_linear.proofs.Types.{Begin, Running, Shape}
+use Rattle.kfifo_machine.specs.declared.event.Begin.TheVariants as B
 use Rattle.kfifo_linear.proofs.Abstract.{noted-other, noted-same, words_by}
 use Rattle.kfifo_linear.proofs.Base.{Sane}
 use Rattle.kfifo_linear.proofs.Claims.{Loaded, at_load}
+use Rattle.kfifo_linear.proofs.Threads.{goes_at}
 use Rattle.kfifo_linear.proofs.Whole.{ticked_word}
 use Rattle.kfifo_linear.specs.Ledger.{Ledger, called, found_in, noted, stepped}
 use Rattle.kfifo_machine.specs.Machine.{begun, may_begin, place_after}
@@ -19,15 +21,23 @@ use Rattle.kfifo_progress.proofs.Charges.{HasKept, HasKept-others}
 use Rattle.kfifo_progress.proofs.Cost.{AreEnough, Prices, cost}
 use Rattle.kfifo_progress.proofs.Counting.{total, total_rises}
 use Rattle.kfifo_progress.proofs.Kept.{Every, Kept, charge_after, goes}
-use Rattle.kfifo_progress.proofs.Spending.{cost_at, move_price, purse, spends}
+use Rattle.kfifo_progress.proofs.Rounds.{changes, changes_stay, disturbed, rounds_left}
+use Rattle.kfifo_progress.proofs.Spending.{changes_at, changes_made, cost_at, move_changes, move_price, others_disturbed, own_rounds, purse}
+use Rattle.kfifo_progress.proofs.Spending.{spends, to_change, won_by}
 use Rattle.kfifo_progress.proofs.Stretches.{Stretch, stretch_step}
+use Rattle.kfifo_progress.specs.Progress.{HasTurns}
 use Rattle.kfifo_progress.proofs.Undos.{Undos, undos_begin, undos_step, undos_tick}
 
--- the stretch: the visit in which the tail was at its begin, the sum of the visits of both ends, and what the threads had
+-- the stretch: the visit in which the tail was at its begin, the sum of the visits of both ends, and what the threads had.
+-- A thread that is not old makes a call that began with at least so many turns, and lost at most so many rounds before
 pub record Begun : Type 0 where
   pub tail : ℕ
   pub ends : ℕ
   pub purse : ℕ
+  pub to_change : ℕ
+  pub old : ℕ → Bool
+  pub turns : ℕ
+  pub lost : ℕ
 
 pub record Live (shape : Shape) (threads : ℕ) (x : Prices) (b : Begun) (w : ℕ → ℕ) (p : ℕ → Option Running) (l : Ledger) (spent : ℕ)
     : Type 0 where
@@ -36,6 +46,11 @@ pub record Live (shape : Shape) (threads : ℕ) (x : Prices) (b : Begun) (w : �
   pub stretch : Stretch shape threads b.tail w p l charge
   pub account : spent + purse shape x w p threads + move_price x threads * b.ends
       ≤ b.purse + move_price x threads * (l.head + l.tail)
+  pub changed : ℕ
+  pub changes : changed + to_change w p threads + move_changes threads * b.ends
+      ≤ b.to_change + move_changes threads * (l.head + l.tail)
+  pub young : (t : ℕ) (r : Running) → p t ≡ Some r → b.old t ≡ false
+      → b.turns + disturbed w r ≤ rounds_left r + b.lost + 1 + changed
 
 kept_same : (shape : Shape) (w w' : ℕ → ℕ) (charge : ℕ → Option ℕ) (Slots : ℕ → Type 0) (v : ℕ)
     → ((i : ℕ) → IsSlotIndex shape i → w' i ≡ w i) → Kept shape w charge Slots v → Kept shape w' charge Slots v
@@ -49,6 +64,14 @@ cost_same shape x w w' q s ends slots = grind (arith, nat_tests, slots)
 begun_cost : (shape : Shape) (x : Prices) (w : ℕ → ℕ) (b : Begin) (r : Running) → begun b ≡ Some r
     → (cost shape x w r ≡ x.round + x.put) × (at_load r ≡ true)
 begun_cost shape x w b r g = grind arith
+
+disturbed_same : (shape : Shape) (w w' : ℕ → ℕ) (q : Running) → Sane shape q → w' 0 ≡ w 0
+    → ((i : ℕ) → 0 < i → i < 1 + shape.n * shape.k → w' i ≡ w i) → disturbed w' q ≡ disturbed w q
+disturbed_same shape w w' q s ends slots = grind (arith, nat_tests, slots)
+
+begun_round : (w : ℕ → ℕ) (b : Begin) (r : Running) → begun b ≡ Some r
+    → (changes w r ≤ 1) × (disturbed w r ≡ 0) × ((least : ℕ) → HasTurns least (Some b) → least ≤ rounds_left r)
+begun_round w b r g = grind arith
 
 begun_kept : (shape : Shape) (from : ℕ) (w : ℕ → ℕ) (l : Ledger) (charge : ℕ → Option ℕ) (b : Begin) (r : Running) → begun b ≡ Some r
     → HasKept shape from w l charge r
@@ -68,7 +91,34 @@ module _ (shape : Shape) (again : shape.holds_again ≡ true) (threads : ℕ) (x
         account =
             let k = spends shape threads x enough w p l t r e in_range (h.undos.inv.base.sane t r e) place h.undos.inv.base.ends calm in
             omega (arith, k, h.account);
+        changed = h.changed + won_by shape w r;
+        changes =
+            let k = changes_made shape threads x enough w p l t r e in_range (h.undos.inv.base.sane t r e) place h.undos.inv.base.ends calm in
+            omega (arith, k, h.changes);
+        young = λ u q f new. elim (cases_eq u t) [
+          | inl same ↦
+              let k = goes_at (λ q. rounds_left r + disturbed (words_by (access shape r) w) q
+              ≤ rounds_left q + won_by shape w r + disturbed w r) (advance shape r (found_in shape w r)) q
+              (sym (noted-same p t u (place_after (advance shape r (found_in shape w r))) same) ∙ f)
+              (own_rounds shape threads x enough w p l t r e in_range (h.undos.inv.base.sane t r e) place h.undos.inv.base.ends calm) in
+              omega (arith, k, h.young t r e (ap b.old (sym same) ∙ new))
+          | inr ne ↦
+              let g : p u ≡ Some q = sym (noted-other p t u (place_after (advance shape r (found_in shape w r))) ne) ∙ f in
+              let k = others_disturbed shape threads x enough w p l t r e in_range (h.undos.inv.base.sane t r e) place
+              h.undos.inv.base.ends calm q in
+              omega (arith, k, h.young u q g new)
+        ];
       }
+
+  begun_changes : (t : ℕ) (begin : Begin) (r : Running) → p t ≡ None → begun begin ≡ Some r → (u : ℕ)
+      → changes_at w (noted p t (Some r) u) ≤ changes_at w (p u) + 0
+  begun_changes t begin r idle g u = elim (cases_eq u t) [
+    | inl same ↦
+        let new : noted p t (Some r) u ≡ Some r = noted-same p t u (Some r) same in
+        let old : p u ≡ None = ap p same ∙ idle in
+        rw (new, old) (omega (arith, (begun_round w begin r g).0))
+    | inr ne ↦ rw (noted-other p t u (Some r) ne) (omega arith)
+  ]
 
   begun_places : (t : ℕ) (begin : Begin) (r : Running) → p t ≡ None → begun begin ≡ Some r → (u : ℕ)
       → cost_at shape x w (noted p t (Some r) u) ≤ cost_at shape x w (p u) + 0
@@ -81,9 +131,9 @@ module _ (shape : Shape) (again : shape.holds_again ≡ true) (threads : ℕ) (x
   ]
 
   pub live_begin : (t : ℕ) (begin : Begin) (r : Running) → p t ≡ None → may_begin shape begin ≡ true → begun begin ≡ Some r
-      → Live shape threads x b w (noted p t (Some r)) (called t begin l) spent
+      → HasTurns b.turns (Some begin) → Live shape threads x b w (noted p t (Some r)) (called t begin l) spent
   unfolding called
-  live_begin t begin r idle may g =
+  live_begin t begin r idle may g turns =
       record {
         undos = undos_begin shape again w p l t begin r h.undos idle may g;
         charge = h.charge;
@@ -113,6 +163,16 @@ module _ (shape : Shape) (again : shape.holds_again ≡ true) (threads : ℕ) (x
             let k = total_rises (λ u. cost_at shape x w (p u)) (λ u. cost_at shape x w (noted p t (Some r) u)) threads 0
             (λ u _. begun_places t begin r idle g u) in
             omega (arith, k, h.account);
+        changed = h.changed;
+        changes =
+            let k = total_rises (λ u. changes_at w (p u)) (λ u. changes_at w (noted p t (Some r) u)) threads 0
+            (λ u _. begun_changes t begin r idle g u) in
+            omega (arith, k, h.changes);
+        young = λ u q f new. elim (cases_eq u t) [
+          | inl same ↦ rw (← (same_Some r q (sym (noted-same p t u (Some r) same) ∙ f)))
+              (let k = begun_round w begin r g in omega (arith, k.1, k.2 b.turns turns))
+          | inr ne ↦ h.young u q (sym (noted-other p t u (Some r) ne) ∙ f) new
+        ];
       }
 
   pub live_tick : Live shape threads x b (noted w (clock_at shape.k shape.n) (w (clock_at shape.k shape.n) + 1)) p
@@ -142,8 +202,26 @@ module _ (shape : Shape) (again : shape.holds_again ≡ true) (threads : ℕ) (x
             (λ u. cost_at shape x (noted w (clock_at shape.k shape.n) (w (clock_at shape.k shape.n) + 1)) (p u)) threads 0
             (λ u _. tick_cost u (p u) refl) in
             omega (arith, k, h.account);
+        changed = h.changed;
+        changes =
+            let k = total_rises (λ u. changes_at w (p u))
+            (λ u. changes_at (noted w (clock_at shape.k shape.n) (w (clock_at shape.k shape.n) + 1)) (p u)) threads 0
+            (λ u _. tick_changes (p u)) in
+            omega (arith, k, h.changes);
+        young = λ u q f new.
+            let y = ticked_word shape w (w (clock_at shape.k shape.n) + 1) in
+            let k = disturbed_same shape w (noted w (clock_at shape.k shape.n) (w (clock_at shape.k shape.n) + 1)) q
+            (h.undos.inv.base.sane u q f) (y 0 (omega arith)) (λ i above below. y i below) in
+            omega (arith, k, h.young u q f new);
       }
     where
+      tick_changes : (o : Option Running)
+          → changes_at (noted w (clock_at shape.k shape.n) (w (clock_at shape.k shape.n) + 1)) o ≤ changes_at w o + 0
+      tick_changes None = omega arith
+      tick_changes (Some q) =
+          let y = ticked_word shape w (w (clock_at shape.k shape.n) + 1) in
+          changes_stay w (noted w (clock_at shape.k shape.n) (w (clock_at shape.k shape.n) + 1)) q (y 0 (omega arith))
+
       tick_cost : (u : ℕ) (o : Option Running) → p u ≡ o
           → cost_at shape x (noted w (clock_at shape.k shape.n) (w (clock_at shape.k shape.n) + 1)) o ≤ cost_at shape x w o + 0
       tick_cost u None is = omega arith

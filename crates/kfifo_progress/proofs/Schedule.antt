@@ -35,10 +35,12 @@ use Rattle.kfifo_progress.proofs.Cost.{AreEnough, Prices, cost_bound}
 use Rattle.kfifo_progress.proofs.Counting.{total, total_rises}
 use Rattle.kfifo_progress.proofs.Kept.{goes}
 use Rattle.kfifo_progress.proofs.Live.{Begun, Live, live_begin, live_step, live_tick}
-use Rattle.kfifo_progress.proofs.Spending.{cost_at, move_price, purse}
+use Rattle.kfifo_progress.proofs.Rounds.{changes_bound, disturbed, disturbed_bound, rounds_left}
+use Rattle.kfifo_progress.proofs.Spending.{changes_at, cost_at, move_changes, move_price, purse, sum, to_change}
 use Rattle.kfifo_progress.proofs.Stretches.{Stretch, head_bound}
 use Rattle.kfifo_progress.proofs.Undos.{Undos, undos_begin, undos_opening, undos_step, undos_table, undos_tick}
-use Rattle.kfifo_progress.specs.Progress.{SomeCallEnds, call_steps, calls_ended, ends_of, most_moves, most_steps, steps_of}
+use Rattle.kfifo_progress.specs.Progress.{AllHaveTurns, HasTurns, SomeCallEnds, call_steps, calls_ended, ends_of, most_changes, most_moves}
+use Rattle.kfifo_progress.specs.Progress.{most_steps, steps_of}
 
 -- the stretch at a world
 pub record LiveAt (shape : Shape) (threads : ℕ) (x : Prices) (b : Begun) (world : World) (l : Ledger) (spent : ℕ) : Type 0 where
@@ -90,38 +92,38 @@ module _ (shape : Shape) (again : shape.holds_again ≡ true) (threads : ℕ) (x
       (sym (place_of-moved shape world t r within)) k3
 
   first_live : (begin : Begin) (r : Running) → Live shape threads x b (word_at world) (place_of world) l spent → place_of world t ≡ None
-      → may_begin shape begin ≡ true → begun begin ≡ Some r → IsPlace shape r
+      → may_begin shape begin ≡ true → begun begin ≡ Some r → HasTurns b.turns (Some begin) → IsPlace shape r
       → goes (advance shape r (found_in shape (word_at world) r)) ≡ true
       → Live shape threads x b (word_at (moved shape world t r)) (place_of (moved shape world t r))
       (stepped shape (word_at world) t r (called t begin l)) (spent + 1)
-  first_live begin r h idle may g place calm =
+  first_live begin r h idle may g turns place calm =
       step_live r (called t begin l)
-      (live_begin shape again threads x enough b (word_at world) (place_of world) l spent h t begin r idle may g) place calm
+      (live_begin shape again threads x enough b (word_at world) (place_of world) l spent h t begin r idle may g turns) place calm
 
   by_place : (place : Option Running) (begin : Option Begin) (r : Running) → Live shape threads x b (word_at world) (place_of world) l spent
-      → place_of world t ≡ place → going shape place begin ≡ Some r → IsPlace shape r
+      → place_of world t ≡ place → going shape place begin ≡ Some r → HasTurns b.turns begin → IsPlace shape r
       → goes (advance shape r (found_in shape (word_at world) r)) ≡ true
       → Live shape threads x b (word_at (moved shape world t r)) (place_of (moved shape world t r))
       (ledger_from shape (word_at world) t place begin l) (spent + steps_of begin)
-  by_place None None r h at g place calm = absurd (none-some r g)
-  by_place None (Some (B.Enqueue item start turns)) r h at g place calm =
+  by_place None None r h at g turns place calm = absurd (none-some r g)
+  by_place None (Some (B.Enqueue item start turns)) r h at g enough_turns place calm =
       let k = begins (may_begin shape (B.Enqueue item start turns)) (begun (B.Enqueue item start turns)) r g in
       let same : R.Enqueue item start turns E.LoadEnds ≡ r = same_Some _ r k.1 in
-      rw (← same) (first_live (B.Enqueue item start turns) (R.Enqueue item start turns E.LoadEnds) h at k.0 refl
+      rw (← same) (first_live (B.Enqueue item start turns) (R.Enqueue item start turns E.LoadEnds) h at k.0 refl enough_turns
       (subst (IsPlace shape) (sym same) place)
       (subst (λ q. goes (advance shape q (found_in shape (word_at world) q)) ≡ true) (sym same) calm))
-  by_place None (Some (B.Dequeue start turns)) r h at g place calm =
+  by_place None (Some (B.Dequeue start turns)) r h at g enough_turns place calm =
       let k = begins (may_begin shape (B.Dequeue start turns)) (begun (B.Dequeue start turns)) r g in
       let same : R.Dequeue start turns D.LoadEnds ≡ r = same_Some _ r k.1 in
-      rw (← same) (first_live (B.Dequeue start turns) (R.Dequeue start turns D.LoadEnds) h at k.0 refl
+      rw (← same) (first_live (B.Dequeue start turns) (R.Dequeue start turns D.LoadEnds) h at k.0 refl enough_turns
       (subst (IsPlace shape) (sym same) place)
       (subst (λ q. goes (advance shape q (found_in shape (word_at world) q)) ≡ true) (sym same) calm))
-  by_place None (Some B.Tick) r h at g place calm = absurd (none-some r g)
-  by_place (Some q) None r h at g place calm =
+  by_place None (Some B.Tick) r h at g turns place calm = absurd (none-some r g)
+  by_place (Some q) None r h at g turns place calm =
       let same : q ≡ r = same_Some q r g in
       rw same (step_live r l (subst (λ p. Live shape threads x b (word_at world) p l spent)
       (sym (noted-there (place_of world) t r (at ∙ g))) h) place calm)
-  by_place (Some q) (Some begin) r h at g place calm = absurd (none-some r g)
+  by_place (Some q) (Some begin) r h at g turns place calm = absurd (none-some r g)
 
 word_at-ticked : (shape : Shape) (world : World) → length world.words ≡ table_size shape
     → word_at (ticked shape world)
@@ -160,9 +162,9 @@ module _ (shape : Shape) (again : shape.holds_again ≡ true) (threads : ℕ) (x
 
   -- an event that ends no call
   event_live : (world next : World) (e : Event) (l : Ledger) (spent : ℕ) → LiveAt shape threads x b world l spent
-      → step shape world e ≡ Ok (next, Went) → LiveAt shape threads x b next (ledger_after shape world e l) (spent + steps_of e.begin)
+      → HasTurns b.turns e.begin → step shape world e ≡ Ok (next, Went) → LiveAt shape threads x b next (ledger_after shape world e l) (spent + steps_of e.begin)
   unfolding ledger_after found
-  event_live world next e l spent h made =
+  event_live world next e l spent h turns made =
       let within : e.thread < length world.places = made_within shape world e next Went made in
       let sound : IsSound shape next = step_sound shape world e next Went h.sound made in
       let count : length next.places ≡ threads = same_threads shape world e next Went made ∙ h.count in
@@ -171,7 +173,7 @@ module _ (shape : Shape) (again : shape.holds_again ≡ true) (threads : ℕ) (x
             let place : IsPlace shape s.running = going_place shape (place_of world e.thread) e.begin s.running
             (λ r at. place_is shape world e.thread r h.sound at) s.goes in
             let k = by_place shape again threads x enough b world e.thread l spent h.size h.count within (place_of world e.thread) e.begin
-            s.running h.live refl s.goes place
+            s.running h.live refl s.goes turns place
             (went_goes (advance shape s.running (found_in shape (word_at world) s.running)) s.outcome_is) in
             record {
               size = ap (λ (z : World). length z.words) s.there_is ∙ length-moved shape world e.thread s.running ∙ h.size;
@@ -197,17 +199,17 @@ module _ (shape : Shape) (again : shape.holds_again ≡ true) (threads : ℕ) (x
 
   -- and a stretch of such events
   stretch_live : (stretch : List Event) (here there : World) (l : Ledger) (spent : ℕ) → LiveAt shape threads x b here l spent
-      → run shape (Some here) stretch ≡ Some there → calls_ended shape (Some here) stretch ≡ 0
+      → AllHaveTurns b.turns stretch → run shape (Some here) stretch ≡ Some there → calls_ended shape (Some here) stretch ≡ 0
       → LiveAt shape threads x b there (ledger_of shape (Some here) stretch l) (spent + call_steps stretch)
-  stretch_live [] here there l spent h is none =
+  stretch_live [] here there l spent h turns is none =
       let z : spent ≡ spent + 0 = omega arith in
       subst (λ n. LiveAt shape threads x b there l n) z (subst (λ w. LiveAt shape threads x b w l spent) (same_Some here there is) h)
-  stretch_live (e ∷ es) here there l spent h is none =
+  stretch_live (e ∷ es) here there l spent h turns is none =
       let m = first_made shape here e there es is in
       let ends : ends_of (Ok (m.0, m.1.0)) + calls_ended shape (Some m.0) es ≡ 0 = rw m.1.1.0 at none in
       let went : m.1.0 ≡ Went = no_end m.1.0 m.0 (omega (arith, ends)) in
-      let k = event_live here m.0 e l spent h (m.1.1.0 ∙ ap (λ o. Ok (m.0, o)) went) in
-      let all = stretch_live es m.0 there (ledger_after shape here e l) (spent + steps_of e.begin) k m.1.1.1 (omega (arith, ends)) in
+      let k = event_live here m.0 e l spent h turns.0 (m.1.1.0 ∙ ap (λ o. Ok (m.0, o)) went) in
+      let all = stretch_live es m.0 there (ledger_after shape here e l) (spent + steps_of e.begin) k turns.1 m.1.1.1 (omega (arith, ends)) in
       let z : spent + steps_of e.begin + call_steps es ≡ spent + call_steps (e ∷ es) = omega arith in
       rw m.1.1.0 (subst (λ n. LiveAt shape threads x b there (ledger_of shape (Some m.0) es (ledger_after shape here e l)) n) z all)
 
@@ -238,38 +240,49 @@ stretch_begins shape threads w p l ordered = record {
     nothing_left : (shape : Shape) (w : ℕ → ℕ) (l : Ledger) (r : Running) → l.head ≤ l.tail → HasKept shape l.tail w l (λ _. None) r
     nothing_left shape w l r ordered = grind arith
 
-at_begin : Ledger → Shape → ℕ → World → Begun
-at_begin l shape threads here = record {
+at_begin : Ledger → Shape → ℕ → World → (ℕ → Bool) → ℕ → ℕ → Begun
+at_begin l shape threads here old turns lost = record {
   tail = l.tail;
   ends = l.head + l.tail;
   purse = purse shape (prices shape threads) (word_at here) (place_of here) threads;
+  to_change = to_change (word_at here) (place_of here) threads;
+  old = old;
+  turns = turns;
+  lost = lost;
 }
 
 module _ (shape : Shape) (again : shape.holds_again ≡ true) (threads : ℕ) where
+  abbrev UndosAt : World → Ledger → Type 0
+  UndosAt world l = At shape (Undos shape) (undos_table shape again) (undos_begin shape again) (undos_step shape again)
+      (undos_tick shape again) world l
+
   undos_after : (events : List Event) (here : World) → after shape threads events ≡ Some here
-      → At shape (Undos shape) (undos_table shape again) (undos_begin shape again) (undos_step shape again) (undos_tick shape again) here
-      (ledger_after_all shape threads events)
+      → UndosAt here (ledger_after_all shape threads events)
   undos_after events here is =
       after_all shape (Undos shape) (undos_table shape again) (undos_begin shape again) (undos_step shape again) (undos_tick shape again)
       events (opening shape threads) here blank
       (record { size = opening_size shape threads; holds = undos_opening shape again threads }) is
 
-  live_begins : (events : List Event) (here : World) → after shape threads events ≡ Some here
-      → LiveAt shape threads (prices shape threads) (at_begin (ledger_after_all shape threads events) shape threads here) here
-      (ledger_after_all shape threads events) 0
+  -- a stretch may begin at any world
+  live_begins : (here : World) (l : Ledger) (old : ℕ → Bool) (turns lost : ℕ) → UndosAt here l → length here.places ≡ threads
+      → IsSound shape here
+      → ((t : ℕ) (r : Running) → place_of here t ≡ Some r → old t ≡ false
+      → turns + disturbed (word_at here) r ≤ rounds_left r + lost + 1)
+      → LiveAt shape threads (prices shape threads) (at_begin l shape threads here old turns lost) here l 0
   unfolding at_begin
-  live_begins events here is =
-      let k = undos_after events here is in
+  live_begins here l old turns lost k count sound young =
       record {
         size = k.size;
-        count = sound_threads shape threads events here is;
-        sound = sound shape threads events here is;
+        count = count;
+        sound = sound;
         live = record {
           undos = k.holds;
           charge = λ _. None;
-          stretch = stretch_begins shape threads (word_at here) (place_of here) (ledger_after_all shape threads events)
-              k.holds.inv.base.ends.ordered;
+          stretch = stretch_begins shape threads (word_at here) (place_of here) l k.holds.inv.base.ends.ordered;
           account = omega arith;
+          changed = 0;
+          changes = omega arith;
+          young = λ t r at new. omega (arith, young t r at new);
         };
       }
 
@@ -277,16 +290,26 @@ total_none : (n : ℕ) → total (λ _. 0) n ≡ 0
 total_none zero = refl
 total_none (suc n) = omega (arith, total_none n)
 
+sum_bound : (f : (ℕ → ℕ) → Option Running → ℕ) (w : ℕ → ℕ) (p : ℕ → Option Running) (threads c : ℕ)
+    → ((o : Option Running) → f w o ≤ 0 + c) → sum f w p threads ≤ threads * c
+sum_bound f w p threads c below =
+    let k = total_rises (λ _. 0) (λ u. f w (p u)) threads c (λ u _. below (p u)) in
+    omega (arith, k, total_none threads)
+
 purse_bound : (shape : Shape) (threads : ℕ) (x : Prices) (w : ℕ → ℕ) (p : ℕ → Option Running) → AreEnough shape threads x
     → purse shape x w p threads ≤ threads * (x.round + x.put + (x.ends + x.ends))
-purse_bound shape threads x w p enough =
-    let k = total_rises (λ _. 0) (λ u. cost_at shape x w (p u)) threads (x.round + x.put + (x.ends + x.ends))
-    (λ u _. below (p u)) in
-    omega (arith, k, total_none threads)
+purse_bound shape threads x w p enough = sum_bound (cost_at shape x) w p threads (x.round + x.put + (x.ends + x.ends)) below
   where
     below : (o : Option Running) → cost_at shape x w o ≤ 0 + (x.round + x.put + (x.ends + x.ends))
     below None = omega arith
     below (Some q) = omega (arith, cost_bound shape threads x w q enough)
+
+to_change_bound : (threads : ℕ) (w : ℕ → ℕ) (p : ℕ → Option Running) → to_change w p threads ≤ threads * 3
+to_change_bound threads w p = sum_bound changes_at w p threads 3 below
+  where
+    below : (o : Option Running) → changes_at w o ≤ 0 + 3
+    below None = omega arith
+    below (Some q) = omega (arith, changes_bound w q)
 
 -- the prices as the bound has them
 price_of_all : (t r : ℕ) → r + t * r + (r + t * r + t * r + (r + t * r + t * r)) ≡ r * (5 * t + 3)
@@ -306,34 +329,68 @@ spent_bound spent left all start ends moves price account few =
     let d : price * (start + moves) ≡ price * start + moves * price = omega arith in
     omega (arith, account, m, d)
 
--- a live stretch has spent little
-live_spent : (shape : Shape) (threads : ℕ) (old l : Ledger) (here there : World) (spent : ℕ) → threads < shape.n
-    → EndsOk shape (word_at here 0) old.head old.tail
-    → LiveAt shape threads (prices shape threads) (at_begin old shape threads here) there l spent → spent ≤ most_steps shape threads
-unfolding prices at_begin
-live_spent shape threads old l here there spent few ok h =
-    let head : l.head ≤ old.tail + threads + 1 =
-    head_bound shape threads old.tail (word_at there) (place_of there) l h.live.charge few h.live.stretch in
-    let moves : l.head + l.tail ≤ old.head + old.tail + most_moves shape threads =
-    few_moves l.head l.tail old.tail old.head threads shape.n head h.live.undos.inv.base.ends.no_wrap ok.no_wrap in
+-- what the threads had at the begin of a stretch is bounded
+record Fair (shape : Shape) (threads : ℕ) (b : Begun) : Type 0 where
+  purse : b.purse ≤ threads * ((2 * shape.k + 9) * (5 * threads + 3))
+  to_change : b.to_change ≤ threads * 3
+  ends : b.tail + b.tail < b.ends + shape.n
+
+fair_begin : (shape : Shape) (threads : ℕ) (l : Ledger) (here : World) (old : ℕ → Bool) (turns lost : ℕ)
+    → EndsOk shape (word_at here 0) l.head l.tail → Fair shape threads (at_begin l shape threads here old turns lost)
+unfolding at_begin prices
+fair_begin shape threads l here old turns lost ok =
     let all = purse_bound shape threads (prices shape threads) (word_at here) (place_of here) (enough_prices shape threads) in
-    let bound = spent_bound spent (purse shape (prices shape threads) (word_at there) (place_of there) threads)
-    (purse shape (prices shape threads) (word_at here) (place_of here) threads) (old.head + old.tail) (l.head + l.tail)
-    (most_moves shape threads) (move_price (prices shape threads) threads) h.live.account moves in
-    let threads_have : purse shape (prices shape threads) (word_at here) (place_of here) threads
-    ≤ threads * ((2 * shape.k + 9) * (5 * threads + 3)) =
-    subst (λ z. purse shape (prices shape threads) (word_at here) (place_of here) threads ≤ threads * z)
-    (price_of_all threads (2 * shape.k + 9)) all in
-    let price : most_moves shape threads * move_price (prices shape threads) threads
-    ≡ most_moves shape threads * (threads * ((2 * shape.k + 9) * (4 * threads + 3)) + 1) =
-    ap (λ z. most_moves shape threads * (threads * z + 1)) (price_of_ends threads (2 * shape.k + 9)) in
-    omega (arith, bound, threads_have, price)
+    record {
+      purse = subst (λ z. purse shape (prices shape threads) (word_at here) (place_of here) threads ≤ threads * z)
+          (price_of_all threads (2 * shape.k + 9)) all;
+      to_change = to_change_bound threads (word_at here) (place_of here);
+      ends = omega (arith, ok.no_wrap);
+    }
+
+-- so a live stretch has spent little, and changed few words
+module _ (shape : Shape) (threads : ℕ) (b : Begun) (few : threads < shape.n) (fair : Fair shape threads b) (l : Ledger) (there : World)
+    (spent : ℕ) (h : LiveAt shape threads (prices shape threads) b there l spent) where
+  live_moves : l.head + l.tail ≤ b.ends + most_moves shape threads
+  live_moves =
+      let head : l.head ≤ b.tail + threads + 1 =
+      head_bound shape threads b.tail (word_at there) (place_of there) l h.live.charge few h.live.stretch in
+      omega (arith, head, h.live.undos.inv.base.ends.no_wrap, fair.ends)
+
+  live_spent : spent ≤ most_steps shape threads
+  unfolding prices
+  live_spent =
+      let bound = spent_bound spent (purse shape (prices shape threads) (word_at there) (place_of there) threads) b.purse b.ends
+      (l.head + l.tail) (most_moves shape threads) (move_price (prices shape threads) threads) h.live.account live_moves in
+      let price : most_moves shape threads * move_price (prices shape threads) threads
+      ≡ most_moves shape threads * (threads * ((2 * shape.k + 9) * (4 * threads + 3)) + 1) =
+      ap (λ z. most_moves shape threads * (threads * z + 1)) (price_of_ends threads (2 * shape.k + 9)) in
+      omega (arith, bound, fair.purse, price)
+
+  live_changed : h.live.changed ≤ most_changes shape threads
+  live_changed =
+      let bound = spent_bound h.live.changed (to_change (word_at there) (place_of there) threads) b.to_change b.ends (l.head + l.tail)
+      (most_moves shape threads) (move_changes threads) h.live.changes live_moves in
+      let price : most_moves shape threads * move_changes threads ≡ (2 * threads + 1) * most_moves shape threads = omega arith in
+      omega (arith, bound, fair.to_change, price)
+
+no_turns : (events : List Event) → AllHaveTurns 0 events
+no_turns [] = tt
+no_turns (e ∷ es) = (by_begin e.begin, no_turns es)
+  where
+    by_begin : (begin : Option Begin) → HasTurns 0 begin
+    by_begin begin = grind arith
 
 pub some_call_ends : (shape : Shape) (threads : ℕ) → shape.holds_again ≡ true → threads < shape.n → SomeCallEnds shape threads
+unfolding at_begin
 some_call_ends shape threads again few events stretch here there is made none =
     let l = ledger_after_all shape threads events in
-    let spent = live_spent shape threads l (ledger_of shape (Some here) stretch l) here there (0 + call_steps stretch) few
-    (undos_after shape again threads events here is).holds.inv.base.ends
-    (stretch_live shape again threads (prices shape threads) (enough_prices shape threads) (at_begin l shape threads here) stretch here
-    there l 0 (live_begins shape again threads events here is) made none) in
+    let old : ℕ → Bool = λ _. true in
+    let undos = undos_after shape again threads events here is in
+    let b = at_begin l shape threads here old 0 0 in
+    let begun = live_begins shape again threads here l old 0 0 undos (sound_threads shape threads events here is)
+    (sound shape threads events here is) (λ t r at new. absurd (false≢true (sym new))) in
+    let spent = live_spent shape threads b few (fair_begin shape threads l here old 0 0 undos.holds.inv.base.ends)
+    (ledger_of shape (Some here) stretch l) there (0 + call_steps stretch)
+    (stretch_live shape again threads (prices shape threads) (enough_prices shape threads) b stretch here there l 0 begun
+    (no_turns stretch) made none) in
     omega (arith, spent)

@@ -1,5 +1,6 @@
 -- What all threads together may still spend: each step of a call spends some of it, and each move of an end adds to it.
 use Rattle.std.proofs.Common.{◌≡◌, ◌≢◌, ℕ, ◌+◌, ◌-◌, ◌*◌, ◌<◌, ◌≤◌, Bool, true, false, inl, inr, refl, sym, ◌∙◌, ap, subst, arith, Option, Some, None}
+use Rattle.std.specs.Prelude.{if◌then◌else◌}
 use Rattle.std.proofs.lemmas.Bool.{cases_Bool, cases_eq, false≢true}
 use Rattle.std.proofs.lemmas.Bool.Decides.{nat_tests}
 use Rattle.kfifo_linear.proofs.Types.{Next, Running, Shape}
@@ -16,96 +17,120 @@ use Rattle.kfifo_progress.proofs.Cost.{AreEnough, Prices, cost, cost_bound, ends
 use Rattle.kfifo_progress.proofs.Cost.{others_rise_little, slot_own, wins, words_same}
 use Rattle.kfifo_progress.proofs.Counting.{total, total_falls, total_rises}
 use Rattle.kfifo_progress.proofs.Kept.{goes}
+use Rattle.kfifo_progress.proofs.Rounds.{changes, changes_ends, changes_own, changes_rise, changes_slot, changes_stay, disturbed}
+use Rattle.kfifo_progress.proofs.Rounds.{disturbed_rises, rounds_change, rounds_left, rounds_own}
 
+-- what a step changes of a sum over all threads, of what the words and a thread's place say
+abbrev pub sum : ((ℕ → ℕ) → Option Running → ℕ) → (ℕ → ℕ) → (ℕ → Option Running) → ℕ → ℕ
+sum f w p threads = total (λ u. f w (p u)) threads
+
+module _ (f : (ℕ → ℕ) → Option Running → ℕ) (w w' : ℕ → ℕ) (p : ℕ → Option Running) (t threads : ℕ) (next : Option Running) (c : ℕ)
+    (others : (o : Option Running) → f w' o ≤ f w o + c) where
+  other : (u : ℕ) → u ≢ t → f w' (noted p t next u) ≤ f w (p u) + c
+  other u ne = rw (noted-other p t u next ne) (others (p u))
+
+  pub sum_falls : (rise fall : ℕ) → t < threads → f w' next + fall ≤ f w (p t) + rise
+      → sum f w' (noted p t next) threads + fall ≤ sum f w p threads + rise + threads * c
+  sum_falls rise fall in_range own =
+      total_falls (λ u. f w (p u)) (λ u. f w' (noted p t next u)) threads t c rise fall in_range
+      (rw (noted-same p t t next refl) own) (λ u _ ne. other u ne)
+
+  pub sum_rises : f w' next ≤ f w (p t) + c → sum f w' (noted p t next) threads ≤ sum f w p threads + threads * c
+  sum_rises own =
+      total_rises (λ u. f w (p u)) (λ u. f w' (noted p t next u)) threads c
+      (λ u _. elim (cases_eq u t) [ | inl same ↦ rw (same, noted-same p t t next refl) own | inr ne ↦ other u ne ])
+
+-- what a place costs, and how many words it may change, where an idle thread begins a call
 abbrev pub cost_at : Shape → Prices → (ℕ → ℕ) → Option Running → ℕ
 cost_at shape x w None = x.round + x.put
 cost_at shape x w (Some r) = cost shape x w r
 
+abbrev pub changes_at : (ℕ → ℕ) → Option Running → ℕ
+changes_at w None = 1
+changes_at w (Some r) = changes w r
+
 -- what all threads may spend
 abbrev pub purse : Shape → Prices → (ℕ → ℕ) → (ℕ → Option Running) → ℕ → ℕ
-purse shape x w p threads = total (λ u. cost_at shape x w (p u)) threads
+purse shape x w p threads = sum (cost_at shape x) w p threads
 
 -- what a move of an end adds
 abbrev pub move_price : Prices → ℕ → ℕ
 move_price x threads = threads * (x.ends + x.ends + x.round) + 1
 
-other_cost : (shape : Shape) (x : Prices) (w w' : ℕ → ℕ) (o : Option Running) (c : ℕ)
-    → ((q : Running) → cost shape x w' q ≤ cost shape x w q + c) → cost_at shape x w' o ≤ cost_at shape x w o + c
-other_cost shape x w w' None c h = omega arith
-other_cost shape x w w' (Some q) c h = h q
+-- how many words all threads may change, and what a move of an end adds, itself counted
+abbrev pub to_change : (ℕ → ℕ) → (ℕ → Option Running) → ℕ → ℕ
+to_change w p threads = sum changes_at w p threads
 
-after_goes : (shape : Shape) (x : Prices) (w : ℕ → ℕ) (P : ℕ → Type 0) (next : Next) → goes next ≡ true
-    → IfGoes (λ q. P (cost shape x w q)) next → P (cost_at shape x w (place_after next))
-after_goes shape x w P (Goes q) calm h = h
-after_goes shape x w P (Answers answer) calm h = absurd (false≢true calm)
+abbrev pub move_changes : ℕ → ℕ
+move_changes threads = threads * 2 + 1
+
+-- whether a step changes a word
+abbrev pub won_by : Shape → (ℕ → ℕ) → Running → ℕ
+won_by shape w r = if wins w (access shape r) then 1 else 0
+
+after_goes : (f : (ℕ → ℕ) → Option Running → ℕ) (w : ℕ → ℕ) (P : ℕ → Type 0) (next : Next) → goes next ≡ true
+    → IfGoes (λ q. P (f w (Some q))) next → P (f w (place_after next))
+after_goes f w P (Goes q) calm h = h
+after_goes f w P (Answers answer) calm h = absurd (false≢true calm)
+
+if_goes : (P Q : Running → Type 0) → ((q : Running) → P q → Q q) → (next : Next) → IfGoes P next → IfGoes Q next
+if_goes P Q on (Goes q) h = on q h
+if_goes P Q on (Answers answer) h = tt
 
 module _ (shape : Shape) (threads : ℕ) (x : Prices) (enough : AreEnough shape threads x) (w : ℕ → ℕ) (p : ℕ → Option Running) (l : Ledger)
     (t : ℕ) (r : Running) (e : p t ≡ Some r) (in_range : t < threads) (s : Sane shape r) (place : IsPlace shape r)
     (ok : EndsOk shape (w 0) l.head l.tail) (calm : goes (advance shape r (found_in shape w r)) ≡ true) where
-  after : ℕ → Option Running
-  after = noted p t (place_after (advance shape r (found_in shape w r)))
+  next : Option Running
+  next = place_after (advance shape r (found_in shape w r))
 
-  own : (w' : ℕ → ℕ) (P : ℕ → Type 0) → IfGoes (λ q. P (cost shape x w' q)) (advance shape r (found_in shape w r))
-      → P (cost_at shape x w' (noted p t (place_after (advance shape r (found_in shape w r))) t))
-  own w' P h = rw (noted-same p t t (place_after (advance shape r (found_in shape w r))) refl)
-      (after_goes shape x w' P (advance shape r (found_in shape w r)) calm h)
+  change : EndsChange w (words_by (access shape r) w) l (stepped shape w t r l)
+  change = ends_change shape w l t r s ok
 
-  others : (w' : ℕ → ℕ) (c : ℕ) → ((q : Running) → cost shape x w' q ≤ cost shape x w q + c) → (u : ℕ) → u < threads → u ≢ t
-      → cost_at shape x w' (noted p t (place_after (advance shape r (found_in shape w r))) u) ≤ cost_at shape x w (p u) + c
-  others w' c h u b ne = rw (noted-other p t u (place_after (advance shape r (found_in shape w r))) ne) (other_cost shape x w w' (p u) c h)
-
-  mine : cost_at shape x w (p t) ≡ cost shape x w r
-  mine = ap (cost_at shape x w) e
-
-  -- by what changes
+  -- the costs, by what changes
   none_changed : wins w (access shape r) ≡ false
       → purse shape x (words_by (access shape r) w) (noted p t (place_after (advance shape r (found_in shape w r)))) threads + 1
       ≤ purse shape x w p threads
   none_changed none =
-      rw (words_same w (access shape r) none)
-      (let k = total_falls (λ u. cost_at shape x w (p u))
-      (λ u. cost_at shape x w (noted p t (place_after (advance shape r (found_in shape w r))) u)) threads t 0 0 1 in_range
-      (let o = own w (λ c. c + 1 ≤ cost shape x w r) (falls_own shape threads x w r enough place none calm) in omega (arith, o, mine))
-      (others w 0 (λ q. omega arith)) in
-      omega (arith, k))
+      let o = after_goes (cost_at shape x) w (λ c. c + 1 ≤ cost shape x w r) (advance shape r (found_in shape w r)) calm
+      (falls_own shape threads x w r enough place none calm) in
+      let k = sum_falls (cost_at shape x) w w p t threads (place_after (advance shape r (found_in shape w r))) 0 (λ o. omega arith) 0 1
+      in_range (rw e (omega (arith, o))) in
+      rw (words_same w (access shape r) none) (omega (arith, k))
 
   slot_changed : wins w (access shape r) ≡ true → accessed (access shape r) ≢ 0
       → purse shape x (words_by (access shape r) w) (noted p t (place_after (advance shape r (found_in shape w r)))) threads + 1
       ≤ purse shape x w p threads
   slot_changed won slot =
       let same = ends_same w (access shape r) slot in
-      let k = total_falls (λ u. cost_at shape x w (p u))
-      (λ u. cost_at shape x (words_by (access shape r) w) (noted p t (place_after (advance shape r (found_in shape w r))) u)) threads t
-      x.round 0 (1 + x.put) in_range
-      (let o = own (words_by (access shape r) w) (λ c. c + (1 + x.put) ≤ cost shape x w r)
-      (slot_own shape threads x w (words_by (access shape r) w) r enough place won slot calm same) in omega (arith, o, mine))
-      (others (words_by (access shape r) w) x.round
-      (λ q. others_rise_little shape threads x w (words_by (access shape r) w) q enough same)) in
+      let o = after_goes (cost_at shape x) (words_by (access shape r) w) (λ c. c + (1 + x.put) ≤ cost shape x w r)
+      (advance shape r (found_in shape w r)) calm
+      (slot_own shape threads x w (words_by (access shape r) w) r enough place won slot calm same) in
+      let k = sum_falls (cost_at shape x) w (words_by (access shape r) w) p t threads (place_after (advance shape r (found_in shape w r)))
+      x.round (others_little (words_by (access shape r) w) same) 0 (1 + x.put) in_range (rw e (omega (arith, o))) in
       omega (arith, k, enough.put)
+    where
+      others_little : (w' : ℕ → ℕ) → w' 0 ≡ w 0 → (o : Option Running) → cost_at shape x w' o ≤ cost_at shape x w o + x.round
+      others_little w' same None = omega arith
+      others_little w' same (Some q) = others_rise_little shape threads x w w' q enough same
 
   ends_changed : purse shape x (words_by (access shape r) w) (noted p t (place_after (advance shape r (found_in shape w r)))) threads + 1
       ≤ purse shape x w p threads + move_price x threads
   ends_changed =
-      let k = total_rises (λ u. cost_at shape x w (p u))
-      (λ u. cost_at shape x (words_by (access shape r) w) (noted p t (place_after (advance shape r (found_in shape w r))) u)) threads
-      (x.ends + x.ends + x.round)
-      (λ u b. elim (cases_eq u t) [
-        | inl same ↦
-            let o = own (words_by (access shape r) w) (λ c. c ≤ cost shape x w r + (x.ends + x.ends + x.round))
-            (moves_own shape threads x w (words_by (access shape r) w) r enough place calm) in
-            subst (λ z. cost_at shape x (words_by (access shape r) w) (noted p t (place_after (advance shape r (found_in shape w r))) z)
-            ≤ cost_at shape x w (p z) + (x.ends + x.ends + x.round)) (sym same) (omega (arith, o, mine))
-        | inr ne ↦ others (words_by (access shape r) w) (x.ends + x.ends + x.round)
-            (λ q. others_rise shape threads x w (words_by (access shape r) w) q enough) u b ne
-      ]) in
+      let o = after_goes (cost_at shape x) (words_by (access shape r) w) (λ c. c ≤ cost shape x w r + (x.ends + x.ends + x.round))
+      (advance shape r (found_in shape w r)) calm (moves_own shape threads x w (words_by (access shape r) w) r enough place calm) in
+      let k = sum_rises (cost_at shape x) w (words_by (access shape r) w) p t threads (place_after (advance shape r (found_in shape w r)))
+      (x.ends + x.ends + x.round) (others_much (words_by (access shape r) w)) (rw e o) in
       omega (arith, k)
+    where
+      others_much : (w' : ℕ → ℕ) (o : Option Running) → cost_at shape x w' o ≤ cost_at shape x w o + (x.ends + x.ends + x.round)
+      others_much w' None = omega arith
+      others_much w' (Some q) = others_rise shape threads x w w' q enough
 
-  -- each step of a call spends some of it
+  -- each step of a call spends some of what the threads have
   pub spends : purse shape x (words_by (access shape r) w) (noted p t (place_after (advance shape r (found_in shape w r)))) threads + 1
       + move_price x threads * (l.head + l.tail)
       ≤ purse shape x w p threads + move_price x threads * ((stepped shape w t r l).head + (stepped shape w t r l).tail)
   spends =
-      let change : EndsChange w (words_by (access shape r) w) l (stepped shape w t r l) = ends_change shape w l t r s ok in
       elim (cases_Bool (wins w (access shape r))) [
         | inr none ↦
             let z : words_by (access shape r) w 0 ≡ w 0 = ap (λ f. f 0) (words_same w (access shape r) none) in
@@ -120,3 +145,90 @@ module _ (shape : Shape) (threads : ℕ) (x : Prices) (enough : AreEnough shape 
     where
       add_move : (a b c m : ℕ) → a + 1 ≤ b + c → a + 1 + c * m ≤ b + c * (m + 1)
       add_move a b c m h = omega arith
+
+  -- the changes, by what changes
+  none_to_change : wins w (access shape r) ≡ false
+      → to_change (words_by (access shape r) w) (noted p t (place_after (advance shape r (found_in shape w r)))) threads
+      ≤ to_change w p threads
+  none_to_change none =
+      let o = after_goes changes_at w (λ c. c ≤ changes w r) (advance shape r (found_in shape w r)) calm
+      (changes_own shape w w r none calm) in
+      let k = sum_falls changes_at w w p t threads (place_after (advance shape r (found_in shape w r))) 0 (λ o. omega arith) 0 0 in_range
+      (rw e (omega (arith, o))) in
+      rw (words_same w (access shape r) none) (omega (arith, k))
+
+  slot_to_change : wins w (access shape r) ≡ true → accessed (access shape r) ≢ 0
+      → to_change (words_by (access shape r) w) (noted p t (place_after (advance shape r (found_in shape w r)))) threads + 1
+      ≤ to_change w p threads
+  slot_to_change won slot =
+      let same = ends_same w (access shape r) slot in
+      let o = after_goes changes_at (words_by (access shape r) w) (λ c. c + 1 ≤ changes w r) (advance shape r (found_in shape w r)) calm
+      (changes_slot shape w (words_by (access shape r) w) r won slot calm same) in
+      let k = sum_falls changes_at w (words_by (access shape r) w) p t threads (place_after (advance shape r (found_in shape w r))) 0
+      (others_none (words_by (access shape r) w) same) 0 1 in_range (rw e (omega (arith, o))) in
+      omega (arith, k)
+    where
+      others_none : (w' : ℕ → ℕ) → w' 0 ≡ w 0 → (o : Option Running) → changes_at w' o ≤ changes_at w o + 0
+      others_none w' same None = omega arith
+      others_none w' same (Some q) = changes_stay w w' q same
+
+  ends_to_change : to_change (words_by (access shape r) w) (noted p t (place_after (advance shape r (found_in shape w r)))) threads + 1
+      ≤ to_change w p threads + move_changes threads
+  ends_to_change =
+      let o = after_goes changes_at (words_by (access shape r) w) (λ c. c ≤ changes w r + 2) (advance shape r (found_in shape w r)) calm
+      (changes_ends shape w (words_by (access shape r) w) r calm) in
+      let k = sum_rises changes_at w (words_by (access shape r) w) p t threads (place_after (advance shape r (found_in shape w r))) 2
+      (others_two (words_by (access shape r) w)) (rw e o) in
+      omega (arith, k)
+    where
+      others_two : (w' : ℕ → ℕ) (o : Option Running) → changes_at w' o ≤ changes_at w o + 2
+      others_two w' None = omega arith
+      others_two w' (Some q) = changes_rise w w' q
+
+  -- each change of a word is one of those that the threads may make
+  pub changes_made : to_change (words_by (access shape r) w) (noted p t (place_after (advance shape r (found_in shape w r)))) threads
+      + won_by shape w r + move_changes threads * (l.head + l.tail)
+      ≤ to_change w p threads + move_changes threads * ((stepped shape w t r l).head + (stepped shape w t r l).tail)
+  changes_made =
+      elim (cases_Bool (wins w (access shape r))) [
+        | inr none ↦
+            let z : words_by (access shape r) w 0 ≡ w 0 = ap (λ f. f 0) (words_same w (access shape r) none) in
+            let y : won_by shape w r ≡ 0 = ap (λ b. if b then 1 else 0) none in
+            rw (change.head_kept z, change.tail_kept z) (omega (arith, none_to_change none, y))
+        | inl won ↦
+            let y : won_by shape w r ≡ 1 = ap (λ b. if b then 1 else 0) won in
+            elim (cases_eq (accessed (access shape r)) 0) [
+              | inr slot ↦
+                  let z : words_by (access shape r) w 0 ≡ w 0 = ends_same w (access shape r) slot in
+                  rw (change.head_kept z, change.tail_kept z) (omega (arith, slot_to_change won slot, y))
+              | inl at ↦ rw (ends_move shape w l t r won at place calm) (add_move _ _ (won_by shape w r) (move_changes threads)
+                  (l.head + l.tail) y ends_to_change)
+            ]
+      ]
+    where
+      add_move : (a b d c m : ℕ) → d ≡ 1 → a + 1 ≤ b + c → a + d + c * m ≤ b + c * (m + 1)
+      add_move a b d c m one h = omega arith
+
+  -- and a thread loses a round only to one of them
+  pub own_rounds : IfGoes (λ q. rounds_left r + disturbed (words_by (access shape r) w) q ≤ rounds_left q + won_by shape w r + disturbed w r)
+      (advance shape r (found_in shape w r))
+  own_rounds = elim (cases_Bool (wins w (access shape r))) [
+    | inr none ↦ if_goes (λ q. rounds_left r + disturbed w q ≤ rounds_left q + disturbed w r)
+        (λ q. rounds_left r + disturbed (words_by (access shape r) w) q ≤ rounds_left q + won_by shape w r + disturbed w r)
+        (λ q k. rw (words_same w (access shape r) none) (omega (arith, k))) (advance shape r (found_in shape w r))
+        (rounds_own shape w w r place none calm)
+    | inl won ↦
+        let y : won_by shape w r ≡ 1 = ap (λ b. if b then 1 else 0) won in
+        if_goes (λ q. rounds_left r + disturbed (words_by (access shape r) w) q ≤ rounds_left q + 1 + disturbed w r)
+        (λ q. rounds_left r + disturbed (words_by (access shape r) w) q ≤ rounds_left q + won_by shape w r + disturbed w r)
+        (λ q k. omega (arith, k, y)) (advance shape r (found_in shape w r))
+        (rounds_change shape w (words_by (access shape r) w) r place won calm)
+  ]
+
+  pub others_disturbed : (q : Running) → disturbed (words_by (access shape r) w) q ≤ disturbed w q + won_by shape w r
+  others_disturbed q = elim (cases_Bool (wins w (access shape r))) [
+    | inr none ↦ rw (words_same w (access shape r) none) (omega arith)
+    | inl won ↦
+        let y : won_by shape w r ≡ 1 = ap (λ b. if b then 1 else 0) won in
+        omega (arith, disturbed_rises w (words_by (access shape r) w) q, y)
+  ]

@@ -1,6 +1,7 @@
 -- Progress of every schedule: how many steps calls make until one of them ends.
 use Rattle.std.specs.Prelude.{ℕ, ◌≡◌, ◌+◌, ◌*◌, ◌≤◌, Option, Some, None, Result, Ok, Err, List, [], ◌∷◌}
 use Rattle.kfifo_words.specs.declared.shape.Shape.{Shape}
+use Rattle.kfifo_model.specs.declared.calls.Answer.TheVariants.{Busy}
 use Rattle.kfifo_machine.specs.declared.event.Begin.{Begin}
 use Rattle.kfifo_machine.specs.declared.event.Begin.TheVariants as B
 use Rattle.kfifo_machine.specs.declared.event.Event.{Event}
@@ -32,24 +33,66 @@ calls_ended shape None (event ∷ events) = 0
 calls_ended shape (Some world) (event ∷ events) =
     ends_of (step shape world event) + calls_ended shape (world_of (step shape world event)) events
 
+-- it ends a call with another answer than Busy, or does not
+abbrev pub answers_of : Result (World × Outcome) NotEnabled → ℕ
+answers_of (Ok (world, Ended Busy)) = 0
+answers_of (Ok (world, Ended answer)) = 1
+answers_of (Ok (world, Went)) = 0
+answers_of (Err fault) = 0
+
+-- how many calls end so
+abbrev pub calls_answered : Shape → Option World → List Event → ℕ
+calls_answered shape world [] = 0
+calls_answered shape None (event ∷ events) = 0
+calls_answered shape (Some world) (event ∷ events) =
+    answers_of (step shape world event) + calls_answered shape (world_of (step shape world event)) events
+
+-- each call that begins in these events has at least so many turns
+abbrev pub HasTurns : ℕ → Option Begin → Type 0
+HasTurns least (Some (B.Enqueue item start turns)) = least ≤ turns
+HasTurns least (Some (B.Dequeue start turns)) = least ≤ turns
+HasTurns least other = Unit {0}
+
+abbrev pub AllHaveTurns : ℕ → List Event → Type 0
+AllHaveTurns least [] = Unit {0}
+AllHaveTurns least (event ∷ events) = HasTurns least event.begin × AllHaveTurns least events
+
 -- the most steps of a round
 abbrev pub round_steps : Shape → ℕ
 round_steps shape = 2 * shape.k + 9
 
--- how often head and tail are moved while no call ends, at most
+-- The bounds of a stretch in which no call ends: how often head and tail are moved, how many words are changed, and how
+-- many steps are made. An item is put in a slot or taken out of it at most three times by each thread, and twice more
+-- after each move of an end
 abbrev pub most_moves : Shape → ℕ → ℕ
 most_moves shape threads = 2 * (threads + shape.n)
 
--- how many steps the threads make while no call ends, at most: each thread has begun a round, and after each move of an
--- end its round and that of an item that it takes out again may be in vain
+abbrev pub most_changes : Shape → ℕ → ℕ
+most_changes shape threads = 3 * threads + (2 * threads + 1) * most_moves shape threads
+
 abbrev pub most_steps : Shape → ℕ → ℕ
 most_steps shape threads =
     threads * (round_steps shape * (5 * threads + 3))
     + most_moves shape threads * (threads * (round_steps shape * (4 * threads + 3)) + 1)
 
--- Where no call ends, few steps are made, by whichever threads
+-- Where no call ends, few steps are made, whatever the turns of the calls
 abbrev pub SomeCallEnds : Shape → ℕ → Type 0
 SomeCallEnds shape threads = (events stretch : List Event) (here there : World)
     → after shape threads events ≡ Some here
     → run shape (Some here) stretch ≡ Some there
-    → calls_ended shape (Some here) stretch ≡ 0 → call_steps stretch ≤ most_steps shape threads
+    → calls_ended shape (Some here) stretch ≡ 0
+    → call_steps stretch ≤ most_steps shape threads
+
+-- turns that are not lost before some call answers: a call loses one round for each change of a word at most, and each
+-- thread may once have a call that ends with Busy, since it began before
+abbrev pub enough_turns : Shape → ℕ → ℕ
+enough_turns shape threads = (threads + 1) * (most_changes shape threads + 1) + 2
+
+-- Where calls begin with enough turns, and none ends with another answer than Busy, few steps are made
+abbrev pub SomeCallAnswers : Shape → ℕ → Type 0
+SomeCallAnswers shape threads = (events stretch : List Event) (here there : World)
+    → after shape threads events ≡ Some here
+    → run shape (Some here) stretch ≡ Some there
+    → AllHaveTurns (enough_turns shape threads) stretch
+    → calls_answered shape (Some here) stretch ≡ 0
+    → call_steps stretch ≤ (threads + 1) * (most_steps shape threads + 1)
