@@ -8,3 +8,4 @@ pub mod Rounds
 pub mod Spending
 pub mod Live
 pub mod Schedule
+pub mod Answers

@@ -49,7 +49,7 @@ pub record LiveAt (shape : Shape) (threads : ℕ) (x : Prices) (b : Begun) (worl
   pub sound : IsSound shape world
   pub live : Live shape threads x b (word_at world) (place_of world) l spent
 
-went_goes : (next : Next) → Went ≡ outcome_of next → goes next ≡ true
+pub went_goes : (next : Next) → Went ≡ outcome_of next → goes next ≡ true
 went_goes (Goes q) e = refl
 went_goes (Answers answer) e = absurd (cc)
 
@@ -60,7 +60,7 @@ noted-there p t r e =
       | inr ne ↦ noted-other p t j (Some r) ne
     ])
 
-begins : (m : Bool) (o : Option Running) (r : Running) → cond m o None ≡ Some r → (m ≡ true) × (o ≡ Some r)
+pub begins : (m : Bool) (o : Option Running) (r : Running) → cond m o None ≡ Some r → (m ≡ true) × (o ≡ Some r)
 begins true o r e = (refl, e)
 begins false o r e = absurd (none-some r e)
 
@@ -161,7 +161,7 @@ module _ (shape : Shape) (again : shape.holds_again ≡ true) (threads : ℕ) (x
       (live_tick shape again threads x enough b (word_at world) (place_of world) l spent h.live))
 
   -- an event that ends no call
-  event_live : (world next : World) (e : Event) (l : Ledger) (spent : ℕ) → LiveAt shape threads x b world l spent
+  pub event_live : (world next : World) (e : Event) (l : Ledger) (spent : ℕ) → LiveAt shape threads x b world l spent
       → HasTurns b.turns e.begin → step shape world e ≡ Ok (next, Went) → LiveAt shape threads x b next (ledger_after shape world e l) (spent + steps_of e.begin)
   unfolding ledger_after found
   event_live world next e l spent h turns made =
@@ -213,14 +213,14 @@ module _ (shape : Shape) (again : shape.holds_again ≡ true) (threads : ℕ) (x
       let z : spent + steps_of e.begin + call_steps es ≡ spent + call_steps (e ∷ es) = omega arith in
       rw m.1.1.0 (subst (λ n. LiveAt shape threads x b there (ledger_of shape (Some m.0) es (ledger_after shape here e l)) n) z all)
 
-prices : Shape → ℕ → Prices
+pub prices : Shape → ℕ → Prices
 prices shape threads = record {
   round = 2 * shape.k + 9;
   put = threads * (2 * shape.k + 9);
   ends = 2 * shape.k + 9 + threads * (2 * shape.k + 9) + threads * (2 * shape.k + 9);
 }
 
-enough_prices : (shape : Shape) (threads : ℕ) → AreEnough shape threads (prices shape threads)
+pub enough_prices : (shape : Shape) (threads : ℕ) → AreEnough shape threads (prices shape threads)
 unfolding prices
 enough_prices shape threads = record { round = refl; put = refl; ends = refl }
 
@@ -240,7 +240,7 @@ stretch_begins shape threads w p l ordered = record {
     nothing_left : (shape : Shape) (w : ℕ → ℕ) (l : Ledger) (r : Running) → l.head ≤ l.tail → HasKept shape l.tail w l (λ _. None) r
     nothing_left shape w l r ordered = grind arith
 
-at_begin : Ledger → Shape → ℕ → World → (ℕ → Bool) → ℕ → ℕ → Begun
+abbrev pub at_begin : Ledger → Shape → ℕ → World → (ℕ → Bool) → ℕ → ℕ → Begun
 at_begin l shape threads here old turns lost = record {
   tail = l.tail;
   ends = l.head + l.tail;
@@ -252,11 +252,11 @@ at_begin l shape threads here old turns lost = record {
 }
 
 module _ (shape : Shape) (again : shape.holds_again ≡ true) (threads : ℕ) where
-  abbrev UndosAt : World → Ledger → Type 0
+  abbrev pub UndosAt : World → Ledger → Type 0
   UndosAt world l = At shape (Undos shape) (undos_table shape again) (undos_begin shape again) (undos_step shape again)
       (undos_tick shape again) world l
 
-  undos_after : (events : List Event) (here : World) → after shape threads events ≡ Some here
+  pub undos_after : (events : List Event) (here : World) → after shape threads events ≡ Some here
       → UndosAt here (ledger_after_all shape threads events)
   undos_after events here is =
       after_all shape (Undos shape) (undos_table shape again) (undos_begin shape again) (undos_step shape again) (undos_tick shape again)
@@ -264,12 +264,11 @@ module _ (shape : Shape) (again : shape.holds_again ≡ true) (threads : ℕ) wh
       (record { size = opening_size shape threads; holds = undos_opening shape again threads }) is
 
   -- a stretch may begin at any world
-  live_begins : (here : World) (l : Ledger) (old : ℕ → Bool) (turns lost : ℕ) → UndosAt here l → length here.places ≡ threads
+  pub live_begins : (here : World) (l : Ledger) (old : ℕ → Bool) (turns lost : ℕ) → UndosAt here l → length here.places ≡ threads
       → IsSound shape here
       → ((t : ℕ) (r : Running) → place_of here t ≡ Some r → old t ≡ false
       → turns + disturbed (word_at here) r ≤ rounds_left r + lost + 1)
       → LiveAt shape threads (prices shape threads) (at_begin l shape threads here old turns lost) here l 0
-  unfolding at_begin
   live_begins here l old turns lost k count sound young =
       record {
         size = k.size;
@@ -330,14 +329,14 @@ spent_bound spent left all start ends moves price account few =
     omega (arith, account, m, d)
 
 -- what the threads had at the begin of a stretch is bounded
-record Fair (shape : Shape) (threads : ℕ) (b : Begun) : Type 0 where
-  purse : b.purse ≤ threads * ((2 * shape.k + 9) * (5 * threads + 3))
-  to_change : b.to_change ≤ threads * 3
-  ends : b.tail + b.tail < b.ends + shape.n
+pub record Fair (shape : Shape) (threads : ℕ) (b : Begun) : Type 0 where
+  pub purse : b.purse ≤ threads * ((2 * shape.k + 9) * (5 * threads + 3))
+  pub to_change : b.to_change ≤ threads * 3
+  pub ends : b.tail + b.tail < b.ends + shape.n
 
-fair_begin : (shape : Shape) (threads : ℕ) (l : Ledger) (here : World) (old : ℕ → Bool) (turns lost : ℕ)
+pub fair_begin : (shape : Shape) (threads : ℕ) (l : Ledger) (here : World) (old : ℕ → Bool) (turns lost : ℕ)
     → EndsOk shape (word_at here 0) l.head l.tail → Fair shape threads (at_begin l shape threads here old turns lost)
-unfolding at_begin prices
+unfolding prices
 fair_begin shape threads l here old turns lost ok =
     let all = purse_bound shape threads (prices shape threads) (word_at here) (place_of here) (enough_prices shape threads) in
     record {
@@ -356,7 +355,7 @@ module _ (shape : Shape) (threads : ℕ) (b : Begun) (few : threads < shape.n) (
       head_bound shape threads b.tail (word_at there) (place_of there) l h.live.charge few h.live.stretch in
       omega (arith, head, h.live.undos.inv.base.ends.no_wrap, fair.ends)
 
-  live_spent : spent ≤ most_steps shape threads
+  pub live_spent : spent ≤ most_steps shape threads
   unfolding prices
   live_spent =
       let bound = spent_bound spent (purse shape (prices shape threads) (word_at there) (place_of there) threads) b.purse b.ends
@@ -366,7 +365,7 @@ module _ (shape : Shape) (threads : ℕ) (b : Begun) (few : threads < shape.n) (
       ap (λ z. most_moves shape threads * (threads * z + 1)) (price_of_ends threads (2 * shape.k + 9)) in
       omega (arith, bound, fair.purse, price)
 
-  live_changed : h.live.changed ≤ most_changes shape threads
+  pub live_changed : h.live.changed ≤ most_changes shape threads
   live_changed =
       let bound = spent_bound h.live.changed (to_change (word_at there) (place_of there) threads) b.to_change b.ends (l.head + l.tail)
       (most_moves shape threads) (move_changes threads) h.live.changes live_moves in
@@ -381,7 +380,6 @@ no_turns (e ∷ es) = (by_begin e.begin, no_turns es)
     by_begin begin = grind arith
 
 pub some_call_ends : (shape : Shape) (threads : ℕ) → shape.holds_again ≡ true → threads < shape.n → SomeCallEnds shape threads
-unfolding at_begin
 some_call_ends shape threads again few events stretch here there is made none =
     let l = ledger_after_all shape threads events in
     let old : ℕ → Bool = λ _. true in

@@ -1,13 +1,22 @@
-//! Progress: whatever the schedule, among the calls under way one ends after a bounded number of steps.
+//! Progress: whatever the schedule, some call answers after a bounded number of steps.
 #![tactic(auto)]
 
 ghost use Rattle.std.specs.Prelude.{ℕ, ◌≡◌, ◌<◌, true};
 ghost use Rattle.kfifo_words.specs.declared.shape.Shape.{Shape};
-ghost use Rattle.kfifo_progress.specs.Progress.{SomeCallEnds};
+ghost use Rattle.kfifo_progress.specs.Progress.{SomeCallAnswers, SomeCallEnds};
 
-/// In every schedule of a shape that holds again and has more segments than there are threads, a stretch in which no
-/// call ends has at most `most_steps` steps of calls, whatever the turns of the calls.
-pub fn some_call_ends()
-    ensures { (shape : Shape) (threads : ℕ) → shape.holds_again ≡ true → threads < shape.n
+/// Lock-freedom, of every schedule of a shape that holds again and has more segments than there are threads.
+///
+/// A stretch of a schedule is any part of it, wherever it begins, in which the threads make their steps in any order and
+/// may stop anywhere. A stretch in which no call ends has at most `most_steps` steps of calls, whatever the turns of the
+/// calls.
+///
+/// A call that runs out of turns ends with Busy, so with few turns calls may end with nothing but Busy for ever. Where
+/// each call that begins in a stretch has at least `enough_turns` turns, and no call ends in it with another answer than
+/// Busy, it has at most `(threads + 1) * (most_steps + 1)` steps of calls.
+pub fn every_schedule_makes_progress()
+    ensures ends { (shape : Shape) (threads : ℕ) → shape.holds_again ≡ true → threads < shape.n
         → SomeCallEnds shape threads }
+    ensures answers { (shape : Shape) (threads : ℕ) → shape.holds_again ≡ true → threads < shape.n
+        → SomeCallAnswers shape threads }
 {}

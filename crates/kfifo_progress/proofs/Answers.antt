@@ -1,0 +1,245 @@
+-- Where calls begin with enough turns, Busy comes at most once from each thread before some call ends with another
+-- answer. So a stretch with no other answer is at most so many stretches in which no call ends.
+use Rattle.std.proofs.Common.{◌≡◌, ◌≢◌, ℕ, zero, suc, ◌+◌, ◌-◌, ◌*◌, ◌<◌, ◌≤◌, ◌⊎◌, Bool, true, false, inl, inr, refl, sym, ◌∙◌, ap, subst, arith}
+use Rattle.std.proofs.Common.{List, [], ◌∷◌, length, Option, Some, None, Ok}
+use Rattle.std.specs.Prelude.{if◌then◌else◌}
+use Rattle.std.proofs.Math.Nat.{mul-le-mul_right}
+use Rattle.std.proofs.lemmas.Bool.{cases_Bool, cases_eq, false≢true}
+use Rattle.std.proofs.lemmas.Bool.Decides.{nat_tests}
+use Rattle.std.proofs.lemmas.Option.{none-some, same_Some}
+use Rattle.kfifo_linear.proofs.Types.{Answer, Begin, Event, Next, Outcome, Running, Shape}
+use Rattle.kfifo_model.specs.declared.calls.Answer.TheVariants.{Busy, Done, Empty, Full, Got, Worn}
+use Rattle.kfifo_machine.specs.declared.event.Begin.TheVariants as B
+use Rattle.kfifo_machine.specs.declared.event.Outcome.TheVariants.{Ended, Went}
+use Rattle.kfifo_machine.specs.declared.place.Next.TheVariants.{Answers, Goes}
+use Rattle.kfifo_linear.proofs.Abstract.{event_at, noted-other, noted-same, noted_tells}
+use Rattle.kfifo_linear.specs.Ledger.{Ledger, found_in, ledger_after, ledger_of, noted}
+use Rattle.kfifo_linear.specs.Order.{ledger_after_all}
+use Rattle.kfifo_machine.proofs.Budget.{own_place}
+use Rattle.kfifo_machine.proofs.Schedules.{first_made, made_within, other_place, same_threads, stepped}
+use Rattle.kfifo_machine.proofs.Sound.{IsSound, sound, sound_threads, step_sound}
+use Rattle.kfifo_machine.specs.Machine.{World, after, begun, found, may_begin, moved, outcome_of, place_after, place_of, run, step, word_at}
+use Rattle.kfifo_machine.specs.Program.{access, accessed, advance}
+use Rattle.kfifo_machine.specs.Runs.{going}
+use Rattle.kfifo_progress.proofs.Counting.{total, total_falls}
+use Rattle.kfifo_progress.proofs.Live.{Begun, Live}
+use Rattle.kfifo_progress.proofs.Rounds.{disturbed, disturbed_bound, rounds_left}
+use Rattle.kfifo_progress.proofs.Schedule.{Fair, LiveAt, UndosAt, at_begin, begins, enough_prices, event_live, fair_begin, live_begins, live_changed}
+use Rattle.kfifo_progress.proofs.Schedule.{live_spent, prices, undos_after}
+use Rattle.kfifo_progress.proofs.Undos.{Undos, undos_begin, undos_step, undos_table, undos_tick}
+use Rattle.kfifo_progress.specs.Progress.{AllHaveTurns, HasTurns, SomeCallAnswers, answers_of, call_steps, calls_answered, enough_turns}
+use Rattle.kfifo_progress.specs.Progress.{most_changes, most_steps, steps_of}
+
+-- a call that ends with Busy was in its last round
+busy_last : (shape : Shape) (r : Running) (word : ℕ) → Ended Busy ≡ outcome_of (advance shape r word) → rounds_left r ≡ 1
+busy_last shape r word e = grind (arith, nat_tests)
+
+begun_goes_on : (shape : Shape) (begin : Begin) (r : Running) (word : ℕ) → begun begin ≡ Some r
+    → Ended Busy ≡ outcome_of (advance shape r word) → ⊥
+begun_goes_on shape begin r word g e = grind arith
+
+going_busy : (shape : Shape) (place : Option Running) (begin : Option Begin) (r : Running) (word : ℕ) → going shape place begin ≡ Some r
+    → Ended Busy ≡ outcome_of (advance shape r word) → place ≡ Some r
+going_busy shape None None r word g e = absurd (none-some r g)
+going_busy shape None (Some begin) r word g e =
+    absurd (begun_goes_on shape begin r word (begins (may_begin shape begin) (begun begin) r g).1 e)
+going_busy shape (Some q) None r word g e = g
+going_busy shape (Some q) (Some begin) r word g e = absurd (none-some r g)
+
+-- how many threads had no Busy yet
+abbrev pub old_threads : (ℕ → Bool) → ℕ → ℕ
+old_threads old threads = total (λ t. if old t then 1 else 0) threads
+
+-- the rounds that a call may lose until a call ends
+abbrev pub most_lost : Shape → ℕ → ℕ
+most_lost shape threads = most_changes shape threads + 1
+
+-- a stretch with no answer but Busy
+record Stretched (shape : Shape) (threads : ℕ) (world : World) (l : Ledger) (steps : ℕ) : Type 0 where
+  busy : ℕ
+  b : Begun
+  spent : ℕ
+  live : LiveAt shape threads (prices shape threads) b world l spent
+  fair : Fair shape threads b
+  count : busy + old_threads b.old threads ≤ threads
+  turns : b.turns ≡ enough_turns shape threads
+  lost : b.lost ≡ busy * most_lost shape threads
+  all : steps ≤ busy * (most_steps shape threads + 1) + spent
+
+answer_place : (next : Next) → Ended Busy ≡ outcome_of next → place_after next ≡ None
+answer_place next e = grind arith
+
+module _ (shape : Shape) (again : shape.holds_again ≡ true) (threads : ℕ) (few : threads < shape.n) where
+  undos_next : (world next : World) (outcome : Outcome) (e : Event) (l : Ledger) (b : Begun) (spent : ℕ)
+      → LiveAt shape threads (prices shape threads) b world l spent → step shape world e ≡ Ok (next, outcome)
+      → UndosAt shape again threads next (ledger_after shape world e l)
+  undos_next world next outcome e l b spent h made =
+      event_at shape (Undos shape) (undos_table shape again) (undos_begin shape again) (undos_step shape again) (undos_tick shape again)
+      world next outcome e l (record { size = h.size; holds = h.live.undos }) made
+
+  module _ (world next : World) (e : Event) (l : Ledger) (steps : ℕ) (h : Stretched shape threads world l steps)
+      (made : step shape world e ≡ Ok (next, Ended Busy)) (r : Running) (at : place_of world e.thread ≡ Some r)
+      (there : next ≡ moved shape world e.thread r) (busy : Ended Busy ≡ outcome_of (advance shape r (found_in shape (word_at world) r)))
+    where
+    within : e.thread < threads
+    within = let k = made_within shape world e next (Ended Busy) made in omega (arith, k, h.live.count)
+
+    changed : h.live.live.changed ≤ most_changes shape threads
+    changed = live_changed shape threads h.b few h.fair l world h.spent h.live
+
+    -- the thread had no Busy before, since its call would have begun in the stretch
+    was_old : h.b.old e.thread ≡ true
+    was_old = elim (cases_Bool (h.b.old e.thread)) [
+      | inl old ↦ old
+      | inr new ↦
+          let k = h.live.live.young e.thread r at new in
+          let m : h.busy * most_lost shape threads ≤ threads * most_lost shape threads =
+          mul-le-mul_right (most_lost shape threads) (omega (arith, h.count)) in
+          let last = busy_last shape r (found_in shape (word_at world) r) busy in
+          absurd (omega (arith, k, m, last, changed, h.turns, h.lost))
+    ]
+
+    fewer_old : old_threads (noted h.b.old e.thread false) threads + 1 ≤ old_threads h.b.old threads
+    fewer_old =
+        let k = total_falls (λ t. if h.b.old t then 1 else 0) (λ t. if noted h.b.old e.thread false t then 1 else 0) threads e.thread 0 0 1
+        within (own_falls (h.b.old e.thread) was_old) (λ u _ ne. other_stays u ne) in
+        omega (arith, k)
+      where
+        own_falls : (b : Bool) → b ≡ true
+            → (if noted h.b.old e.thread false e.thread then 1 else 0) + 1 ≤ (if b then 1 else 0) + 0
+        own_falls b old = rw (noted-same h.b.old e.thread e.thread false refl, old) (omega arith)
+
+        other_stays : (u : ℕ) → u ≢ e.thread
+            → (if noted h.b.old e.thread false u then 1 else 0) ≤ (if h.b.old u then 1 else 0) + 0
+        other_stays u ne = rw (noted-other h.b.old e.thread u false ne) (omega arith)
+
+    still_young : (u : ℕ) (q : Running) → place_of next u ≡ Some q → noted h.b.old e.thread false u ≡ false
+        → enough_turns shape threads + disturbed (word_at next) q
+        ≤ rounds_left q + (h.busy + 1) * most_lost shape threads + 1
+    unfolding found
+    still_young u q f new = elim (cases_eq u e.thread) [
+      | inl same ↦
+          let gone : place_of next e.thread ≡ None = ap (λ z. place_of z e.thread) there
+          ∙ own_place shape world e.thread r (made_within shape world e next (Ended Busy) made)
+          ∙ answer_place (advance shape r (found_in shape (word_at world) r)) busy in
+          absurd (none-some q (sym gone ∙ ap (place_of next) (sym same) ∙ f))
+      | inr ne ↦
+          let g : place_of world u ≡ Some q = sym (other_place shape world e next (Ended Busy) u ne made) ∙ f in
+          let k = h.live.live.young u q g (sym (noted-other h.b.old e.thread u false ne) ∙ new) in
+          omega (arith, k, disturbed_bound (word_at next) q, changed, h.turns, h.lost)
+    ]
+
+    after_busy : Stretched shape threads next (ledger_after shape world e l) (steps + 1)
+    after_busy =
+        let spent = live_spent shape threads h.b few h.fair l world h.spent h.live in
+        let undos = undos_next world next (Ended Busy) e l h.b h.spent h.live made in
+        let old : ℕ → Bool = noted h.b.old e.thread false in
+        record {
+          busy = h.busy + 1;
+          b = at_begin (ledger_after shape world e l) shape threads next old (enough_turns shape threads)
+              ((h.busy + 1) * most_lost shape threads);
+          spent = 0;
+          live = live_begins shape again threads next (ledger_after shape world e l) old (enough_turns shape threads)
+              ((h.busy + 1) * most_lost shape threads) undos (same_threads shape world e next (Ended Busy) made ∙ h.live.count)
+              (step_sound shape world e next (Ended Busy) h.live.sound made) still_young;
+          fair = fair_begin shape threads (ledger_after shape world e l) next old (enough_turns shape threads)
+              ((h.busy + 1) * most_lost shape threads) undos.holds.inv.base.ends;
+          count = omega (arith, fewer_old, h.count);
+          turns = refl;
+          lost = refl;
+          all = omega (arith, h.all, spent);
+        }
+
+  busy_event : (world next : World) (e : Event) (l : Ledger) (steps : ℕ) → Stretched shape threads world l steps
+      → step shape world e ≡ Ok (next, Ended Busy) → Stretched shape threads next (ledger_after shape world e l) (steps + 1)
+  unfolding found
+  busy_event world next e l steps h made = elim (stepped shape world e next (Ended Busy) made) [
+    | inl s ↦
+        let at = going_busy shape (place_of world e.thread) e.begin s.running (found_in shape (word_at world) s.running) s.goes s.outcome_is in
+        after_busy world next e l steps h made s.running at s.there_is s.outcome_is
+    | inr t ↦ absurd (let z = t.outcome_is in cc)
+  ]
+
+  fewer_steps : (world : World) (l : Ledger) (few many : ℕ) → few ≤ many → Stretched shape threads world l many
+      → Stretched shape threads world l few
+  fewer_steps world l few many le h = record {
+    busy = h.busy;
+    b = h.b;
+    spent = h.spent;
+    live = h.live;
+    fair = h.fair;
+    count = h.count;
+    turns = h.turns;
+    lost = h.lost;
+    all = omega (arith, le, h.all);
+  }
+
+  one_step : (begin : Option Begin) → steps_of begin ≤ 1
+  one_step begin = grind arith
+
+  stretched_event : (world next : World) (outcome : Outcome) (e : Event) (l : Ledger) (steps : ℕ) → Stretched shape threads world l steps
+      → HasTurns (enough_turns shape threads) e.begin → step shape world e ≡ Ok (next, outcome) → answers_of (Ok (next, outcome)) ≡ 0
+      → Stretched shape threads next (ledger_after shape world e l) (steps + steps_of e.begin)
+  stretched_event world next Went e l steps h turns made none = record {
+    busy = h.busy;
+    b = h.b;
+    spent = h.spent + steps_of e.begin;
+    live = event_live shape again threads (prices shape threads) (enough_prices shape threads) h.b world next e l h.spent h.live
+        (rw h.turns turns) made;
+    fair = h.fair;
+    count = h.count;
+    turns = h.turns;
+    lost = h.lost;
+    all = omega (arith, h.all);
+  }
+  stretched_event world next (Ended Busy) e l steps h turns made none =
+      fewer_steps next (ledger_after shape world e l) (steps + steps_of e.begin) (steps + 1) (omega (arith, one_step e.begin))
+      (busy_event world next e l steps h made)
+  stretched_event world next (Ended answer) e l steps h turns made none = absurd (omega (arith, none))
+
+  stretched : (stretch : List Event) (here there : World) (l : Ledger) (steps : ℕ) → Stretched shape threads here l steps
+      → AllHaveTurns (enough_turns shape threads) stretch → run shape (Some here) stretch ≡ Some there
+      → calls_answered shape (Some here) stretch ≡ 0
+      → Stretched shape threads there (ledger_of shape (Some here) stretch l) (steps + call_steps stretch)
+  stretched [] here there l steps h turns is none =
+      subst (λ w. Stretched shape threads w l (steps + 0)) (same_Some here there is)
+      (fewer_steps here l (steps + 0) steps (omega arith) h)
+  stretched (e ∷ es) here there l steps h turns is none =
+      let m = first_made shape here e there es is in
+      let answers : answers_of (Ok (m.0, m.1.0)) + calls_answered shape (Some m.0) es ≡ 0 = rw m.1.1.0 at none in
+      let k = stretched_event here m.0 m.1.0 e l steps h turns.0 m.1.1.0 (omega (arith, answers)) in
+      let all = stretched es m.0 there (ledger_after shape here e l) (steps + steps_of e.begin) k turns.1 m.1.1.1 (omega (arith, answers)) in
+      let z : steps + steps_of e.begin + call_steps es ≡ steps + call_steps (e ∷ es) = omega arith in
+      rw m.1.1.0 (subst (λ n. Stretched shape threads there (ledger_of shape (Some m.0) es (ledger_after shape here e l)) n) z all)
+
+  all_old : (n : ℕ) → old_threads (λ _. true) n ≡ n
+  all_old zero = refl
+  all_old (suc n) = omega (arith, all_old n)
+
+  stretched_bound : (world : World) (l : Ledger) (steps : ℕ) → Stretched shape threads world l steps
+      → steps ≤ (threads + 1) * (most_steps shape threads + 1)
+  stretched_bound world l steps h =
+      let spent = live_spent shape threads h.b few h.fair l world h.spent h.live in
+      let m : h.busy * (most_steps shape threads + 1) ≤ threads * (most_steps shape threads + 1) =
+      mul-le-mul_right (most_steps shape threads + 1) (omega (arith, h.count)) in
+      omega (arith, h.all, spent, m)
+
+  pub some_call_answers : SomeCallAnswers shape threads
+  some_call_answers events stretch here there is made turns none =
+      let l = ledger_after_all shape threads events in
+      let undos = undos_after shape again threads events here is in
+      let begun : Stretched shape threads here l 0 = record {
+        busy = 0;
+        b = at_begin l shape threads here (λ _. true) (enough_turns shape threads) 0;
+        spent = 0;
+        live = live_begins shape again threads here l (λ _. true) (enough_turns shape threads) 0 undos
+            (sound_threads shape threads events here is) (sound shape threads events here is) (λ t r at new. absurd (false≢true (sym new)));
+        fair = fair_begin shape threads l here (λ _. true) (enough_turns shape threads) 0 undos.holds.inv.base.ends;
+        count = omega (arith, all_old threads);
+        turns = refl;
+        lost = omega arith;
+        all = omega arith;
+      } in
+      let bound = stretched_bound there (ledger_of shape (Some here) stretch l) (0 + call_steps stretch)
+      (stretched stretch here there l 0 begun turns made none) in
+      omega (arith, bound)

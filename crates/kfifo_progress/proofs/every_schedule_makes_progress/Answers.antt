@@ -1,0 +1,9 @@
+use Rattle.kfifo_progress.proofs.Answers.{some_call_answers}
+use Rattle.kfifo_progress.proofs.Schedule.{some_call_ends}
+use Rattle.kfifo_progress.proofs.every_schedule_makes_progress.Goals as goal
+
+pub returns : goal.returns
+returns c = record {
+  ends = some_call_ends;
+  answers = λ shape threads again few. some_call_answers shape again threads few;
+}
