@@ -1,28 +1,26 @@
 -- Where calls begin with enough turns, Busy comes at most once from each thread before some call ends with another
 -- answer. So a stretch with no other answer is at most so many stretches in which no call ends.
-use Rattle.std.proofs.Common.{◌≡◌, ◌≢◌, ℕ, zero, suc, ◌+◌, ◌-◌, ◌*◌, ◌<◌, ◌≤◌, ◌⊎◌, Bool, true, false, inl, inr, refl, sym, ◌∙◌, ap, subst, arith}
-use Rattle.std.proofs.Common.{List, [], ◌∷◌, length, Option, Some, None, Ok}
+use Rattle.std.proofs.Common.{◌≡◌, ◌≢◌, ℕ, zero, suc, ◌+◌, ◌*◌, ◌<◌, ◌≤◌, Bool, true, false, inl, inr, refl, sym, ◌∙◌, ap, subst, arith}
+use Rattle.std.proofs.Common.{List, [], ◌∷◌, Option, Some, None, Ok}
 use Rattle.std.specs.Prelude.{if◌then◌else◌}
 use Rattle.std.proofs.Math.Nat.{mul-le-mul_right}
 use Rattle.std.proofs.lemmas.Bool.{cases_Bool, cases_eq, false≢true}
 use Rattle.std.proofs.lemmas.Bool.Decides.{nat_tests}
 use Rattle.std.proofs.lemmas.Option.{none-some, same_Some}
-use Rattle.kfifo_linear.proofs.Types.{Answer, Begin, Event, Next, Outcome, Running, Shape}
-use Rattle.kfifo_model.specs.declared.calls.Answer.TheVariants.{Busy, Done, Empty, Full, Got, Worn}
-use Rattle.kfifo_machine.specs.declared.event.Begin.TheVariants as B
+use Rattle.kfifo_linear.proofs.Types.{Begin, Event, Next, Outcome, Running, Shape}
+use Rattle.kfifo_model.specs.declared.calls.Answer.TheVariants.{Busy}
 use Rattle.kfifo_machine.specs.declared.event.Outcome.TheVariants.{Ended, Went}
-use Rattle.kfifo_machine.specs.declared.place.Next.TheVariants.{Answers, Goes}
-use Rattle.kfifo_linear.proofs.Abstract.{event_at, noted-other, noted-same, noted_tells}
+use Rattle.kfifo_linear.proofs.Abstract.{event_at, noted-other, noted-same}
 use Rattle.kfifo_linear.specs.Ledger.{Ledger, found_in, ledger_after, ledger_of, noted}
 use Rattle.kfifo_linear.specs.Order.{ledger_after_all}
 use Rattle.kfifo_machine.proofs.Budget.{own_place}
 use Rattle.kfifo_machine.proofs.Schedules.{first_made, made_within, other_place, same_threads, stepped}
-use Rattle.kfifo_machine.proofs.Sound.{IsSound, sound, sound_threads, step_sound}
-use Rattle.kfifo_machine.specs.Machine.{World, after, begun, found, may_begin, moved, outcome_of, place_after, place_of, run, step, word_at}
-use Rattle.kfifo_machine.specs.Program.{access, accessed, advance}
+use Rattle.kfifo_machine.proofs.Sound.{sound, sound_threads, step_sound}
+use Rattle.kfifo_machine.specs.Machine.{World, begun, found, may_begin, moved, outcome_of, place_after, place_of, run, step, word_at}
+use Rattle.kfifo_machine.specs.Program.{advance}
 use Rattle.kfifo_machine.specs.Runs.{going}
 use Rattle.kfifo_progress.proofs.Counting.{total, total_falls}
-use Rattle.kfifo_progress.proofs.Live.{Begun, Live}
+use Rattle.kfifo_progress.proofs.Live.{Begun}
 use Rattle.kfifo_progress.proofs.Rounds.{disturbed, disturbed_bound, rounds_left}
 use Rattle.kfifo_progress.proofs.Schedule.{Fair, LiveAt, UndosAt, at_begin, begins, enough_prices, event_live, fair_begin, live_begins, live_changed}
 use Rattle.kfifo_progress.proofs.Schedule.{live_spent, prices, undos_after}
@@ -81,74 +79,74 @@ module _ (shape : Shape) (again : shape.holds_again ≡ true) (threads : ℕ) (f
       (made : step shape world e ≡ Ok (next, Ended Busy)) (r : Running) (at : place_of world e.thread ≡ Some r)
       (there : next ≡ moved shape world e.thread r) (busy : Ended Busy ≡ outcome_of (advance shape r (found_in shape (word_at world) r)))
     where
-    within : e.thread < threads
-    within = let k = made_within shape world e next (Ended Busy) made in omega (arith, k, h.live.count)
+      within : e.thread < threads
+      within = let k = made_within shape world e next (Ended Busy) made in omega (arith, k, h.live.count)
 
-    changed : h.live.live.changed ≤ most_changes shape threads
-    changed = live_changed shape threads h.b few h.fair l world h.spent h.live
+      changed : h.live.live.changed ≤ most_changes shape threads
+      changed = live_changed shape threads h.b few h.fair l world h.spent h.live
 
-    -- the thread had no Busy before, since its call would have begun in the stretch
-    was_old : h.b.old e.thread ≡ true
-    was_old = elim (cases_Bool (h.b.old e.thread)) [
-      | inl old ↦ old
-      | inr new ↦
-          let k = h.live.live.young e.thread r at new in
-          let m : h.busy * most_lost shape threads ≤ threads * most_lost shape threads =
-          mul-le-mul_right (most_lost shape threads) (omega (arith, h.count)) in
-          let last = busy_last shape r (found_in shape (word_at world) r) busy in
-          absurd (omega (arith, k, m, last, changed, h.turns, h.lost))
-    ]
+      -- the thread had no Busy before, since its call would have begun in the stretch
+      was_old : h.b.old e.thread ≡ true
+      was_old = elim (cases_Bool (h.b.old e.thread)) [
+        | inl old ↦ old
+        | inr new ↦
+            let k = h.live.live.young e.thread r at new in
+            let m : h.busy * most_lost shape threads ≤ threads * most_lost shape threads =
+            mul-le-mul_right (most_lost shape threads) (omega (arith, h.count)) in
+            let last = busy_last shape r (found_in shape (word_at world) r) busy in
+            absurd (omega (arith, k, m, last, changed, h.turns, h.lost))
+      ]
 
-    fewer_old : old_threads (noted h.b.old e.thread false) threads + 1 ≤ old_threads h.b.old threads
-    fewer_old =
-        let k = total_falls (λ t. if h.b.old t then 1 else 0) (λ t. if noted h.b.old e.thread false t then 1 else 0) threads e.thread 0 0 1
-        within (own_falls (h.b.old e.thread) was_old) (λ u _ ne. other_stays u ne) in
-        omega (arith, k)
-      where
-        own_falls : (b : Bool) → b ≡ true
-            → (if noted h.b.old e.thread false e.thread then 1 else 0) + 1 ≤ (if b then 1 else 0) + 0
-        own_falls b old = rw (noted-same h.b.old e.thread e.thread false refl, old) (omega arith)
+      fewer_old : old_threads (noted h.b.old e.thread false) threads + 1 ≤ old_threads h.b.old threads
+      fewer_old =
+          let k = total_falls (λ t. if h.b.old t then 1 else 0) (λ t. if noted h.b.old e.thread false t then 1 else 0) threads e.thread 0 0 1
+          within (own_falls (h.b.old e.thread) was_old) (λ u _ ne. other_stays u ne) in
+          omega (arith, k)
+        where
+          own_falls : (b : Bool) → b ≡ true
+              → (if noted h.b.old e.thread false e.thread then 1 else 0) + 1 ≤ (if b then 1 else 0) + 0
+          own_falls b old = rw (noted-same h.b.old e.thread e.thread false refl, old) (omega arith)
 
-        other_stays : (u : ℕ) → u ≢ e.thread
-            → (if noted h.b.old e.thread false u then 1 else 0) ≤ (if h.b.old u then 1 else 0) + 0
-        other_stays u ne = rw (noted-other h.b.old e.thread u false ne) (omega arith)
+          other_stays : (u : ℕ) → u ≢ e.thread
+              → (if noted h.b.old e.thread false u then 1 else 0) ≤ (if h.b.old u then 1 else 0) + 0
+          other_stays u ne = rw (noted-other h.b.old e.thread u false ne) (omega arith)
 
-    still_young : (u : ℕ) (q : Running) → place_of next u ≡ Some q → noted h.b.old e.thread false u ≡ false
-        → enough_turns shape threads + disturbed (word_at next) q
-        ≤ rounds_left q + (h.busy + 1) * most_lost shape threads + 1
-    unfolding found
-    still_young u q f new = elim (cases_eq u e.thread) [
-      | inl same ↦
-          let gone : place_of next e.thread ≡ None = ap (λ z. place_of z e.thread) there
-          ∙ own_place shape world e.thread r (made_within shape world e next (Ended Busy) made)
-          ∙ answer_place (advance shape r (found_in shape (word_at world) r)) busy in
-          absurd (none-some q (sym gone ∙ ap (place_of next) (sym same) ∙ f))
-      | inr ne ↦
-          let g : place_of world u ≡ Some q = sym (other_place shape world e next (Ended Busy) u ne made) ∙ f in
-          let k = h.live.live.young u q g (sym (noted-other h.b.old e.thread u false ne) ∙ new) in
-          omega (arith, k, disturbed_bound (word_at next) q, changed, h.turns, h.lost)
-    ]
+      still_young : (u : ℕ) (q : Running) → place_of next u ≡ Some q → noted h.b.old e.thread false u ≡ false
+          → enough_turns shape threads + disturbed (word_at next) q
+          ≤ rounds_left q + (h.busy + 1) * most_lost shape threads + 1
+      unfolding found
+      still_young u q f new = elim (cases_eq u e.thread) [
+        | inl same ↦
+            let gone : place_of next e.thread ≡ None = ap (λ z. place_of z e.thread) there
+            ∙ own_place shape world e.thread r (made_within shape world e next (Ended Busy) made)
+            ∙ answer_place (advance shape r (found_in shape (word_at world) r)) busy in
+            absurd (none-some q (sym gone ∙ ap (place_of next) (sym same) ∙ f))
+        | inr ne ↦
+            let g : place_of world u ≡ Some q = sym (other_place shape world e next (Ended Busy) u ne made) ∙ f in
+            let k = h.live.live.young u q g (sym (noted-other h.b.old e.thread u false ne) ∙ new) in
+            omega (arith, k, disturbed_bound (word_at next) q, changed, h.turns, h.lost)
+      ]
 
-    after_busy : Stretched shape threads next (ledger_after shape world e l) (steps + 1)
-    after_busy =
-        let spent = live_spent shape threads h.b few h.fair l world h.spent h.live in
-        let undos = undos_next world next (Ended Busy) e l h.b h.spent h.live made in
-        let old : ℕ → Bool = noted h.b.old e.thread false in
-        record {
-          busy = h.busy + 1;
-          b = at_begin (ledger_after shape world e l) shape threads next old (enough_turns shape threads)
-              ((h.busy + 1) * most_lost shape threads);
-          spent = 0;
-          live = live_begins shape again threads next (ledger_after shape world e l) old (enough_turns shape threads)
-              ((h.busy + 1) * most_lost shape threads) undos (same_threads shape world e next (Ended Busy) made ∙ h.live.count)
-              (step_sound shape world e next (Ended Busy) h.live.sound made) still_young;
-          fair = fair_begin shape threads (ledger_after shape world e l) next old (enough_turns shape threads)
-              ((h.busy + 1) * most_lost shape threads) undos.holds.inv.base.ends;
-          count = omega (arith, fewer_old, h.count);
-          turns = refl;
-          lost = refl;
-          all = omega (arith, h.all, spent);
-        }
+      after_busy : Stretched shape threads next (ledger_after shape world e l) (steps + 1)
+      after_busy =
+          let spent = live_spent shape threads h.b few h.fair l world h.spent h.live in
+          let undos = undos_next world next (Ended Busy) e l h.b h.spent h.live made in
+          let old : ℕ → Bool = noted h.b.old e.thread false in
+          record {
+            busy = h.busy + 1;
+            b = at_begin (ledger_after shape world e l) shape threads next old (enough_turns shape threads)
+                ((h.busy + 1) * most_lost shape threads);
+            spent = 0;
+            live = live_begins shape again threads next (ledger_after shape world e l) old (enough_turns shape threads)
+                ((h.busy + 1) * most_lost shape threads) undos (same_threads shape world e next (Ended Busy) made ∙ h.live.count)
+                (step_sound shape world e next (Ended Busy) h.live.sound made) still_young;
+            fair = fair_begin shape threads (ledger_after shape world e l) next old (enough_turns shape threads)
+                ((h.busy + 1) * most_lost shape threads) undos.holds.inv.base.ends;
+            count = omega (arith, fewer_old, h.count);
+            turns = refl;
+            lost = refl;
+            all = omega (arith, h.all, spent);
+          }
 
   busy_event : (world next : World) (e : Event) (l : Ledger) (steps : ℕ) → Stretched shape threads world l steps
       → step shape world e ≡ Ok (next, Ended Busy) → Stretched shape threads next (ledger_after shape world e l) (steps + 1)

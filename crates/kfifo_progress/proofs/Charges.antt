@@ -1,31 +1,23 @@
 -- What is kept of the visits of head and tail by the threads that are about to move them.
-use Rattle.std.proofs.Common.{◌≡◌, ◌≢◌, ℕ, ◌+◌, ◌-◌, ◌%◌, ◌<◌, ◌≤◌, ◌⊎◌, inl, inr, Bool, true, false, refl, sym, ◌∙◌, ap, subst, arith}
-use Rattle.std.proofs.Common.{Option, Some, None, is_some}
-use Rattle.std.proofs.lemmas.Bool.{cases_eq, cases_lt}
+use Rattle.std.proofs.Common.{◌≡◌, ◌≢◌, ℕ, ◌+◌, ◌-◌, ◌<◌, ◌≤◌, true, arith}
+use Rattle.std.proofs.Common.{Option, is_some}
 use Rattle.std.proofs.lemmas.Bool.Decides.{nat_tests}
-use Rattle.std.proofs.lemmas.Option.{none-some, same_Some}
-use Rattle.kfifo_linear.proofs.Types.{Begin, Running, Shape}
+use Rattle.kfifo_linear.proofs.Types.{Running, Shape}
 use Rattle.kfifo_machine.specs.declared.place.DequeuePhase.{DequeuePhase}
 use Rattle.kfifo_machine.specs.declared.place.DequeuePhase.TheVariants as D
 use Rattle.kfifo_machine.specs.declared.place.EnqueuePhase.{EnqueuePhase}
 use Rattle.kfifo_machine.specs.declared.place.EnqueuePhase.TheVariants as E
 use Rattle.kfifo_machine.specs.declared.place.Found.TheVariants.{Nothing, Slot}
 use Rattle.kfifo_machine.specs.declared.place.Running.TheVariants as R
-use Rattle.kfifo_linear.proofs.Abstract.{noted-other, noted-same, noted_tells, words_by}
+use Rattle.kfifo_linear.proofs.Abstract.{words_by}
 use Rattle.kfifo_linear.proofs.Base.{InRing, Sane, ends_in_ring}
-use Rattle.kfifo_linear.proofs.Claims.{EndsChange, HasLoaded, IfGoes, Loaded, at_load, ends_change, segment_of}
-use Rattle.kfifo_linear.proofs.Invariant.{ThreadOk}
-use Rattle.kfifo_linear.proofs.Ring.{ends_word-above, place_below}
-use Rattle.kfifo_linear.proofs.Threads.{goes_at}
-use Rattle.kfifo_linear.specs.Ledger.{Ledger, called, found_in, noted, stepped}
-use Rattle.kfifo_machine.proofs.NoWrap.{EndsOk, full_ring, other_end, same_end}
-use Rattle.kfifo_machine.specs.Machine.{begun, may_begin, place_after}
+use Rattle.kfifo_linear.proofs.Claims.{HasLoaded, IfGoes, Loaded}
+use Rattle.kfifo_linear.specs.Ledger.{Ledger, found_in, stepped}
+use Rattle.kfifo_machine.proofs.NoWrap.{EndsOk, same_end}
 use Rattle.kfifo_machine.specs.Program.{access, advance, scan_index}
-use Rattle.kfifo_words.specs.Ring.{clock_at, next_segment}
 use Rattle.kfifo_words.specs.Words.{head_of, tail_of, value_of}
-use Rattle.kfifo_progress.proofs.Kept.{Every, Kept, Unseen, charge_after, goes, grows, keeps, scan_begins, scan_ends, scan_goes_on}
-use Rattle.kfifo_progress.proofs.Kept.{seen_filled, seen_filled_tail, undo_place, undo_visit}
-use Rattle.kfifo_progress.proofs.Undos.{HasPassed, Undos}
+use Rattle.kfifo_progress.proofs.Kept.{Every, Kept, Unseen, charge_after, scan_begins, scan_ends, scan_goes_on}
+use Rattle.kfifo_progress.proofs.Kept.{seen_filled, seen_filled_tail}
 
 -- what is kept of the tail's visit by who is about to move the tail, and of the head's by who is about to move the head
 abbrev pub KeptTail : Shape → ℕ → (ℕ → ℕ) → Ledger → (ℕ → Option ℕ) → ℕ → Type 0

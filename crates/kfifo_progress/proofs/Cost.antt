@@ -1,7 +1,7 @@
 -- How many steps a thread may still make, and what others pay for them: a round is in vain only where a word that the
 -- thread remembers was changed.
-use Rattle.std.proofs.Common.{◌≡◌, ◌≢◌, ℕ, ◌+◌, ◌-◌, ◌*◌, ◌<◌, ◌≤◌, Bool, true, false, refl, sym, ◌∙◌, ap, arith, Option, Some, None}
-use Rattle.std.specs.Prelude.{◌==◌, if◌then◌else◌, nat_le}
+use Rattle.std.proofs.Common.{◌≡◌, ◌≢◌, ℕ, ◌+◌, ◌*◌, ◌≤◌, Bool, true, false, refl, arith}
+use Rattle.std.specs.Prelude.{◌==◌, if◌then◌else◌}
 use Rattle.std.proofs.lemmas.Bool.Decides.{nat_tests}
 use Rattle.std.proofs.Math.Path.{fun_ext}
 use Rattle.kfifo_linear.proofs.Types.{Running, Shape}
@@ -13,8 +13,7 @@ use Rattle.kfifo_machine.specs.declared.place.EnqueuePhase.{EnqueuePhase}
 use Rattle.kfifo_machine.specs.declared.place.EnqueuePhase.TheVariants as E
 use Rattle.kfifo_machine.specs.declared.place.Found.TheVariants.{Nothing, Slot}
 use Rattle.kfifo_machine.specs.declared.place.Running.TheVariants as R
-use Rattle.kfifo_linear.proofs.Abstract.{noted-other, noted-same, noted_tells, words_by}
-use Rattle.kfifo_linear.proofs.Base.{Sane}
+use Rattle.kfifo_linear.proofs.Abstract.{noted-other, words_by}
 use Rattle.kfifo_linear.proofs.Claims.{IfGoes}
 use Rattle.kfifo_linear.specs.Ledger.{Ledger, found_in, stepped}
 use Rattle.kfifo_machine.proofs.Places.{dequeue_budget, enqueue_budget}

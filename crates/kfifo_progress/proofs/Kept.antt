@@ -1,24 +1,22 @@
 -- While no item is taken, an item that stood in the tail's segment when the tail left it leaves its slot only as its
 -- enqueue takes it out. The enqueue's thread is then charged with the visit.
-use Rattle.std.proofs.Common.{◌≡◌, ◌≢◌, ℕ, ◌+◌, ◌-◌, ◌*◌, ◌/◌, ◌%◌, ◌<◌, ◌≤◌, ◌⊎◌, inl, inr, Bool, true, false, refl, sym, ◌∙◌, ap, subst, arith, Option, Some}
-use Rattle.std.proofs.Common.{None, is_some}
+use Rattle.std.proofs.Common.{◌≡◌, ◌≢◌, ℕ, ◌+◌, ◌-◌, ◌*◌, ◌/◌, ◌%◌, ◌<◌, ◌≤◌, inl, inr, Bool, true, false, refl, sym, ◌∙◌, ap, subst, arith, Option, Some}
+use Rattle.std.proofs.Common.{is_some}
 use Rattle.std.specs.Prelude.{nat_le, ◌==◌, ◌&&◌, if◌then◌else◌}
 use Rattle.std.proofs.Math.Nat.{div-mul-le_self, mul-le-mul_right}
 use Rattle.std.proofs.lemmas.Bool.{cases_eq, cases_lt}
 use Rattle.std.proofs.lemmas.Bool.Decides.{nat_tests}
 use Rattle.kfifo_linear.proofs.Types.{Next, Running, Shape}
-use Rattle.kfifo_machine.specs.declared.place.DequeuePhase.TheVariants as D
 use Rattle.kfifo_machine.specs.declared.place.EnqueuePhase.TheVariants as E
-use Rattle.kfifo_machine.specs.declared.place.Found.TheVariants.{Nothing, Slot}
 use Rattle.kfifo_machine.specs.declared.place.Next.TheVariants.{Answers, Goes}
 use Rattle.kfifo_machine.specs.declared.place.Running.TheVariants as R
-use Rattle.kfifo_linear.proofs.Abstract.{noted-other, noted-same, noted_tells, words_by}
-use Rattle.kfifo_linear.proofs.Base.{InRing, Sane, ends_in_ring, filled_with-value, scan_index-is_slot}
-use Rattle.kfifo_linear.proofs.Claims.{IfGoes, segment_of, segment_of-scan_index}
-use Rattle.kfifo_linear.proofs.Ring.{at_distance, ends_word-above}
+use Rattle.kfifo_linear.proofs.Abstract.{noted_tells, words_by}
+use Rattle.kfifo_linear.proofs.Base.{Sane, filled_with-value, scan_index-is_slot}
+use Rattle.kfifo_linear.proofs.Claims.{segment_of, segment_of-scan_index}
+use Rattle.kfifo_linear.proofs.Ring.{at_distance}
 use Rattle.kfifo_linear.proofs.Slots.{back, back-below, scan_index-back}
-use Rattle.kfifo_linear.specs.Ledger.{Ledger, found_in, noted, settle_visit, stepped}
-use Rattle.kfifo_machine.proofs.NoWrap.{EndsOk, same_end}
+use Rattle.kfifo_linear.specs.Ledger.{Ledger, found_in, noted, settle_visit}
+use Rattle.kfifo_machine.proofs.NoWrap.{EndsOk}
 use Rattle.kfifo_machine.proofs.Ring.{same_place}
 use Rattle.kfifo_machine.specs.Places.{IsSlotIndex}
 use Rattle.kfifo_machine.specs.Program.{access, advance, scan_index}
@@ -101,12 +99,16 @@ module _ (shape : Shape) (w : ℕ → ℕ) (l : Ledger) (t : ℕ) (charge : ℕ 
               let p = undo_place index s.3.0 in
               let at : undo_visit shape w l index ≡ v = one_visit v (undo_visit shape w l index) from to p.1 p.2 (p.0 ∙ same) in
               record { charged = λ all. new_charge index filled worn item start left v won at to }
-          | inr apart ↦ record { charged = λ all. grows (R.Enqueue item start left (E.Undo index filled worn)) v (k.charged
-              (λ i is_slot place in_slots. elsewhere index filled worn item start left i
-              (λ e. apart (ap (segment_of shape) (sym e) ∙ place)) (all i is_slot place in_slots))) }
+          | inr apart ↦ record {
+            charged = λ all. grows (R.Enqueue item start left (E.Undo index filled worn)) v (k.charged
+                (λ i is_slot place in_slots. elsewhere index filled worn item start left i
+                (λ e. apart (ap (segment_of shape) (sym e) ∙ place)) (all i is_slot place in_slots)));
+          }
         ]
-        | inr lost ↦ record { charged = λ all. grows (R.Enqueue item start left (E.Undo index filled worn)) v (k.charged
-            (λ i is_slot place in_slots. nothing index filled worn item start left i lost (all i is_slot place in_slots))) }
+        | inr lost ↦ record {
+          charged = λ all. grows (R.Enqueue item start left (E.Undo index filled worn)) v (k.charged
+              (λ i is_slot place in_slots. nothing index filled worn item start left i lost (all i is_slot place in_slots)));
+        }
       ]
     where
       one_visit : (v x : ℕ) → l.head ≤ v → v ≤ l.tail → l.head ≤ x → x < l.head + shape.n → x % shape.n ≡ v % shape.n → x ≡ v
@@ -127,43 +129,53 @@ module _ (shape : Shape) (w : ℕ → ℕ) (l : Ledger) (t : ℕ) (charge : ℕ 
       nothing : (index filled : ℕ) (worn : Bool) (item start left i : ℕ) → w index ≢ filled
           → value_of (words_by (access shape (R.Enqueue item start left (E.Undo index filled worn))) w i) ≡ 0 → value_of (w i) ≡ 0
       nothing index filled worn item start left i lost e = grind (arith, nat_tests, noted_tells)
-  keeps r Slots v s calm from to k = record { charged = λ all. grows r v (k.charged (λ i is_slot place in_slots.
-      filled_stays r i s calm refl is_slot.above (all i is_slot place in_slots))) }
+  keeps r Slots v s calm from to k = record {
+    charged = λ all. grows r v (k.charged (λ i is_slot place in_slots.
+        filled_stays r i s calm refl is_slot.above (all i is_slot place in_slots)));
+  }
 
   -- what a look at a filled slot says
   pub seen_filled : (ends start offset v : ℕ) → head_of ends ≡ v % shape.n → head_of ends < shape.n
       → value_of (w (scan_index shape (head_of ends) start offset)) ≢ 0 → Kept shape w charge Every v
-  seen_filled ends start offset v place in_ring filled = record { charged = λ all. absurd (filled (all
-      (scan_index shape (head_of ends) start offset) (scan_index-is_slot shape (head_of ends) start offset in_ring)
-      (segment_of-scan_index shape (head_of ends) start offset ∙ place) tt)) }
+  seen_filled ends start offset v place in_ring filled = record {
+    charged = λ all. absurd (filled (all
+        (scan_index shape (head_of ends) start offset) (scan_index-is_slot shape (head_of ends) start offset in_ring)
+        (segment_of-scan_index shape (head_of ends) start offset ∙ place) tt));
+  }
 
   pub seen_filled_tail : (ends start offset v : ℕ) → tail_of ends ≡ v % shape.n → tail_of ends < shape.n
       → value_of (w (scan_index shape (tail_of ends) start offset)) ≢ 0 → Kept shape w charge Every v
-  seen_filled_tail ends start offset v place in_ring filled = record { charged = λ all. absurd (filled (all
-      (scan_index shape (tail_of ends) start offset) (scan_index-is_slot shape (tail_of ends) start offset in_ring)
-      (segment_of-scan_index shape (tail_of ends) start offset ∙ place) tt)) }
+  seen_filled_tail ends start offset v place in_ring filled = record {
+    charged = λ all. absurd (filled (all
+        (scan_index shape (tail_of ends) start offset) (scan_index-is_slot shape (tail_of ends) start offset in_ring)
+        (segment_of-scan_index shape (tail_of ends) start offset ∙ place) tt));
+  }
 
   -- a scan that has yet to begin sees every slot
   pub scan_begins : (ends start v : ℕ) → head_of ends ≡ v % shape.n → start < shape.k → Kept shape w charge Every v
       → Kept shape w charge (Unseen shape ends start 0) v
-  scan_begins ends start v place h k = record { charged = λ all. k.charged (λ i is_slot at _. all i is_slot at (record {
-    look = back shape i start;
-    from = omega arith;
-    below = back-below shape i start shape.some_slot;
-    at = ap (λ x. scan_index shape x start (back shape i start)) (place ∙ sym at) ∙ scan_index-back shape i start shape.some_slot
-        is_slot.above h;
-  })) }
+  scan_begins ends start v place h k = record {
+    charged = λ all. k.charged (λ i is_slot at _. all i is_slot at (record {
+      look = back shape i start;
+      from = omega arith;
+      below = back-below shape i start shape.some_slot;
+      at = ap (λ x. scan_index shape x start (back shape i start)) (place ∙ sym at) ∙ scan_index-back shape i start shape.some_slot
+          is_slot.above h;
+    }));
+  }
 
   -- one that finds a slot empty goes on
   pub scan_goes_on : (ends start offset v : ℕ) → value_of (w (scan_index shape (head_of ends) start offset)) ≡ 0
       → Kept shape w charge (Unseen shape ends start offset) v → Kept shape w charge (Unseen shape ends start (offset + 1)) v
-  scan_goes_on ends start offset v empty k = record { charged = λ all. k.charged (λ i is_slot at unseen.
-      elim (cases_eq unseen.look offset) [
-        | inl same ↦ subst (λ x. value_of (w x) ≡ 0) (ap (scan_index shape (head_of ends) start) (sym same) ∙ unseen.at) empty
-        | inr ne ↦
-            let later : offset + 1 ≤ unseen.look = omega (arith, unseen.from) in
-            all i is_slot at (record { look = unseen.look; from = later; below = unseen.below; at = unseen.at })
-      ]) }
+  scan_goes_on ends start offset v empty k = record {
+    charged = λ all. k.charged (λ i is_slot at unseen.
+        elim (cases_eq unseen.look offset) [
+          | inl same ↦ subst (λ x. value_of (w x) ≡ 0) (ap (scan_index shape (head_of ends) start) (sym same) ∙ unseen.at) empty
+          | inr ne ↦
+              let later : offset + 1 ≤ unseen.look = omega (arith, unseen.from) in
+              all i is_slot at (record { look = unseen.look; from = later; below = unseen.below; at = unseen.at })
+        ]);
+  }
 
   -- and at its end has seen all
   pub scan_ends : (ends start offset v : ℕ) → shape.k ≤ offset → Kept shape w charge (Unseen shape ends start offset) v

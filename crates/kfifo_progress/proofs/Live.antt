@@ -1,14 +1,13 @@
 -- A stretch in which no call ends, with what was spent in it, goes on with each step, each begin of a call and each tick.
-use Rattle.std.proofs.Common.{◌≡◌, ◌≢◌, ℕ, zero, suc, ◌+◌, ◌-◌, ◌*◌, ◌<◌, ◌≤◌, Bool, true, false, inl, inr, refl, sym, ◌∙◌, ap, subst, arith, Option}
-use Rattle.std.proofs.Common.{Some, None, is_some}
+use Rattle.std.proofs.Common.{◌≡◌, ℕ, ◌+◌, ◌*◌, ◌<◌, ◌≤◌, Bool, true, false, inl, inr, refl, sym, ◌∙◌, ap, arith, Option}
+use Rattle.std.proofs.Common.{Some, None}
 use Rattle.std.proofs.lemmas.Bool.{cases_eq, false≢true}
 use Rattle.std.proofs.lemmas.Bool.Decides.{nat_tests}
-use Rattle.std.proofs.lemmas.Option.{none-some, same_Some}
+use Rattle.std.proofs.lemmas.Option.{same_Some}
 use Rattle.kfifo_linear.proofs.Types.{Begin, Running, Shape}
-use Rattle.kfifo_machine.specs.declared.event.Begin.TheVariants as B
 use Rattle.kfifo_linear.proofs.Abstract.{noted-other, noted-same, words_by}
 use Rattle.kfifo_linear.proofs.Base.{Sane}
-use Rattle.kfifo_linear.proofs.Claims.{Loaded, at_load}
+use Rattle.kfifo_linear.proofs.Claims.{at_load}
 use Rattle.kfifo_linear.proofs.Threads.{goes_at}
 use Rattle.kfifo_linear.proofs.Whole.{ticked_word}
 use Rattle.kfifo_linear.specs.Ledger.{Ledger, called, found_in, noted, stepped}
@@ -19,7 +18,7 @@ use Rattle.kfifo_words.specs.Ring.{clock_at}
 use Rattle.kfifo_words.specs.Words.{value_of}
 use Rattle.kfifo_progress.proofs.Charges.{HasKept, HasKept-others}
 use Rattle.kfifo_progress.proofs.Cost.{AreEnough, Prices, cost}
-use Rattle.kfifo_progress.proofs.Counting.{total, total_rises}
+use Rattle.kfifo_progress.proofs.Counting.{total_rises}
 use Rattle.kfifo_progress.proofs.Kept.{Every, Kept, charge_after, goes}
 use Rattle.kfifo_progress.proofs.Rounds.{changes, changes_stay, disturbed, rounds_left}
 use Rattle.kfifo_progress.proofs.Spending.{changes_at, changes_made, cost_at, move_changes, move_price, others_disturbed, own_rounds, purse}

@@ -1,9 +1,8 @@
 -- In every schedule a stretch in which no call ends has few steps.
-use Rattle.std.proofs.Common.{◌≡◌, ◌≢◌, ℕ, zero, suc, ◌+◌, ◌-◌, ◌*◌, ◌<◌, ◌≤◌, Bool, true, false, cond, inl, inr, refl, sym, ◌∙◌, ap, subst}
+use Rattle.std.proofs.Common.{◌≡◌, ℕ, zero, suc, ◌+◌, ◌*◌, ◌<◌, ◌≤◌, Bool, true, false, cond, inl, inr, refl, sym, ◌∙◌, ap, subst}
 use Rattle.std.proofs.Math.Nat.{mul-le-mul_left}
-use Rattle.std.proofs.Common.{arith, List, [], ◌∷◌, length, get_or, Option, Some, None, Ok, is_some, replicate}
-use Rattle.std.proofs.lemmas.Bool.{cases_Bool, cases_eq, false≢true}
-use Rattle.std.proofs.lemmas.Bool.Decides.{nat_tests}
+use Rattle.std.proofs.Common.{arith, List, [], ◌∷◌, length, get_or, Option, Some, None, Ok}
+use Rattle.std.proofs.lemmas.Bool.{cases_eq, false≢true}
 use Rattle.std.proofs.lemmas.Grind.{get_or-set_at}
 use Rattle.std.proofs.lemmas.List.{get_or-set_other, length-set}
 use Rattle.std.proofs.lemmas.Option.{none-some, same_Some}
@@ -15,15 +14,15 @@ use Rattle.kfifo_machine.specs.declared.place.DequeuePhase.TheVariants as D
 use Rattle.kfifo_machine.specs.declared.place.EnqueuePhase.TheVariants as E
 use Rattle.kfifo_machine.specs.declared.place.Next.TheVariants.{Answers, Goes}
 use Rattle.kfifo_machine.specs.declared.place.Running.TheVariants as R
-use Rattle.kfifo_linear.proofs.Abstract.{At, after_all, event_at, length-moved, noted-noted, noted-other, noted-same, place_of-moved}
+use Rattle.kfifo_linear.proofs.Abstract.{At, after_all, length-moved, noted-noted, noted-other, noted-same, place_of-moved}
 use Rattle.kfifo_linear.proofs.Abstract.{table_size}
 use Rattle.kfifo_linear.proofs.Abstract.{word_at-moved, words_by}
 use Rattle.kfifo_linear.proofs.Base.{opening_size}
 use Rattle.kfifo_linear.specs.Ledger.{Ledger, blank, called, found_in, ledger_after, ledger_from, ledger_of, noted, stepped}
 use Rattle.kfifo_linear.specs.Order.{ledger_after_all}
 use Rattle.kfifo_machine.proofs.NoWrap.{EndsOk}
-use Rattle.kfifo_machine.proofs.Schedules.{StepsFrom, Ticks, first_made, made_within, same_threads, stepped as steps_by, still_threads}
-use Rattle.kfifo_machine.proofs.Sound.{IsSound, going_place, place_is, run_sound, sound, sound_threads, step_sound}
+use Rattle.kfifo_machine.proofs.Schedules.{first_made, made_within, same_threads, stepped as steps_by}
+use Rattle.kfifo_machine.proofs.Sound.{IsSound, going_place, place_is, sound, sound_threads, step_sound}
 use Rattle.kfifo_machine.specs.Machine.{World, after, begun, found, may_begin, moved, opening, outcome_of, place_after, place_of, run, step}
 use Rattle.kfifo_machine.specs.Machine.{ticked, word_at}
 use Rattle.kfifo_machine.specs.Places.{IsPlace}
@@ -35,7 +34,7 @@ use Rattle.kfifo_progress.proofs.Cost.{AreEnough, Prices, cost_bound}
 use Rattle.kfifo_progress.proofs.Counting.{total, total_rises}
 use Rattle.kfifo_progress.proofs.Kept.{goes}
 use Rattle.kfifo_progress.proofs.Live.{Begun, Live, live_begin, live_step, live_tick}
-use Rattle.kfifo_progress.proofs.Rounds.{changes_bound, disturbed, disturbed_bound, rounds_left}
+use Rattle.kfifo_progress.proofs.Rounds.{changes_bound, disturbed, rounds_left}
 use Rattle.kfifo_progress.proofs.Spending.{changes_at, cost_at, move_changes, move_price, purse, sum, to_change}
 use Rattle.kfifo_progress.proofs.Stretches.{Stretch, head_bound}
 use Rattle.kfifo_progress.proofs.Undos.{Undos, undos_begin, undos_opening, undos_step, undos_table, undos_tick}
@@ -184,13 +183,13 @@ module _ (shape : Shape) (again : shape.holds_again ≡ true) (threads : ℕ) (x
                   (sym s.there_is) k;
             }
         | inr t ↦ record {
-            size = ap (λ (z : World). length z.words) t.there_is ∙ ticked_size shape world ∙ h.size;
-            count = count;
-            sound = sound;
-            live = subst (λ z. Live shape threads x b (word_at z) (place_of z)
-                (ledger_from shape (word_at world) e.thread (place_of world e.thread) e.begin l) (spent + steps_of e.begin))
-                (sym t.there_is) (by_tick world l spent e.thread h (place_of world e.thread) e.begin t.idle t.begins);
-          }
+          size = ap (λ (z : World). length z.words) t.there_is ∙ ticked_size shape world ∙ h.size;
+          count = count;
+          sound = sound;
+          live = subst (λ z. Live shape threads x b (word_at z) (place_of z)
+              (ledger_from shape (word_at world) e.thread (place_of world e.thread) e.begin l) (spent + steps_of e.begin))
+              (sym t.there_is) (by_tick world l spent e.thread h (place_of world e.thread) e.begin t.idle t.begins);
+        }
       ]
 
   no_end : (outcome : Outcome) (next : World) → ends_of (Ok (next, outcome)) ≡ 0 → outcome ≡ Went

@@ -1,8 +1,7 @@
 -- What all threads together may still spend: each step of a call spends some of it, and each move of an end adds to it.
-use Rattle.std.proofs.Common.{◌≡◌, ◌≢◌, ℕ, ◌+◌, ◌-◌, ◌*◌, ◌<◌, ◌≤◌, Bool, true, false, inl, inr, refl, sym, ◌∙◌, ap, subst, arith, Option, Some, None}
+use Rattle.std.proofs.Common.{◌≡◌, ◌≢◌, ℕ, ◌+◌, ◌*◌, ◌<◌, ◌≤◌, true, false, inl, inr, refl, ap, arith, Option, Some, None}
 use Rattle.std.specs.Prelude.{if◌then◌else◌}
 use Rattle.std.proofs.lemmas.Bool.{cases_Bool, cases_eq, false≢true}
-use Rattle.std.proofs.lemmas.Bool.Decides.{nat_tests}
 use Rattle.kfifo_linear.proofs.Types.{Next, Running, Shape}
 use Rattle.kfifo_machine.specs.declared.place.Next.TheVariants.{Answers, Goes}
 use Rattle.kfifo_linear.proofs.Abstract.{noted-other, noted-same, words_by}
@@ -13,7 +12,7 @@ use Rattle.kfifo_machine.proofs.NoWrap.{EndsOk}
 use Rattle.kfifo_machine.specs.Machine.{place_after}
 use Rattle.kfifo_machine.specs.Places.{IsPlace}
 use Rattle.kfifo_machine.specs.Program.{access, accessed, advance}
-use Rattle.kfifo_progress.proofs.Cost.{AreEnough, Prices, cost, cost_bound, ends_move, ends_same, falls_own, moves_own, others_rise}
+use Rattle.kfifo_progress.proofs.Cost.{AreEnough, Prices, cost, ends_move, ends_same, falls_own, moves_own, others_rise}
 use Rattle.kfifo_progress.proofs.Cost.{others_rise_little, slot_own, wins, words_same}
 use Rattle.kfifo_progress.proofs.Counting.{total, total_falls, total_rises}
 use Rattle.kfifo_progress.proofs.Kept.{goes}
@@ -38,7 +37,7 @@ module _ (f : (ℕ → ℕ) → Option Running → ℕ) (w w' : ℕ → ℕ) (p 
   pub sum_rises : f w' next ≤ f w (p t) + c → sum f w' (noted p t next) threads ≤ sum f w p threads + threads * c
   sum_rises own =
       total_rises (λ u. f w (p u)) (λ u. f w' (noted p t next u)) threads c
-      (λ u _. elim (cases_eq u t) [ | inl same ↦ rw (same, noted-same p t t next refl) own | inr ne ↦ other u ne ])
+      (λ u _. elim (cases_eq u t) [ inl same ↦ rw (same, noted-same p t t next refl) own | inr ne ↦ other u ne ])
 
 -- what a place costs, and how many words it may change, where an idle thread begins a call
 abbrev pub cost_at : Shape → Prices → (ℕ → ℕ) → Option Running → ℕ

@@ -1,27 +1,26 @@
 -- A stretch in which no call ends: each visit that the tail left in it, and that the head left too, is charged to a
 -- thread, and of n visits that follow each other a thread is charged with one at most.
-use Rattle.std.proofs.Common.{◌≡◌, ◌≢◌, ℕ, ◌+◌, ◌-◌, ◌%◌, ◌<◌, ◌≤◌, ◌⊎◌, inl, inr, Bool, true, false, refl, sym, ◌∙◌, ap, subst, arith}
+use Rattle.std.proofs.Common.{◌≡◌, ◌≢◌, ℕ, ◌+◌, ◌%◌, ◌<◌, ◌≤◌, ◌⊎◌, inl, inr, Bool, true, false, refl, sym, ◌∙◌, ap, subst, arith}
 use Rattle.std.proofs.Common.{Option, Some, None, is_some}
-use Rattle.std.proofs.lemmas.Bool.{cases_Bool, cases_eq, cases_lt, false≢true}
+use Rattle.std.proofs.lemmas.Bool.{cases_eq, cases_lt, false≢true}
 use Rattle.std.proofs.lemmas.Bool.Decides.{nat_tests}
-use Rattle.std.proofs.lemmas.Option.{none-some, same_Some}
-use Rattle.kfifo_linear.proofs.Types.{Begin, Running, Shape}
+use Rattle.std.proofs.lemmas.Option.{same_Some}
+use Rattle.kfifo_linear.proofs.Types.{Running, Shape}
 use Rattle.kfifo_machine.specs.declared.place.DequeuePhase.TheVariants as D
 use Rattle.kfifo_machine.specs.declared.place.EnqueuePhase.TheVariants as E
 use Rattle.kfifo_machine.specs.declared.place.Running.TheVariants as R
 use Rattle.kfifo_linear.proofs.Abstract.{noted-other, noted-same, noted_tells, words_by}
 use Rattle.kfifo_linear.proofs.Base.{Sane}
 use Rattle.kfifo_linear.proofs.Claims.{EndsChange, Loaded, at_load, ends_change, segment_of}
-use Rattle.kfifo_linear.proofs.Invariant.{HasOwn, ThreadOk}
+use Rattle.kfifo_linear.proofs.Invariant.{HasOwn}
 use Rattle.kfifo_linear.proofs.Ring.{place_below}
 use Rattle.kfifo_linear.proofs.Threads.{goes_at}
 use Rattle.kfifo_linear.proofs.Slots.{MovesHead, moves_head}
-use Rattle.kfifo_linear.specs.Ledger.{Ledger, called, found_in, noted, stepped}
+use Rattle.kfifo_linear.specs.Ledger.{Ledger, found_in, noted, stepped}
 use Rattle.kfifo_machine.proofs.NoWrap.{EndsOk, full_ring, other_end}
-use Rattle.kfifo_machine.specs.Machine.{begun, may_begin, place_after}
+use Rattle.kfifo_machine.specs.Machine.{place_after}
 use Rattle.kfifo_machine.specs.Places.{IsSlotIndex}
 use Rattle.kfifo_machine.specs.Program.{access, advance}
-use Rattle.kfifo_words.specs.Ring.{clock_at}
 use Rattle.kfifo_progress.proofs.Counting.{pigeonhole}
 use Rattle.kfifo_progress.proofs.Kept.{Every, Kept, charge_after, goes, grows, keeps, undo_place, undo_visit}
 use Rattle.kfifo_progress.proofs.Charges.{HasKept, HasKept-others, own_kept}
@@ -266,7 +265,7 @@ module _ (shape : Shape) (threads from : ℕ) (w : ℕ → ℕ) (p : ℕ → Opt
         ];
         to_round = step_round;
         apart = step_apart;
-        within = λ v x c. elim (tells v x c) [ | inl was ↦ old.within v x was | inr new ↦ omega (arith, new.thread, in_range) ];
+        within = λ v x c. elim (tells v x c) [ inl was ↦ old.within v x was | inr new ↦ omega (arith, new.thread, in_range) ];
       }
 
 -- who is charged with a visit

@@ -1,23 +1,23 @@
 -- An enqueue that means to take its item out began its round in a visit that the head has left since.
-use Rattle.std.proofs.Common.{◌≡◌, ◌≢◌, ℕ, ◌+◌, ◌-◌, ◌%◌, ◌<◌, ◌≤◌, ◌⊎◌, inl, inr, Bool, true, false, refl, sym, ◌∙◌, ap, arith, Option, Some}
-use Rattle.std.proofs.Common.{None, List}
+use Rattle.std.proofs.Common.{◌≡◌, ◌≢◌, ℕ, ◌+◌, ◌-◌, ◌<◌, ◌≤◌, inl, inr, true, false, refl, sym, ◌∙◌, arith, Option, Some}
+use Rattle.std.proofs.Common.{None}
 use Rattle.std.specs.Prelude.{nat_le}
 use Rattle.std.proofs.lemmas.Bool.{cases_eq, cases_lt}
 use Rattle.std.proofs.lemmas.Bool.Decides.{nat_tests}
 use Rattle.std.proofs.lemmas.Option.{none-some, same_Some}
-use Rattle.kfifo_linear.proofs.Types.{Begin, Event, Running, Shape}
+use Rattle.kfifo_linear.proofs.Types.{Begin, Running, Shape}
 use Rattle.kfifo_machine.specs.declared.place.EnqueuePhase.TheVariants as E
 use Rattle.kfifo_machine.specs.declared.place.Running.TheVariants as R
 use Rattle.kfifo_linear.proofs.Abstract.{noted-other, noted-same, table_size, words_by}
 use Rattle.kfifo_linear.proofs.Base.{Sane, get_or_replicate}
-use Rattle.kfifo_linear.proofs.Claims.{EndsChange, IfGoes, Loaded, Round, at_load, ends_change}
+use Rattle.kfifo_linear.proofs.Claims.{EndsChange, IfGoes, Loaded, Round, ends_change}
 use Rattle.kfifo_linear.proofs.Invariant.{Inv, ThreadOk}
 use Rattle.kfifo_linear.proofs.Ring.{distance-mod}
 use Rattle.kfifo_linear.proofs.Threads.{goes_at}
 use Rattle.kfifo_linear.proofs.Whole.{inv_begin, inv_opening, inv_step, inv_table, inv_tick}
 use Rattle.kfifo_linear.specs.Ledger.{Ledger, blank, called, found_in, noted, stepped}
 use Rattle.kfifo_machine.proofs.NoWrap.{EndsOk}
-use Rattle.kfifo_machine.specs.Machine.{World, begun, may_begin, opening, place_after, place_of, word_at}
+use Rattle.kfifo_machine.specs.Machine.{begun, may_begin, opening, place_after, place_of, word_at}
 use Rattle.kfifo_machine.specs.Program.{access, accessed, advance}
 use Rattle.kfifo_words.specs.Ring.{clock_at, distance}
 use Rattle.kfifo_words.specs.Words.{head_of, tail_of}
