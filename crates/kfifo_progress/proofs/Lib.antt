@@ -6,6 +6,7 @@ pub mod Stretches
 pub mod Cost
 pub mod Rounds
 pub mod Spending
+pub mod Changing
 pub mod Live
 pub mod Schedule
 pub mod Answers

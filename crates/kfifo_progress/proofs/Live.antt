@@ -7,7 +7,7 @@ use Rattle.std.proofs.lemmas.Option.{same_Some}
 use Rattle.kfifo_linear.proofs.Types.{Begin, Running, Shape}
 use Rattle.kfifo_linear.proofs.Abstract.{noted-other, noted-same, words_by}
 use Rattle.kfifo_linear.proofs.Base.{Sane}
-use Rattle.kfifo_linear.proofs.Claims.{at_load}
+use Rattle.kfifo_linear.proofs.Claims.{ends_change, at_load}
 use Rattle.kfifo_linear.proofs.Threads.{goes_at}
 use Rattle.kfifo_linear.proofs.Whole.{ticked_word}
 use Rattle.kfifo_linear.specs.Ledger.{Ledger, called, found_in, noted, stepped}
@@ -20,9 +20,10 @@ use Rattle.kfifo_progress.proofs.Charges.{HasKept, HasKept-others}
 use Rattle.kfifo_progress.proofs.Cost.{AreEnough, Prices, cost}
 use Rattle.kfifo_progress.proofs.Counting.{total_rises}
 use Rattle.kfifo_progress.proofs.Kept.{Every, Kept, charge_after, goes}
-use Rattle.kfifo_progress.proofs.Rounds.{changes, changes_stay, disturbed, rounds_left}
-use Rattle.kfifo_progress.proofs.Spending.{changes_at, changes_made, cost_at, move_changes, move_price, others_disturbed, own_rounds, purse}
-use Rattle.kfifo_progress.proofs.Spending.{spends, to_change, won_by}
+use Rattle.kfifo_progress.proofs.Changing.{changes_at, changes_made, has_passed, to_change, top}
+use Rattle.kfifo_progress.proofs.Rounds.{disturbed, rounds_left}
+use Rattle.kfifo_progress.proofs.Spending.{cost_at, move_price, others_disturbed, own_rounds, purse}
+use Rattle.kfifo_progress.proofs.Spending.{spends, won_by}
 use Rattle.kfifo_progress.proofs.Stretches.{Stretch, stretch_step}
 use Rattle.kfifo_progress.specs.Progress.{HasTurns}
 use Rattle.kfifo_progress.proofs.Undos.{Undos, undos_begin, undos_step, undos_tick}
@@ -46,8 +47,9 @@ pub record Live (shape : Shape) (threads : ℕ) (x : Prices) (b : Begun) (w : �
   pub account : spent + purse shape x w p threads + move_price x threads * b.ends
       ≤ b.purse + move_price x threads * (l.head + l.tail)
   pub changed : ℕ
-  pub changes : changed + to_change w p threads + move_changes threads * b.ends
-      ≤ b.to_change + move_changes threads * (l.head + l.tail)
+  pub reached : b.tail ≤ l.tail
+  pub changes : changed + to_change b.tail l p threads + b.ends + threads * 2 * b.tail
+      ≤ b.to_change + (l.head + l.tail) + threads * 2 * top b.tail l
   pub young : (t : ℕ) (r : Running) → p t ≡ Some r → b.old t ≡ false
       → b.turns + disturbed w r ≤ rounds_left r + b.lost + 1 + changed
 
@@ -69,8 +71,11 @@ disturbed_same : (shape : Shape) (w w' : ℕ → ℕ) (q : Running) → Sane sha
 disturbed_same shape w w' q s ends slots = grind (arith, nat_tests, slots)
 
 begun_round : (w : ℕ → ℕ) (b : Begin) (r : Running) → begun b ≡ Some r
-    → (changes w r ≤ 1) × (disturbed w r ≡ 0) × ((least : ℕ) → HasTurns least (Some b) → least ≤ rounds_left r)
+    → (disturbed w r ≡ 0) × ((least : ℕ) → HasTurns least (Some b) → least ≤ rounds_left r)
 begun_round w b r g = grind arith
+
+begun_changes_one : (passed : Bool) (b : Begin) (r : Running) → begun b ≡ Some r → changes_at passed (Some r) ≡ 1
+begun_changes_one passed b r g = grind arith
 
 begun_kept : (shape : Shape) (from : ℕ) (w : ℕ → ℕ) (l : Ledger) (charge : ℕ → Option ℕ) (b : Begin) (r : Running) → begun b ≡ Some r
     → HasKept shape from w l charge r
@@ -92,8 +97,12 @@ module _ (shape : Shape) (again : shape.holds_again ≡ true) (threads : ℕ) (x
             omega (arith, k, h.account);
         changed = h.changed + won_by shape w r;
         changes =
-            let k = changes_made shape threads x enough w p l t r e in_range (h.undos.inv.base.sane t r e) place h.undos.inv.base.ends calm in
+            let k = changes_made shape threads b.tail w p l t r e in_range (h.undos.inv.base.sane t r e) place h.undos.inv.base.ends calm
+            (h.undos.passed t r e) h.reached in
             omega (arith, k, h.changes);
+        reached =
+            let change = ends_change shape w l t r (h.undos.inv.base.sane t r e) h.undos.inv.base.ends in
+            omega (arith, h.reached, change.tail_rise);
         young = λ u q f new. elim (cases_eq u t) [
           | inl same ↦
               let k = goes_at (λ q. rounds_left r + disturbed (words_by (access shape r) w) q
@@ -110,12 +119,12 @@ module _ (shape : Shape) (again : shape.holds_again ≡ true) (threads : ℕ) (x
       }
 
   begun_changes : (t : ℕ) (begin : Begin) (r : Running) → p t ≡ None → begun begin ≡ Some r → (u : ℕ)
-      → changes_at w (noted p t (Some r) u) ≤ changes_at w (p u) + 0
+      → changes_at (has_passed b.tail l u) (noted p t (Some r) u) ≤ changes_at (has_passed b.tail l u) (p u) + 0
   begun_changes t begin r idle g u = elim (cases_eq u t) [
     | inl same ↦
         let new : noted p t (Some r) u ≡ Some r = noted-same p t u (Some r) same in
         let old : p u ≡ None = ap p same ∙ idle in
-        rw (new, old) (omega (arith, (begun_round w begin r g).0))
+        rw (new, old) (omega (arith, begun_changes_one (has_passed b.tail l u) begin r g))
     | inr ne ↦ rw (noted-other p t u (Some r) ne) (omega arith)
   ]
 
@@ -164,12 +173,14 @@ module _ (shape : Shape) (again : shape.holds_again ≡ true) (threads : ℕ) (x
             omega (arith, k, h.account);
         changed = h.changed;
         changes =
-            let k = total_rises (λ u. changes_at w (p u)) (λ u. changes_at w (noted p t (Some r) u)) threads 0
+            let k = total_rises (λ u. changes_at (has_passed b.tail l u) (p u))
+            (λ u. changes_at (has_passed b.tail l u) (noted p t (Some r) u)) threads 0
             (λ u _. begun_changes t begin r idle g u) in
             omega (arith, k, h.changes);
+        reached = h.reached;
         young = λ u q f new. elim (cases_eq u t) [
           | inl same ↦ rw (← (same_Some r q (sym (noted-same p t u (Some r) same) ∙ f)))
-              (let k = begun_round w begin r g in omega (arith, k.1, k.2 b.turns turns))
+              (let k = begun_round w begin r g in omega (arith, k.0, k.1 b.turns turns))
           | inr ne ↦ h.young u q (sym (noted-other p t u (Some r) ne) ∙ f) new
         ];
       }
@@ -202,11 +213,8 @@ module _ (shape : Shape) (again : shape.holds_again ≡ true) (threads : ℕ) (x
             (λ u _. tick_cost u (p u) refl) in
             omega (arith, k, h.account);
         changed = h.changed;
-        changes =
-            let k = total_rises (λ u. changes_at w (p u))
-            (λ u. changes_at (noted w (clock_at shape.k shape.n) (w (clock_at shape.k shape.n) + 1)) (p u)) threads 0
-            (λ u _. tick_changes (p u)) in
-            omega (arith, k, h.changes);
+        changes = h.changes;
+        reached = h.reached;
         young = λ u q f new.
             let y = ticked_word shape w (w (clock_at shape.k shape.n) + 1) in
             let k = disturbed_same shape w (noted w (clock_at shape.k shape.n) (w (clock_at shape.k shape.n) + 1)) q
@@ -214,13 +222,6 @@ module _ (shape : Shape) (again : shape.holds_again ≡ true) (threads : ℕ) (x
             omega (arith, k, h.young u q f new);
       }
     where
-      tick_changes : (o : Option Running)
-          → changes_at (noted w (clock_at shape.k shape.n) (w (clock_at shape.k shape.n) + 1)) o ≤ changes_at w o + 0
-      tick_changes None = omega arith
-      tick_changes (Some q) =
-          let y = ticked_word shape w (w (clock_at shape.k shape.n) + 1) in
-          changes_stay w (noted w (clock_at shape.k shape.n) (w (clock_at shape.k shape.n) + 1)) q (y 0 (omega arith))
-
       tick_cost : (u : ℕ) (o : Option Running) → p u ≡ o
           → cost_at shape x (noted w (clock_at shape.k shape.n) (w (clock_at shape.k shape.n) + 1)) o ≤ cost_at shape x w o + 0
       tick_cost u None is = omega arith

@@ -34,8 +34,9 @@ use Rattle.kfifo_progress.proofs.Cost.{AreEnough, Prices, cost_bound}
 use Rattle.kfifo_progress.proofs.Counting.{total, total_rises}
 use Rattle.kfifo_progress.proofs.Kept.{goes}
 use Rattle.kfifo_progress.proofs.Live.{Begun, Live, live_begin, live_step, live_tick}
-use Rattle.kfifo_progress.proofs.Rounds.{changes_bound, disturbed, rounds_left}
-use Rattle.kfifo_progress.proofs.Spending.{changes_at, cost_at, move_changes, move_price, purse, sum, to_change}
+use Rattle.kfifo_progress.proofs.Rounds.{disturbed, rounds_left}
+use Rattle.kfifo_progress.proofs.Spending.{cost_at, move_price, purse, sum}
+use Rattle.kfifo_progress.proofs.Changing.{changes_at, changes_bound, has_passed, to_change, top}
 use Rattle.kfifo_progress.proofs.Stretches.{Stretch, head_bound}
 use Rattle.kfifo_progress.proofs.Undos.{Undos, undos_begin, undos_opening, undos_step, undos_table, undos_tick}
 use Rattle.kfifo_progress.specs.Progress.{AllHaveTurns, HasTurns, SomeCallEnds, call_steps, calls_ended, ends_of, most_changes, most_moves}
@@ -244,11 +245,16 @@ at_begin l shape threads here old turns lost = record {
   tail = l.tail;
   ends = l.head + l.tail;
   purse = purse shape (prices shape threads) (word_at here) (place_of here) threads;
-  to_change = to_change (word_at here) (place_of here) threads;
+  to_change = to_change l.tail l (place_of here) threads;
   old = old;
   turns = turns;
   lost = lost;
 }
+
+begin_changes : (from : ℕ) (l : Ledger) (p : ℕ → Option Running) (threads : ℕ) → l.head ≤ from
+    → 0 + to_change from l p threads + (l.head + from) + threads * 2 * from
+    ≤ to_change from l p threads + (l.head + from) + threads * 2 * top from l
+begin_changes from l p threads ordered = let e : top from l ≡ from = omega (arith, ordered) in rw e (omega arith)
 
 module _ (shape : Shape) (again : shape.holds_again ≡ true) (threads : ℕ) where
   abbrev pub UndosAt : World → Ledger → Type 0
@@ -279,7 +285,8 @@ module _ (shape : Shape) (again : shape.holds_again ≡ true) (threads : ℕ) wh
           stretch = stretch_begins shape threads (word_at here) (place_of here) l k.holds.inv.base.ends.ordered;
           account = omega arith;
           changed = 0;
-          changes = omega arith;
+          reached = omega arith;
+          changes = begin_changes l.tail l (place_of here) threads k.holds.inv.base.ends.ordered;
           young = λ t r at new. omega (arith, young t r at new);
         };
       }
@@ -288,26 +295,22 @@ total_none : (n : ℕ) → total (λ _. 0) n ≡ 0
 total_none zero = refl
 total_none (suc n) = omega (arith, total_none n)
 
-sum_bound : (f : (ℕ → ℕ) → Option Running → ℕ) (w : ℕ → ℕ) (p : ℕ → Option Running) (threads c : ℕ)
-    → ((o : Option Running) → f w o ≤ 0 + c) → sum f w p threads ≤ threads * c
-sum_bound f w p threads c below =
-    let k = total_rises (λ _. 0) (λ u. f w (p u)) threads c (λ u _. below (p u)) in
+sum_bound : (f : ℕ → Option Running → ℕ) (p : ℕ → Option Running) (threads c : ℕ) → ((u : ℕ) (o : Option Running) → f u o ≤ 0 + c)
+    → sum f p threads ≤ threads * c
+sum_bound f p threads c below =
+    let k = total_rises (λ _. 0) (λ u. f u (p u)) threads c (λ u _. below u (p u)) in
     omega (arith, k, total_none threads)
 
 purse_bound : (shape : Shape) (threads : ℕ) (x : Prices) (w : ℕ → ℕ) (p : ℕ → Option Running) → AreEnough shape threads x
     → purse shape x w p threads ≤ threads * (x.round + x.put + (x.ends + x.ends))
-purse_bound shape threads x w p enough = sum_bound (cost_at shape x) w p threads (x.round + x.put + (x.ends + x.ends)) below
+purse_bound shape threads x w p enough = sum_bound (λ _. cost_at shape x w) p threads (x.round + x.put + (x.ends + x.ends)) (λ _ o. below o)
   where
     below : (o : Option Running) → cost_at shape x w o ≤ 0 + (x.round + x.put + (x.ends + x.ends))
     below None = omega arith
     below (Some q) = omega (arith, cost_bound shape threads x w q enough)
 
-to_change_bound : (threads : ℕ) (w : ℕ → ℕ) (p : ℕ → Option Running) → to_change w p threads ≤ threads * 3
-to_change_bound threads w p = sum_bound changes_at w p threads 3 below
-  where
-    below : (o : Option Running) → changes_at w o ≤ 0 + 3
-    below None = omega arith
-    below (Some q) = omega (arith, changes_bound w q)
+to_change_bound : (threads : ℕ) (l : Ledger) (p : ℕ → Option Running) → to_change l.tail l p threads ≤ threads * 3
+to_change_bound threads l p = sum_bound (λ u. changes_at (has_passed l.tail l u)) p threads 3 (λ u o. changes_bound (has_passed l.tail l u) o)
 
 -- the prices as the bound has them
 price_of_all : (t r : ℕ) → r + t * r + (r + t * r + t * r + (r + t * r + t * r)) ≡ r * (5 * t + 3)
@@ -341,18 +344,18 @@ fair_begin shape threads l here old turns lost ok =
     record {
       purse = subst (λ z. purse shape (prices shape threads) (word_at here) (place_of here) threads ≤ threads * z)
           (price_of_all threads (2 * shape.k + 9)) all;
-      to_change = to_change_bound threads (word_at here) (place_of here);
+      to_change = to_change_bound threads l (place_of here);
       ends = omega (arith, ok.no_wrap);
     }
 
 -- so a live stretch has spent little, and changed few words
 module _ (shape : Shape) (threads : ℕ) (b : Begun) (few : threads < shape.n) (fair : Fair shape threads b) (l : Ledger) (there : World)
     (spent : ℕ) (h : LiveAt shape threads (prices shape threads) b there l spent) where
+  live_head : l.head ≤ b.tail + threads + 1
+  live_head = head_bound shape threads b.tail (word_at there) (place_of there) l h.live.charge few h.live.stretch
+
   live_moves : l.head + l.tail ≤ b.ends + most_moves shape threads
-  live_moves =
-      let head : l.head ≤ b.tail + threads + 1 =
-      head_bound shape threads b.tail (word_at there) (place_of there) l h.live.charge few h.live.stretch in
-      omega (arith, head, h.live.undos.inv.base.ends.no_wrap, fair.ends)
+  live_moves = omega (arith, live_head, h.live.undos.inv.base.ends.no_wrap, fair.ends)
 
   pub live_spent : spent ≤ most_steps shape threads
   unfolding prices
@@ -366,10 +369,10 @@ module _ (shape : Shape) (threads : ℕ) (b : Begun) (few : threads < shape.n) (
 
   pub live_changed : h.live.changed ≤ most_changes shape threads
   live_changed =
-      let bound = spent_bound h.live.changed (to_change (word_at there) (place_of there) threads) b.to_change b.ends (l.head + l.tail)
-      (most_moves shape threads) (move_changes threads) h.live.changes live_moves in
-      let price : most_moves shape threads * move_changes threads ≡ (2 * threads + 1) * most_moves shape threads = omega arith in
-      omega (arith, bound, fair.to_change, price)
+      let past : top b.tail l ≤ b.tail + (threads + 1) = omega (arith, live_head) in
+      let m : threads * 2 * top b.tail l ≤ threads * 2 * (b.tail + (threads + 1)) = mul-le-mul_left (threads * 2) past in
+      let d : threads * 2 * (b.tail + (threads + 1)) ≡ threads * 2 * b.tail + 2 * threads * (threads + 1) = omega arith in
+      omega (arith, h.live.changes, live_moves, m, d, fair.to_change)
 
 no_turns : (events : List Event) → AllHaveTurns 0 events
 no_turns [] = tt

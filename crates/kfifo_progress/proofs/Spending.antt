@@ -16,63 +16,51 @@ use Rattle.kfifo_progress.proofs.Cost.{AreEnough, Prices, cost, ends_move, ends_
 use Rattle.kfifo_progress.proofs.Cost.{others_rise_little, slot_own, wins, words_same}
 use Rattle.kfifo_progress.proofs.Counting.{total, total_falls, total_rises}
 use Rattle.kfifo_progress.proofs.Kept.{goes}
-use Rattle.kfifo_progress.proofs.Rounds.{changes, changes_ends, changes_own, changes_rise, changes_slot, changes_stay, disturbed}
-use Rattle.kfifo_progress.proofs.Rounds.{disturbed_rises, rounds_change, rounds_left, rounds_own}
+use Rattle.kfifo_progress.proofs.Rounds.{disturbed, disturbed_rises, rounds_change, rounds_left, rounds_own}
 
--- what a step changes of a sum over all threads, of what the words and a thread's place say
-abbrev pub sum : ((ℕ → ℕ) → Option Running → ℕ) → (ℕ → ℕ) → (ℕ → Option Running) → ℕ → ℕ
-sum f w p threads = total (λ u. f w (p u)) threads
+-- what a step changes of a sum over all threads, of what is said of each thread and its place
+abbrev pub sum : (ℕ → Option Running → ℕ) → (ℕ → Option Running) → ℕ → ℕ
+sum f p threads = total (λ u. f u (p u)) threads
 
-module _ (f : (ℕ → ℕ) → Option Running → ℕ) (w w' : ℕ → ℕ) (p : ℕ → Option Running) (t threads : ℕ) (next : Option Running) (c : ℕ)
-    (others : (o : Option Running) → f w' o ≤ f w o + c) where
-  other : (u : ℕ) → u ≢ t → f w' (noted p t next u) ≤ f w (p u) + c
-  other u ne = rw (noted-other p t u next ne) (others (p u))
+module _ (f g : ℕ → Option Running → ℕ) (p : ℕ → Option Running) (t threads : ℕ) (next : Option Running) (c : ℕ)
+    (others : (u : ℕ) (o : Option Running) → u ≢ t → g u o ≤ f u o + c) where
+  other : (u : ℕ) → u ≢ t → g u (noted p t next u) ≤ f u (p u) + c
+  other u ne = rw (noted-other p t u next ne) (others u (p u) ne)
 
-  pub sum_falls : (rise fall : ℕ) → t < threads → f w' next + fall ≤ f w (p t) + rise
-      → sum f w' (noted p t next) threads + fall ≤ sum f w p threads + rise + threads * c
+  pub sum_falls : (rise fall : ℕ) → t < threads → g t next + fall ≤ f t (p t) + rise
+      → sum g (noted p t next) threads + fall ≤ sum f p threads + rise + threads * c
   sum_falls rise fall in_range own =
-      total_falls (λ u. f w (p u)) (λ u. f w' (noted p t next u)) threads t c rise fall in_range
+      total_falls (λ u. f u (p u)) (λ u. g u (noted p t next u)) threads t c rise fall in_range
       (rw (noted-same p t t next refl) own) (λ u _ ne. other u ne)
 
-  pub sum_rises : f w' next ≤ f w (p t) + c → sum f w' (noted p t next) threads ≤ sum f w p threads + threads * c
+  pub sum_rises : g t next ≤ f t (p t) + c → sum g (noted p t next) threads ≤ sum f p threads + threads * c
   sum_rises own =
-      total_rises (λ u. f w (p u)) (λ u. f w' (noted p t next u)) threads c
+      total_rises (λ u. f u (p u)) (λ u. g u (noted p t next u)) threads c
       (λ u _. elim (cases_eq u t) [ inl same ↦ rw (same, noted-same p t t next refl) own | inr ne ↦ other u ne ])
 
--- what a place costs, and how many words it may change, where an idle thread begins a call
+-- what a place costs, where an idle thread begins a call
 abbrev pub cost_at : Shape → Prices → (ℕ → ℕ) → Option Running → ℕ
 cost_at shape x w None = x.round + x.put
 cost_at shape x w (Some r) = cost shape x w r
 
-abbrev pub changes_at : (ℕ → ℕ) → Option Running → ℕ
-changes_at w None = 1
-changes_at w (Some r) = changes w r
-
 -- what all threads may spend
 abbrev pub purse : Shape → Prices → (ℕ → ℕ) → (ℕ → Option Running) → ℕ → ℕ
-purse shape x w p threads = sum (cost_at shape x) w p threads
+purse shape x w p threads = sum (λ _. cost_at shape x w) p threads
 
 -- what a move of an end adds
 abbrev pub move_price : Prices → ℕ → ℕ
 move_price x threads = threads * (x.ends + x.ends + x.round) + 1
 
--- how many words all threads may change, and what a move of an end adds, itself counted
-abbrev pub to_change : (ℕ → ℕ) → (ℕ → Option Running) → ℕ → ℕ
-to_change w p threads = sum changes_at w p threads
-
-abbrev pub move_changes : ℕ → ℕ
-move_changes threads = threads * 2 + 1
-
 -- whether a step changes a word
 abbrev pub won_by : Shape → (ℕ → ℕ) → Running → ℕ
 won_by shape w r = if wins w (access shape r) then 1 else 0
 
-after_goes : (f : (ℕ → ℕ) → Option Running → ℕ) (w : ℕ → ℕ) (P : ℕ → Type 0) (next : Next) → goes next ≡ true
+pub after_goes : (f : (ℕ → ℕ) → Option Running → ℕ) (w : ℕ → ℕ) (P : ℕ → Type 0) (next : Next) → goes next ≡ true
     → IfGoes (λ q. P (f w (Some q))) next → P (f w (place_after next))
 after_goes f w P (Goes q) calm h = h
 after_goes f w P (Answers answer) calm h = absurd (false≢true calm)
 
-if_goes : (P Q : Running → Type 0) → ((q : Running) → P q → Q q) → (next : Next) → IfGoes P next → IfGoes Q next
+pub if_goes : (P Q : Running → Type 0) → ((q : Running) → P q → Q q) → (next : Next) → IfGoes P next → IfGoes Q next
 if_goes P Q on (Goes q) h = on q h
 if_goes P Q on (Answers answer) h = tt
 
@@ -92,7 +80,8 @@ module _ (shape : Shape) (threads : ℕ) (x : Prices) (enough : AreEnough shape 
   none_changed none =
       let o = after_goes (cost_at shape x) w (λ c. c + 1 ≤ cost shape x w r) (advance shape r (found_in shape w r)) calm
       (falls_own shape threads x w r enough place none calm) in
-      let k = sum_falls (cost_at shape x) w w p t threads (place_after (advance shape r (found_in shape w r))) 0 (λ o. omega arith) 0 1
+      let k = sum_falls (λ _. cost_at shape x w) (λ _. cost_at shape x w) p t threads (place_after (advance shape r (found_in shape w r))) 0
+      (λ u o _. omega arith) 0 1
       in_range (rw e (omega (arith, o))) in
       rw (words_same w (access shape r) none) (omega (arith, k))
 
@@ -104,8 +93,8 @@ module _ (shape : Shape) (threads : ℕ) (x : Prices) (enough : AreEnough shape 
       let o = after_goes (cost_at shape x) (words_by (access shape r) w) (λ c. c + (1 + x.put) ≤ cost shape x w r)
       (advance shape r (found_in shape w r)) calm
       (slot_own shape threads x w (words_by (access shape r) w) r enough place won slot calm same) in
-      let k = sum_falls (cost_at shape x) w (words_by (access shape r) w) p t threads (place_after (advance shape r (found_in shape w r)))
-      x.round (others_little (words_by (access shape r) w) same) 0 (1 + x.put) in_range (rw e (omega (arith, o))) in
+      let k = sum_falls (λ _. cost_at shape x w) (λ _. cost_at shape x (words_by (access shape r) w)) p t threads (place_after (advance shape r (found_in shape w r)))
+      x.round (λ u o _. others_little (words_by (access shape r) w) same o) 0 (1 + x.put) in_range (rw e (omega (arith, o))) in
       omega (arith, k, enough.put)
     where
       others_little : (w' : ℕ → ℕ) → w' 0 ≡ w 0 → (o : Option Running) → cost_at shape x w' o ≤ cost_at shape x w o + x.round
@@ -117,8 +106,8 @@ module _ (shape : Shape) (threads : ℕ) (x : Prices) (enough : AreEnough shape 
   ends_changed =
       let o = after_goes (cost_at shape x) (words_by (access shape r) w) (λ c. c ≤ cost shape x w r + (x.ends + x.ends + x.round))
       (advance shape r (found_in shape w r)) calm (moves_own shape threads x w (words_by (access shape r) w) r enough place calm) in
-      let k = sum_rises (cost_at shape x) w (words_by (access shape r) w) p t threads (place_after (advance shape r (found_in shape w r)))
-      (x.ends + x.ends + x.round) (others_much (words_by (access shape r) w)) (rw e o) in
+      let k = sum_rises (λ _. cost_at shape x w) (λ _. cost_at shape x (words_by (access shape r) w)) p t threads (place_after (advance shape r (found_in shape w r)))
+      (x.ends + x.ends + x.round) (λ u o _. others_much (words_by (access shape r) w) o) (rw e o) in
       omega (arith, k)
     where
       others_much : (w' : ℕ → ℕ) (o : Option Running) → cost_at shape x w' o ≤ cost_at shape x w o + (x.ends + x.ends + x.round)
@@ -145,70 +134,7 @@ module _ (shape : Shape) (threads : ℕ) (x : Prices) (enough : AreEnough shape 
       add_move : (a b c m : ℕ) → a + 1 ≤ b + c → a + 1 + c * m ≤ b + c * (m + 1)
       add_move a b c m h = omega arith
 
-  -- the changes, by what changes
-  none_to_change : wins w (access shape r) ≡ false
-      → to_change (words_by (access shape r) w) (noted p t (place_after (advance shape r (found_in shape w r)))) threads
-      ≤ to_change w p threads
-  none_to_change none =
-      let o = after_goes changes_at w (λ c. c ≤ changes w r) (advance shape r (found_in shape w r)) calm
-      (changes_own shape w w r none calm) in
-      let k = sum_falls changes_at w w p t threads (place_after (advance shape r (found_in shape w r))) 0 (λ o. omega arith) 0 0 in_range
-      (rw e (omega (arith, o))) in
-      rw (words_same w (access shape r) none) (omega (arith, k))
-
-  slot_to_change : wins w (access shape r) ≡ true → accessed (access shape r) ≢ 0
-      → to_change (words_by (access shape r) w) (noted p t (place_after (advance shape r (found_in shape w r)))) threads + 1
-      ≤ to_change w p threads
-  slot_to_change won slot =
-      let same = ends_same w (access shape r) slot in
-      let o = after_goes changes_at (words_by (access shape r) w) (λ c. c + 1 ≤ changes w r) (advance shape r (found_in shape w r)) calm
-      (changes_slot shape w (words_by (access shape r) w) r won slot calm same) in
-      let k = sum_falls changes_at w (words_by (access shape r) w) p t threads (place_after (advance shape r (found_in shape w r))) 0
-      (others_none (words_by (access shape r) w) same) 0 1 in_range (rw e (omega (arith, o))) in
-      omega (arith, k)
-    where
-      others_none : (w' : ℕ → ℕ) → w' 0 ≡ w 0 → (o : Option Running) → changes_at w' o ≤ changes_at w o + 0
-      others_none w' same None = omega arith
-      others_none w' same (Some q) = changes_stay w w' q same
-
-  ends_to_change : to_change (words_by (access shape r) w) (noted p t (place_after (advance shape r (found_in shape w r)))) threads + 1
-      ≤ to_change w p threads + move_changes threads
-  ends_to_change =
-      let o = after_goes changes_at (words_by (access shape r) w) (λ c. c ≤ changes w r + 2) (advance shape r (found_in shape w r)) calm
-      (changes_ends shape w (words_by (access shape r) w) r calm) in
-      let k = sum_rises changes_at w (words_by (access shape r) w) p t threads (place_after (advance shape r (found_in shape w r))) 2
-      (others_two (words_by (access shape r) w)) (rw e o) in
-      omega (arith, k)
-    where
-      others_two : (w' : ℕ → ℕ) (o : Option Running) → changes_at w' o ≤ changes_at w o + 2
-      others_two w' None = omega arith
-      others_two w' (Some q) = changes_rise w w' q
-
-  -- each change of a word is one of those that the threads may make
-  pub changes_made : to_change (words_by (access shape r) w) (noted p t (place_after (advance shape r (found_in shape w r)))) threads
-      + won_by shape w r + move_changes threads * (l.head + l.tail)
-      ≤ to_change w p threads + move_changes threads * ((stepped shape w t r l).head + (stepped shape w t r l).tail)
-  changes_made =
-      elim (cases_Bool (wins w (access shape r))) [
-        | inr none ↦
-            let z : words_by (access shape r) w 0 ≡ w 0 = ap (λ f. f 0) (words_same w (access shape r) none) in
-            let y : won_by shape w r ≡ 0 = ap (λ b. if b then 1 else 0) none in
-            rw (change.head_kept z, change.tail_kept z) (omega (arith, none_to_change none, y))
-        | inl won ↦
-            let y : won_by shape w r ≡ 1 = ap (λ b. if b then 1 else 0) won in
-            elim (cases_eq (accessed (access shape r)) 0) [
-              | inr slot ↦
-                  let z : words_by (access shape r) w 0 ≡ w 0 = ends_same w (access shape r) slot in
-                  rw (change.head_kept z, change.tail_kept z) (omega (arith, slot_to_change won slot, y))
-              | inl at ↦ rw (ends_move shape w l t r won at place calm) (add_move _ _ (won_by shape w r) (move_changes threads)
-                  (l.head + l.tail) y ends_to_change)
-            ]
-      ]
-    where
-      add_move : (a b d c m : ℕ) → d ≡ 1 → a + 1 ≤ b + c → a + d + c * m ≤ b + c * (m + 1)
-      add_move a b d c m one h = omega arith
-
-  -- and a thread loses a round only to one of them
+  -- and a thread loses a round only to a change of a word
   pub own_rounds : IfGoes (λ q. rounds_left r + disturbed (words_by (access shape r) w) q ≤ rounds_left q + won_by shape w r + disturbed w r)
       (advance shape r (found_in shape w r))
   own_rounds = elim (cases_Bool (wins w (access shape r))) [

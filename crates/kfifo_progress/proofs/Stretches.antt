@@ -108,17 +108,17 @@ module _ (shape : Shape) (w : ℕ → ℕ) (l : Ledger) (t : ℕ) (charge : ℕ 
 
 -- what a step does to head and tail
 module _ (shape : Shape) (w : ℕ → ℕ) (l : Ledger) (t : ℕ) (r : Running) where
-  moves_one : (((stepped shape w t r l).head ≡ l.head) ⊎ ((stepped shape w t r l).head ≡ l.head + 1))
+  pub moves_one : (((stepped shape w t r l).head ≡ l.head) ⊎ ((stepped shape w t r l).head ≡ l.head + 1))
       × (((stepped shape w t r l).tail ≡ l.tail) ⊎ ((stepped shape w t r l).tail ≡ l.tail + 1))
   unfolding stepped
   moves_one = grind (arith, nat_tests)
 
-  seen_after : (at_load r ≡ false → (stepped shape w t r l).tail_seen t ≡ l.tail_seen t)
+  pub seen_after : (at_load r ≡ false → (stepped shape w t r l).tail_seen t ≡ l.tail_seen t)
       × (at_load r ≡ true → (stepped shape w t r l).tail_seen t ≡ l.tail)
   unfolding stepped
   seen_after = grind (arith, nat_tests, noted_tells)
 
-  others_seen : (u : ℕ) → u ≢ t → (stepped shape w t r l).tail_seen u ≡ l.tail_seen u
+  pub others_seen : (u : ℕ) → u ≢ t → (stepped shape w t r l).tail_seen u ≡ l.tail_seen u
   unfolding stepped
   others_seen u ne = grind (arith, nat_tests, noted-other)
 

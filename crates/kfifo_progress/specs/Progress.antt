@@ -68,7 +68,7 @@ abbrev pub most_moves : Shape → ℕ → ℕ
 most_moves shape threads = 2 * (threads + shape.n)
 
 abbrev pub most_changes : Shape → ℕ → ℕ
-most_changes shape threads = 3 * threads + (2 * threads + 1) * most_moves shape threads
+most_changes shape threads = 3 * threads + 2 * threads * (threads + 1) + most_moves shape threads
 
 abbrev pub most_steps : Shape → ℕ → ℕ
 most_steps shape threads =
