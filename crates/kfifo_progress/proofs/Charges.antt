@@ -17,7 +17,7 @@ use Rattle.kfifo_machine.proofs.NoWrap.{EndsOk, same_end}
 use Rattle.kfifo_machine.specs.Program.{access, advance, scan_index}
 use Rattle.kfifo_words.specs.Words.{head_of, tail_of, value_of}
 use Rattle.kfifo_progress.proofs.Kept.{Every, Kept, Unseen, charge_after, scan_begins, scan_ends, scan_goes_on}
-use Rattle.kfifo_progress.proofs.Kept.{seen_filled, seen_filled_tail}
+use Rattle.kfifo_progress.proofs.Kept.{seen_filled}
 
 -- what is kept of the tail's visit by who is about to move the tail, and of the head's by who is about to move the head
 abbrev pub KeptTail : Shape → ℕ → (ℕ → ℕ) → Ledger → (ℕ → Option ℕ) → ℕ → Type 0
@@ -107,13 +107,13 @@ module _ (shape : Shape) (from : ℕ) (w : ℕ → ℕ) (l : Ledger) (t : ℕ) (
       → Kept shape w charge Every l.tail
   tail_seen_filled ends start offset e filled =
       let ring : InRing shape (w 0) = ends_in_ring shape (w 0) l.head l.tail ok in
-      seen_filled_tail shape w l t charge ok ends start offset l.tail (rw (← e) ok.tail) (rw (← e) ring.tail) filled
+      seen_filled shape w l t charge ok (tail_of ends) start offset l.tail (rw (← e) ok.tail) (rw (← e) ring.tail) filled
 
   head_seen_filled : (ends start offset : ℕ) → w 0 ≡ ends → l.head ≡ l.tail
       → value_of (w (scan_index shape (head_of ends) start offset)) ≢ 0 → Kept shape w charge Every l.tail
   head_seen_filled ends start offset e at filled =
       let ring : InRing shape (w 0) = ends_in_ring shape (w 0) l.head l.tail ok in
-      seen_filled shape w l t charge ok ends start offset l.tail (rw (← e, ← at) ok.head) (rw (← e) ring.head) filled
+      seen_filled shape w l t charge ok (head_of ends) start offset l.tail (rw (← e, ← at) ok.head) (rw (← e) ring.head) filled
 
   begins_scan : (ends start : ℕ) → start < shape.k → w 0 ≡ ends → from < l.head → l.head < l.tail
       → Kept shape w charge (Unseen shape ends start 0) l.head

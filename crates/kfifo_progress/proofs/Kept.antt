@@ -20,7 +20,7 @@ use Rattle.kfifo_machine.proofs.NoWrap.{EndsOk}
 use Rattle.kfifo_machine.proofs.Ring.{same_place}
 use Rattle.kfifo_machine.specs.Places.{IsSlotIndex}
 use Rattle.kfifo_machine.specs.Program.{access, advance, scan_index}
-use Rattle.kfifo_words.specs.Words.{head_of, tail_of, value_of}
+use Rattle.kfifo_words.specs.Words.{head_of, value_of}
 
 -- the visit of the head or later of a slot from which an enqueue takes its item
 abbrev pub undo_visit : Shape → (ℕ → ℕ) → Ledger → ℕ → ℕ
@@ -134,22 +134,15 @@ module _ (shape : Shape) (w : ℕ → ℕ) (l : Ledger) (t : ℕ) (charge : ℕ 
         filled_stays r i s calm refl is_slot.above (all i is_slot place in_slots)));
   }
 
-  -- what a look at a filled slot says
-  pub seen_filled : (ends start offset v : ℕ) → head_of ends ≡ v % shape.n → head_of ends < shape.n
-      → value_of (w (scan_index shape (head_of ends) start offset)) ≢ 0 → Kept shape w charge Every v
-  seen_filled ends start offset v place in_ring filled = record {
-    charged = λ all. absurd (filled (all
-        (scan_index shape (head_of ends) start offset) (scan_index-is_slot shape (head_of ends) start offset in_ring)
-        (segment_of-scan_index shape (head_of ends) start offset ∙ place) tt));
-  }
-
-  pub seen_filled_tail : (ends start offset v : ℕ) → tail_of ends ≡ v % shape.n → tail_of ends < shape.n
-      → value_of (w (scan_index shape (tail_of ends) start offset)) ≢ 0 → Kept shape w charge Every v
-  seen_filled_tail ends start offset v place in_ring filled = record {
-    charged = λ all. absurd (filled (all
-        (scan_index shape (tail_of ends) start offset) (scan_index-is_slot shape (tail_of ends) start offset in_ring)
-        (segment_of-scan_index shape (tail_of ends) start offset ∙ place) tt));
-  }
+  -- what a look at a filled slot of the visit's segment says
+  pub seen_filled : (segment start offset v : ℕ) → segment ≡ v % shape.n → segment < shape.n
+      → value_of (w (scan_index shape segment start offset)) ≢ 0 → Kept shape w charge Every v
+  seen_filled segment start offset v place in_ring filled =
+      record {
+        charged = λ all. absurd (filled (all (scan_index shape segment start offset)
+            (scan_index-is_slot shape segment start offset in_ring)
+            (segment_of-scan_index shape segment start offset ∙ place) tt));
+      }
 
   -- a scan that has yet to begin sees every slot
   pub scan_begins : (ends start v : ℕ) → head_of ends ≡ v % shape.n → start < shape.k → Kept shape w charge Every v

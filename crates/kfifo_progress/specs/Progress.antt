@@ -20,32 +20,30 @@ abbrev pub call_steps : List Event → ℕ
 call_steps [] = 0
 call_steps (event ∷ events) = steps_of event.begin + call_steps events
 
--- an event that was made ends a call, or does not
+-- whether an event that was made ends a call, and whether with another answer than Busy
 abbrev pub ends_of : Result (World × Outcome) NotEnabled → ℕ
 ends_of (Ok (world, Ended answer)) = 1
 ends_of (Ok (world, Went)) = 0
 ends_of (Err fault) = 0
 
--- how many calls end in a schedule from this world on
-abbrev pub calls_ended : Shape → Option World → List Event → ℕ
-calls_ended shape world [] = 0
-calls_ended shape None (event ∷ events) = 0
-calls_ended shape (Some world) (event ∷ events) =
-    ends_of (step shape world event) + calls_ended shape (world_of (step shape world event)) events
-
--- it ends a call with another answer than Busy, or does not
 abbrev pub answers_of : Result (World × Outcome) NotEnabled → ℕ
 answers_of (Ok (world, Ended Busy)) = 0
 answers_of (Ok (world, Ended answer)) = 1
 answers_of (Ok (world, Went)) = 0
 answers_of (Err fault) = 0
 
--- how many calls end so
+-- how many events do, in a schedule from this world on
+abbrev pub counted : (Result (World × Outcome) NotEnabled → ℕ) → Shape → Option World → List Event → ℕ
+counted count shape world [] = 0
+counted count shape None (event ∷ events) = 0
+counted count shape (Some world) (event ∷ events) =
+    count (step shape world event) + counted count shape (world_of (step shape world event)) events
+
+abbrev pub calls_ended : Shape → Option World → List Event → ℕ
+calls_ended shape world events = counted ends_of shape world events
+
 abbrev pub calls_answered : Shape → Option World → List Event → ℕ
-calls_answered shape world [] = 0
-calls_answered shape None (event ∷ events) = 0
-calls_answered shape (Some world) (event ∷ events) =
-    answers_of (step shape world event) + calls_answered shape (world_of (step shape world event)) events
+calls_answered shape world events = counted answers_of shape world events
 
 -- each call that begins in these events has at least so many turns
 abbrev pub HasTurns : ℕ → Option Begin → Type 0
