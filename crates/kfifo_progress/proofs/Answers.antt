@@ -3,7 +3,7 @@
 use Rattle.std.proofs.Common.{◌≡◌, ◌≢◌, ℕ, zero, suc, ◌+◌, ◌*◌, ◌<◌, ◌≤◌, Bool, true, false, inl, inr, refl, sym, ◌∙◌, ap, subst, arith}
 use Rattle.std.proofs.Common.{List, [], ◌∷◌, Option, Some, None, Ok}
 use Rattle.std.specs.Prelude.{if◌then◌else◌}
-use Rattle.std.proofs.Math.Nat.{mul-le-mul_right}
+use Rattle.std.proofs.Math.Nat.{mul-le-mul_left, mul-le-mul_right}
 use Rattle.std.proofs.lemmas.Bool.{cases_Bool, cases_eq, false≢true}
 use Rattle.std.proofs.lemmas.Bool.Decides.{nat_tests}
 use Rattle.std.proofs.lemmas.Option.{none-some, same_Some}
@@ -25,7 +25,7 @@ use Rattle.kfifo_progress.proofs.Rounds.{disturbed, disturbed_bound, rounds_left
 use Rattle.kfifo_progress.proofs.Schedule.{Fair, LiveAt, UndosAt, at_begin, begins, enough_prices, event_live, fair_begin, live_begins, live_changed}
 use Rattle.kfifo_progress.proofs.Schedule.{live_spent, prices, undos_after}
 use Rattle.kfifo_progress.proofs.Undos.{Undos, undos_begin, undos_step, undos_table, undos_tick}
-use Rattle.kfifo_progress.specs.Progress.{AllHaveTurns, HasTurns, SomeCallAnswers, answers_of, call_steps, calls_answered, enough_turns}
+use Rattle.kfifo_progress.specs.Progress.{AllHaveTurns, HasTurns, SomeCallAnswers, answers_of, call_steps, calls_answered, turns_for_progress}
 use Rattle.kfifo_progress.specs.Progress.{most_changes, most_steps, steps_of}
 
 -- a call that ends with Busy was in its last round
@@ -60,7 +60,7 @@ record Stretched (shape : Shape) (threads : ℕ) (world : World) (l : Ledger) (s
   live : LiveAt shape threads (prices shape threads) b world l spent
   fair : Fair shape threads b
   count : busy + old_threads b.old threads ≤ threads
-  turns : b.turns ≡ enough_turns shape threads
+  turns : b.turns ≡ turns_for_progress shape threads
   lost : b.lost ≡ busy * most_lost shape threads
   all : steps ≤ busy * (most_steps shape threads + 1) + spent
 
@@ -112,7 +112,7 @@ module _ (shape : Shape) (again : shape.holds_again ≡ true) (threads : ℕ) (f
           other_stays u ne = rw (noted-other h.b.old e.thread u false ne) (omega arith)
 
       still_young : (u : ℕ) (q : Running) → place_of next u ≡ Some q → noted h.b.old e.thread false u ≡ false
-          → enough_turns shape threads + disturbed (word_at next) q
+          → turns_for_progress shape threads + disturbed (word_at next) q
           ≤ rounds_left q + (h.busy + 1) * most_lost shape threads + 1
       unfolding found
       still_young u q f new = elim (cases_eq u e.thread) [
@@ -134,13 +134,13 @@ module _ (shape : Shape) (again : shape.holds_again ≡ true) (threads : ℕ) (f
           let old : ℕ → Bool = noted h.b.old e.thread false in
           record {
             busy = h.busy + 1;
-            b = at_begin (ledger_after shape world e l) shape threads next old (enough_turns shape threads)
+            b = at_begin (ledger_after shape world e l) shape threads next old (turns_for_progress shape threads)
                 ((h.busy + 1) * most_lost shape threads);
             spent = 0;
-            live = live_begins shape again threads next (ledger_after shape world e l) old (enough_turns shape threads)
+            live = live_begins shape again threads next (ledger_after shape world e l) old (turns_for_progress shape threads)
                 ((h.busy + 1) * most_lost shape threads) undos (same_threads shape world e next (Ended Busy) made ∙ h.live.count)
                 (step_sound shape world e next (Ended Busy) h.live.sound made) still_young;
-            fair = fair_begin shape threads (ledger_after shape world e l) next old (enough_turns shape threads)
+            fair = fair_begin shape threads (ledger_after shape world e l) next old (turns_for_progress shape threads)
                 ((h.busy + 1) * most_lost shape threads) undos.holds.inv.base.ends;
             count = omega (arith, fewer_old, h.count);
             turns = refl;
@@ -176,7 +176,7 @@ module _ (shape : Shape) (again : shape.holds_again ≡ true) (threads : ℕ) (f
   one_step begin = grind arith
 
   stretched_event : (world next : World) (outcome : Outcome) (e : Event) (l : Ledger) (steps : ℕ) → Stretched shape threads world l steps
-      → HasTurns (enough_turns shape threads) e.begin → step shape world e ≡ Ok (next, outcome) → answers_of (Ok (next, outcome)) ≡ 0
+      → HasTurns (turns_for_progress shape threads) e.begin → step shape world e ≡ Ok (next, outcome) → answers_of (Ok (next, outcome)) ≡ 0
       → Stretched shape threads next (ledger_after shape world e l) (steps + steps_of e.begin)
   stretched_event world next Went e l steps h turns made none = record {
     busy = h.busy;
@@ -196,7 +196,7 @@ module _ (shape : Shape) (again : shape.holds_again ≡ true) (threads : ℕ) (f
   stretched_event world next (Ended answer) e l steps h turns made none = absurd (omega (arith, none))
 
   stretched : (stretch : List Event) (here there : World) (l : Ledger) (steps : ℕ) → Stretched shape threads here l steps
-      → AllHaveTurns (enough_turns shape threads) stretch → run shape (Some here) stretch ≡ Some there
+      → AllHaveTurns (turns_for_progress shape threads) stretch → run shape (Some here) stretch ≡ Some there
       → calls_answered shape (Some here) stretch ≡ 0
       → Stretched shape threads there (ledger_of shape (Some here) stretch l) (steps + call_steps stretch)
   stretched [] here there l steps h turns is none =
@@ -228,11 +228,11 @@ module _ (shape : Shape) (again : shape.holds_again ≡ true) (threads : ℕ) (f
       let undos = undos_after shape again threads events here is in
       let begun : Stretched shape threads here l 0 = record {
         busy = 0;
-        b = at_begin l shape threads here (λ _. true) (enough_turns shape threads) 0;
+        b = at_begin l shape threads here (λ _. true) (turns_for_progress shape threads) 0;
         spent = 0;
-        live = live_begins shape again threads here l (λ _. true) (enough_turns shape threads) 0 undos
+        live = live_begins shape again threads here l (λ _. true) (turns_for_progress shape threads) 0 undos
             (sound_threads shape threads events here is) (sound shape threads events here is) (λ t r at new. absurd (false≢true (sym new)));
-        fair = fair_begin shape threads l here (λ _. true) (enough_turns shape threads) 0 undos.holds.inv.base.ends;
+        fair = fair_begin shape threads l here (λ _. true) (turns_for_progress shape threads) 0 undos.holds.inv.base.ends;
         count = omega (arith, all_old threads);
         turns = refl;
         lost = omega arith;
@@ -241,3 +241,12 @@ module _ (shape : Shape) (again : shape.holds_again ≡ true) (threads : ℕ) (f
       let bound = stretched_bound there (ledger_of shape (Some here) stretch l) (0 + call_steps stretch)
       (stretched stretch here there l 0 begun turns made none) in
       omega (arith, bound)
+
+-- a call can have so many turns
+pub few_turns : (shape : Shape) (threads : ℕ) → threads ≤ 20 → turns_for_progress shape threads < 65536
+few_turns shape threads few =
+    let n = shape.few_segments in
+    let square : 2 * threads * (threads + 1) ≤ 2 * threads * 21 = mul-le-mul_left (2 * threads) (omega (arith, few)) in
+    let lost : most_lost shape threads ≤ 2989 = omega (arith, square, few, n) in
+    let all : (threads + 1) * most_lost shape threads ≤ (threads + 1) * 2989 = mul-le-mul_left (threads + 1) lost in
+    omega (arith, all, few)

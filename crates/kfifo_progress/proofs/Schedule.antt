@@ -106,16 +106,16 @@ module _ (shape : Shape) (again : shape.holds_again ≡ true) (threads : ℕ) (x
       → Live shape threads x b (word_at (moved shape world t r)) (place_of (moved shape world t r))
       (ledger_from shape (word_at world) t place begin l) (spent + steps_of begin)
   by_place None None r h at g turns place calm = absurd (none-some r g)
-  by_place None (Some (B.Enqueue item start turns)) r h at g enough_turns place calm =
+  by_place None (Some (B.Enqueue item start turns)) r h at g many place calm =
       let k = begins (may_begin shape (B.Enqueue item start turns)) (begun (B.Enqueue item start turns)) r g in
       let same : R.Enqueue item start turns E.LoadEnds ≡ r = same_Some _ r k.1 in
-      rw (← same) (first_live (B.Enqueue item start turns) (R.Enqueue item start turns E.LoadEnds) h at k.0 refl enough_turns
+      rw (← same) (first_live (B.Enqueue item start turns) (R.Enqueue item start turns E.LoadEnds) h at k.0 refl many
       (subst (IsPlace shape) (sym same) place)
       (subst (λ q. goes (advance shape q (found_in shape (word_at world) q)) ≡ true) (sym same) calm))
-  by_place None (Some (B.Dequeue start turns)) r h at g enough_turns place calm =
+  by_place None (Some (B.Dequeue start turns)) r h at g many place calm =
       let k = begins (may_begin shape (B.Dequeue start turns)) (begun (B.Dequeue start turns)) r g in
       let same : R.Dequeue start turns D.LoadEnds ≡ r = same_Some _ r k.1 in
-      rw (← same) (first_live (B.Dequeue start turns) (R.Dequeue start turns D.LoadEnds) h at k.0 refl enough_turns
+      rw (← same) (first_live (B.Dequeue start turns) (R.Dequeue start turns D.LoadEnds) h at k.0 refl many
       (subst (IsPlace shape) (sym same) place)
       (subst (λ q. goes (advance shape q (found_in shape (word_at world) q)) ≡ true) (sym same) calm))
   by_place None (Some B.Tick) r h at g turns place calm = absurd (none-some r g)

@@ -60,8 +60,8 @@ abbrev pub round_steps : Shape → ℕ
 round_steps shape = 2 * shape.k + 9
 
 -- The bounds of a stretch in which no call ends: how often head and tail are moved, how many words are changed, and how
--- many steps are made. An item is put in a slot or taken out of it at most three times by each thread, and twice more
--- after each move of an end
+-- many steps are made. A thread puts an item into a slot or takes one out three times at most, and twice more after each
+-- move of the head past the visit in which the tail was first, of which there are at most threads + 1
 abbrev pub most_moves : Shape → ℕ → ℕ
 most_moves shape threads = 2 * (threads + shape.n)
 
@@ -81,16 +81,16 @@ SomeCallEnds shape threads = (events stretch : List Event) (here there : World)
     → calls_ended shape (Some here) stretch ≡ 0
     → call_steps stretch ≤ most_steps shape threads
 
--- turns that are not lost before some call answers: a call loses one round for each change of a word at most, and each
--- thread may once have a call that ends with Busy, since it began before
-abbrev pub enough_turns : Shape → ℕ → ℕ
-enough_turns shape threads = (threads + 1) * (most_changes shape threads + 1) + 2
+-- turns that no call loses before some call answers: it loses at most one round for each word that changes, and one
+-- more, until a call ends; and each thread may have one call that ends with Busy, as it began before
+abbrev pub turns_for_progress : Shape → ℕ → ℕ
+turns_for_progress shape threads = (threads + 1) * (most_changes shape threads + 1) + 2
 
 -- Where calls begin with enough turns, and none ends with another answer than Busy, few steps are made
 abbrev pub SomeCallAnswers : Shape → ℕ → Type 0
 SomeCallAnswers shape threads = (events stretch : List Event) (here there : World)
     → after shape threads events ≡ Some here
     → run shape (Some here) stretch ≡ Some there
-    → AllHaveTurns (enough_turns shape threads) stretch
+    → AllHaveTurns (turns_for_progress shape threads) stretch
     → calls_answered shape (Some here) stretch ≡ 0
     → call_steps stretch ≤ (threads + 1) * (most_steps shape threads + 1)

@@ -1,9 +1,9 @@
 //! Progress: whatever the schedule, some call answers after a bounded number of steps.
 #![tactic(auto)]
 
-ghost use Rattle.std.specs.Prelude.{ℕ, ◌≡◌, ◌<◌, true};
+ghost use Rattle.std.specs.Prelude.{ℕ, ◌≡◌, ◌<◌, ◌≤◌, ◌^◌, true};
 ghost use Rattle.kfifo_words.specs.declared.shape.Shape.{Shape};
-ghost use Rattle.kfifo_progress.specs.Progress.{SomeCallAnswers, SomeCallEnds};
+ghost use Rattle.kfifo_progress.specs.Progress.{SomeCallAnswers, SomeCallEnds, turns_for_progress};
 
 /// Lock-freedom, of every schedule of a shape that holds again and has more segments than there are threads.
 ///
@@ -12,11 +12,13 @@ ghost use Rattle.kfifo_progress.specs.Progress.{SomeCallAnswers, SomeCallEnds};
 /// calls.
 ///
 /// A call that runs out of turns ends with Busy, so with few turns calls may end with nothing but Busy for ever. Where
-/// each call that begins in a stretch has at least `enough_turns` turns, and no call ends in it with another answer than
-/// Busy, it has at most `(threads + 1) * (most_steps + 1)` steps of calls.
+/// each call that begins in a stretch has at least `turns_for_progress` turns, and no call ends in it with another answer
+/// than Busy, it has at most `(threads + 1) * (most_steps + 1)` steps of calls. For up to 20 threads a call can have so
+/// many turns, whatever the shape.
 pub fn every_schedule_makes_progress()
     ensures ends { (shape : Shape) (threads : ℕ) → shape.holds_again ≡ true → threads < shape.n
         → SomeCallEnds shape threads }
     ensures answers { (shape : Shape) (threads : ℕ) → shape.holds_again ≡ true → threads < shape.n
         → SomeCallAnswers shape threads }
+    ensures turns { (shape : Shape) (threads : ℕ) → threads ≤ 20 → turns_for_progress shape threads < 2 ^ 16 }
 {}

@@ -1,9 +1,10 @@
-use Rattle.kfifo_progress.proofs.Answers.{some_call_answers}
+use Rattle.kfifo_progress.proofs.Answers.{few_turns, some_call_answers}
 use Rattle.kfifo_progress.proofs.Schedule.{some_call_ends}
 use Rattle.kfifo_progress.proofs.every_schedule_makes_progress.Goals as goal
 
 pub returns : goal.returns
 returns c = record {
   ends = some_call_ends;
+  turns = few_turns;
   answers = λ shape threads again few. some_call_answers shape again threads few;
 }
