@@ -1,10 +1,10 @@
 -- Where calls begin with enough turns, Busy comes at most once from each thread before some call ends with another
 -- answer. So a stretch with no other answer is at most so many stretches in which no call ends.
 use Rattle.std.proofs.Common.{◌≡◌, ◌≢◌, ℕ, zero, suc, ◌+◌, ◌*◌, ◌<◌, ◌≤◌, Bool, true, false, inl, inr, refl, sym, ◌∙◌, ap, subst, arith}
-use Rattle.std.proofs.Common.{List, [], ◌∷◌, Option, Some, None, Ok}
-use Rattle.std.specs.Prelude.{if◌then◌else◌}
+use Rattle.std.proofs.Common.{List, [], ◌∷◌, ◌++◌, Option, Some, None, Ok}
+use Rattle.std.specs.Prelude.{◌==◌, not, if◌then◌else◌}
 use Rattle.std.proofs.Math.Nat.{mul-le-mul_left, mul-le-mul_right}
-use Rattle.std.proofs.lemmas.Bool.{cases_Bool, cases_eq, false≢true}
+use Rattle.std.proofs.lemmas.Bool.{cases_Bool, cases_eq, cases_lt, false≢true}
 use Rattle.std.proofs.lemmas.Bool.Decides.{nat_tests}
 use Rattle.std.proofs.lemmas.Option.{none-some, same_Some}
 use Rattle.kfifo_linear.proofs.Types.{Begin, Event, Next, Outcome, Running, Shape}
@@ -13,10 +13,12 @@ use Rattle.kfifo_machine.specs.declared.event.Outcome.TheVariants.{Ended, Went}
 use Rattle.kfifo_linear.proofs.Abstract.{event_at, noted-other, noted-same}
 use Rattle.kfifo_linear.specs.Ledger.{Ledger, found_in, ledger_after, ledger_of, noted}
 use Rattle.kfifo_linear.specs.Order.{ledger_after_all}
-use Rattle.kfifo_machine.proofs.Budget.{own_place}
-use Rattle.kfifo_machine.proofs.Schedules.{first_made, made_within, other_place, same_threads, stepped}
+use Rattle.kfifo_machine.proofs.Budget.{own_first, own_place}
+use Rattle.kfifo_machine.proofs.Schedules.{first_made, made_within, other_place, run_before, run_on, same_threads, stepped}
+use Rattle.kfifo_machine.specs.Runs.{event, own}
 use Rattle.kfifo_machine.proofs.Sound.{sound, sound_threads, step_sound}
-use Rattle.kfifo_machine.specs.Machine.{World, begun, found, may_begin, moved, outcome_of, place_after, place_of, run, step, word_at}
+use Rattle.kfifo_machine.specs.Machine.{World, after, begun, found, may_begin, moved, opening, outcome_of, place_after, place_of, run, step}
+use Rattle.kfifo_machine.specs.Machine.{word_at, world_of}
 use Rattle.kfifo_machine.specs.Program.{advance}
 use Rattle.kfifo_machine.specs.Runs.{going}
 use Rattle.kfifo_progress.proofs.Counting.{total, total_falls}
@@ -25,7 +27,7 @@ use Rattle.kfifo_progress.proofs.Rounds.{disturbed, disturbed_bound, rounds_left
 use Rattle.kfifo_progress.proofs.Schedule.{Fair, LiveAt, UndosAt, at_begin, begins, enough_prices, event_live, fair_begin, live_begins, live_changed}
 use Rattle.kfifo_progress.proofs.Schedule.{live_spent, prices, undos_after}
 use Rattle.kfifo_progress.proofs.Undos.{Undos, undos_begin, undos_step, undos_table, undos_tick}
-use Rattle.kfifo_progress.specs.Progress.{AllHaveTurns, HasTurns, SomeCallAnswers, answers_of, call_steps, calls_answered, turns_for_progress}
+use Rattle.kfifo_progress.specs.Progress.{AllHaveTurns, BusyMeansProgress, HasTurns, SomeCallAnswers, answers_of, call_steps, calls_answered, turns_for_progress}
 use Rattle.kfifo_progress.specs.Progress.{most_changes, most_steps, steps_of}
 
 -- a call that ends with Busy was in its last round
@@ -52,8 +54,8 @@ old_threads old threads = total (λ t. if old t then 1 else 0) threads
 abbrev pub most_lost : Shape → ℕ → ℕ
 most_lost shape threads = most_changes shape threads + 1
 
--- a stretch with no answer but Busy
-record Stretched (shape : Shape) (threads : ℕ) (world : World) (l : Ledger) (steps : ℕ) : Type 0 where
+-- a stretch with no answer but Busy, in which a thread that was in no call at its begin is watched, or none
+record Stretched (shape : Shape) (threads : ℕ) (watched : Option ℕ) (world : World) (l : Ledger) (steps : ℕ) : Type 0 where
   busy : ℕ
   b : Begun
   spent : ℕ
@@ -63,11 +65,33 @@ record Stretched (shape : Shape) (threads : ℕ) (world : World) (l : Ledger) (s
   turns : b.turns ≡ turns_for_progress shape threads
   lost : b.lost ≡ busy * most_lost shape threads
   all : steps ≤ busy * (most_steps shape threads + 1) + spent
+  new : (t : ℕ) → watched ≡ Some t → b.old t ≡ false
+
+few_old : (old : ℕ → Bool) (n : ℕ) → old_threads old n ≤ n
+few_old old zero = omega arith
+few_old old (suc n) = omega (arith, few_old old n, one (old n))
+  where
+    one : (b : Bool) → (if b then 1 else 0) ≤ 1
+    one true = omega arith
+    one false = omega arith
+
+-- each thread but the watched one may have begun its call before
+abbrev unwatched : Option ℕ → ℕ → Bool
+unwatched None u = true
+unwatched (Some t) u = not (u == t)
+
+watched_is : (watched : Option ℕ) (u : ℕ) → unwatched watched u ≡ false → watched ≡ Some u
+watched_is None u e = absurd (false≢true (sym e))
+watched_is (Some t) u e = let z : u ≡ t = grind (arith, nat_tests) in ap Some (sym z)
+
+watched_new : (watched : Option ℕ) (t : ℕ) → watched ≡ Some t → unwatched watched t ≡ false
+watched_new None t e = absurd (none-some t e)
+watched_new (Some x) t e = let z : x ≡ t = same_Some x t e in grind (arith, nat_tests)
 
 answer_place : (next : Next) → Ended Busy ≡ outcome_of next → place_after next ≡ None
 answer_place next e = grind arith
 
-module _ (shape : Shape) (again : shape.holds_again ≡ true) (threads : ℕ) (few : threads < shape.n) where
+module _ (shape : Shape) (again : shape.holds_again ≡ true) (threads : ℕ) (few : threads < shape.n) (watched : Option ℕ) where
   undos_next : (world next : World) (outcome : Outcome) (e : Event) (l : Ledger) (b : Begun) (spent : ℕ)
       → LiveAt shape threads (prices shape threads) b world l spent → step shape world e ≡ Ok (next, outcome)
       → UndosAt shape again threads next (ledger_after shape world e l)
@@ -75,7 +99,7 @@ module _ (shape : Shape) (again : shape.holds_again ≡ true) (threads : ℕ) (f
       event_at shape (Undos shape) (undos_table shape again) (undos_begin shape again) (undos_step shape again) (undos_tick shape again)
       world next outcome e l (record { size = h.size; holds = h.live.undos }) made
 
-  module _ (world next : World) (e : Event) (l : Ledger) (steps : ℕ) (h : Stretched shape threads world l steps)
+  module _ (world next : World) (e : Event) (l : Ledger) (steps : ℕ) (h : Stretched shape threads watched world l steps)
       (made : step shape world e ≡ Ok (next, Ended Busy)) (r : Running) (at : place_of world e.thread ≡ Some r)
       (there : next ≡ moved shape world e.thread r) (busy : Ended Busy ≡ outcome_of (advance shape r (found_in shape (word_at world) r)))
     where
@@ -127,7 +151,7 @@ module _ (shape : Shape) (again : shape.holds_again ≡ true) (threads : ℕ) (f
             omega (arith, k, disturbed_bound (word_at next) q, changed, h.turns, h.lost)
       ]
 
-      after_busy : Stretched shape threads next (ledger_after shape world e l) (steps + 1)
+      after_busy : Stretched shape threads watched next (ledger_after shape world e l) (steps + 1)
       after_busy =
           let spent = live_spent shape threads h.b few h.fair l world h.spent h.live in
           let undos = undos_next world next (Ended Busy) e l h.b h.spent h.live made in
@@ -146,10 +170,14 @@ module _ (shape : Shape) (again : shape.holds_again ≡ true) (threads : ℕ) (f
             turns = refl;
             lost = refl;
             all = omega (arith, h.all, spent);
+            new = λ t is. elim (cases_eq t e.thread) [
+              | inl same ↦ noted-same h.b.old e.thread t false same
+              | inr ne ↦ noted-other h.b.old e.thread t false ne ∙ h.new t is
+            ];
           }
 
-  busy_event : (world next : World) (e : Event) (l : Ledger) (steps : ℕ) → Stretched shape threads world l steps
-      → step shape world e ≡ Ok (next, Ended Busy) → Stretched shape threads next (ledger_after shape world e l) (steps + 1)
+  busy_event : (world next : World) (e : Event) (l : Ledger) (steps : ℕ) → Stretched shape threads watched world l steps
+      → step shape world e ≡ Ok (next, Ended Busy) → Stretched shape threads watched next (ledger_after shape world e l) (steps + 1)
   unfolding found
   busy_event world next e l steps h made = elim (stepped shape world e next (Ended Busy) made) [
     | inl s ↦
@@ -158,8 +186,18 @@ module _ (shape : Shape) (again : shape.holds_again ≡ true) (threads : ℕ) (f
     | inr t ↦ absurd (let z = t.outcome_is in cc)
   ]
 
-  fewer_steps : (world : World) (l : Ledger) (few many : ℕ) → few ≤ many → Stretched shape threads world l many
-      → Stretched shape threads world l few
+  busy_old : (world next : World) (e : Event) (l : Ledger) (steps : ℕ) (h : Stretched shape threads watched world l steps)
+      → step shape world e ≡ Ok (next, Ended Busy) → h.b.old e.thread ≡ true
+  unfolding found
+  busy_old world next e l steps h made = elim (stepped shape world e next (Ended Busy) made) [
+    | inl s ↦
+        let at = going_busy shape (place_of world e.thread) e.begin s.running (found_in shape (word_at world) s.running) s.goes s.outcome_is in
+        was_old world next e l steps h made s.running at s.there_is s.outcome_is
+    | inr t ↦ absurd (let z = t.outcome_is in cc)
+  ]
+
+  fewer_steps : (world : World) (l : Ledger) (few many : ℕ) → few ≤ many → Stretched shape threads watched world l many
+      → Stretched shape threads watched world l few
   fewer_steps world l few many le h = record {
     busy = h.busy;
     b = h.b;
@@ -170,14 +208,15 @@ module _ (shape : Shape) (again : shape.holds_again ≡ true) (threads : ℕ) (f
     turns = h.turns;
     lost = h.lost;
     all = omega (arith, le, h.all);
+    new = h.new;
   }
 
   one_step : (begin : Option Begin) → steps_of begin ≤ 1
   one_step begin = grind arith
 
-  stretched_event : (world next : World) (outcome : Outcome) (e : Event) (l : Ledger) (steps : ℕ) → Stretched shape threads world l steps
+  stretched_event : (world next : World) (outcome : Outcome) (e : Event) (l : Ledger) (steps : ℕ) → Stretched shape threads watched world l steps
       → HasTurns (turns_for_progress shape threads) e.begin → step shape world e ≡ Ok (next, outcome) → answers_of (Ok (next, outcome)) ≡ 0
-      → Stretched shape threads next (ledger_after shape world e l) (steps + steps_of e.begin)
+      → Stretched shape threads watched next (ledger_after shape world e l) (steps + steps_of e.begin)
   stretched_event world next Went e l steps h turns made none = record {
     busy = h.busy;
     b = h.b;
@@ -189,18 +228,19 @@ module _ (shape : Shape) (again : shape.holds_again ≡ true) (threads : ℕ) (f
     turns = h.turns;
     lost = h.lost;
     all = omega (arith, h.all);
+    new = h.new;
   }
   stretched_event world next (Ended Busy) e l steps h turns made none =
       fewer_steps next (ledger_after shape world e l) (steps + steps_of e.begin) (steps + 1) (omega (arith, one_step e.begin))
       (busy_event world next e l steps h made)
   stretched_event world next (Ended answer) e l steps h turns made none = absurd (omega (arith, none))
 
-  stretched : (stretch : List Event) (here there : World) (l : Ledger) (steps : ℕ) → Stretched shape threads here l steps
+  stretched : (stretch : List Event) (here there : World) (l : Ledger) (steps : ℕ) → Stretched shape threads watched here l steps
       → AllHaveTurns (turns_for_progress shape threads) stretch → run shape (Some here) stretch ≡ Some there
       → calls_answered shape (Some here) stretch ≡ 0
-      → Stretched shape threads there (ledger_of shape (Some here) stretch l) (steps + call_steps stretch)
+      → Stretched shape threads watched there (ledger_of shape (Some here) stretch l) (steps + call_steps stretch)
   stretched [] here there l steps h turns is none =
-      subst (λ w. Stretched shape threads w l (steps + 0)) (same_Some here there is)
+      subst (λ w. Stretched shape threads watched w l (steps + 0)) (same_Some here there is)
       (fewer_steps here l (steps + 0) steps (omega arith) h)
   stretched (e ∷ es) here there l steps h turns is none =
       let m = first_made shape here e there es is in
@@ -208,13 +248,9 @@ module _ (shape : Shape) (again : shape.holds_again ≡ true) (threads : ℕ) (f
       let k = stretched_event here m.0 m.1.0 e l steps h turns.0 m.1.1.0 (omega (arith, answers)) in
       let all = stretched es m.0 there (ledger_after shape here e l) (steps + steps_of e.begin) k turns.1 m.1.1.1 (omega (arith, answers)) in
       let z : steps + steps_of e.begin + call_steps es ≡ steps + call_steps (e ∷ es) = omega arith in
-      rw m.1.1.0 (subst (λ n. Stretched shape threads there (ledger_of shape (Some m.0) es (ledger_after shape here e l)) n) z all)
+      rw m.1.1.0 (subst (λ n. Stretched shape threads watched there (ledger_of shape (Some m.0) es (ledger_after shape here e l)) n) z all)
 
-  all_old : (n : ℕ) → old_threads (λ _. true) n ≡ n
-  all_old zero = refl
-  all_old (suc n) = omega (arith, all_old n)
-
-  stretched_bound : (world : World) (l : Ledger) (steps : ℕ) → Stretched shape threads world l steps
+  stretched_bound : (world : World) (l : Ledger) (steps : ℕ) → Stretched shape threads watched world l steps
       → steps ≤ (threads + 1) * (most_steps shape threads + 1)
   stretched_bound world l steps h =
       let spent = live_spent shape threads h.b few h.fair l world h.spent h.live in
@@ -222,25 +258,90 @@ module _ (shape : Shape) (again : shape.holds_again ≡ true) (threads : ℕ) (f
       mul-le-mul_right (most_steps shape threads + 1) (omega (arith, h.count)) in
       omega (arith, h.all, spent, m)
 
-  pub some_call_answers : SomeCallAnswers shape threads
-  some_call_answers events stretch here there is made turns none =
+  -- such a stretch may begin at any world
+  stretched_begins : (events : List Event) (here : World) → after shape threads events ≡ Some here
+      → ((t : ℕ) → watched ≡ Some t → place_of here t ≡ None)
+      → Stretched shape threads watched here (ledger_after_all shape threads events) 0
+  stretched_begins events here is idle =
       let l = ledger_after_all shape threads events in
       let undos = undos_after shape again threads events here is in
-      let begun : Stretched shape threads here l 0 = record {
+      record {
         busy = 0;
-        b = at_begin l shape threads here (λ _. true) (turns_for_progress shape threads) 0;
+        b = at_begin l shape threads here (unwatched watched) (turns_for_progress shape threads) 0;
         spent = 0;
-        live = live_begins shape again threads here l (λ _. true) (turns_for_progress shape threads) 0 undos
-            (sound_threads shape threads events here is) (sound shape threads events here is) (λ t r at new. absurd (false≢true (sym new)));
-        fair = fair_begin shape threads l here (λ _. true) (turns_for_progress shape threads) 0 undos.holds.inv.base.ends;
-        count = omega (arith, all_old threads);
+        live = live_begins shape again threads here l (unwatched watched) (turns_for_progress shape threads) 0 undos
+            (sound_threads shape threads events here is) (sound shape threads events here is)
+            (λ t r at new. absurd (none-some r (sym (idle t (watched_is watched t new)) ∙ at)));
+        fair = fair_begin shape threads l here (unwatched watched) (turns_for_progress shape threads) 0 undos.holds.inv.base.ends;
+        count = omega (arith, few_old (unwatched watched) threads);
         turns = refl;
         lost = omega arith;
         all = omega arith;
-      } in
-      let bound = stretched_bound there (ledger_of shape (Some here) stretch l) (0 + call_steps stretch)
-      (stretched stretch here there l 0 begun turns made none) in
-      omega (arith, bound)
+        new = λ t is. watched_new watched t is;
+      }
+
+pub some_call_answers : (shape : Shape) (threads : ℕ) → shape.holds_again ≡ true → threads < shape.n → SomeCallAnswers shape threads
+some_call_answers shape threads again few events stretch here there is made turns none =
+    let l = ledger_after_all shape threads events in
+    let begun = stretched_begins shape again threads few None events here is (λ t is. absurd (none-some t is)) in
+    let bound = stretched_bound shape again threads few None there (ledger_of shape (Some here) stretch l) (0 + call_steps stretch)
+    (stretched shape again threads few None stretch here there l 0 begun turns made none) in
+    omega (arith, bound)
+
+-- a thread is idle before a call begins
+going_idle : (shape : Shape) (place : Option Running) (call : Begin) (r : Running) → going shape place (Some call) ≡ Some r → place ≡ None
+going_idle shape None call r g = refl
+going_idle shape (Some q) call r g = absurd (none-some r g)
+
+idle_before : (shape : Shape) (here there : World) (thread : ℕ) (call : Begin) (events others : List Event)
+    → own thread events ≡ event thread (Some call) ∷ others → run shape (Some here) events ≡ Some there → place_of here thread ≡ None
+idle_before shape here there thread call [] others first is = absurd (cc)
+idle_before shape here there thread call (e ∷ es) others first is =
+    let m = first_made shape here e there es is in
+    elim (own_first thread e es) [
+      | inl mine ↦
+          let both : e ∷ own thread es ≡ event thread (Some call) ∷ others = sym mine.1 ∙ first in
+          let begins : e.begin ≡ Some call = (let h : e ≡ event thread (Some call) = cc in ap (λ (x : Event). x.begin) h) in
+          let idle : place_of here e.thread ≡ None = elim (stepped shape here e m.0 m.1.0 m.1.1.0) [
+            | inl s ↦ going_idle shape (place_of here e.thread) call s.running (ap (going shape (place_of here e.thread)) (sym begins) ∙ s.goes)
+            | inr t ↦ t.idle
+          ] in
+          ap (place_of here) (sym mine.0) ∙ idle
+      | inr other ↦
+          let later : place_of m.0 thread ≡ None = idle_before shape m.0 there thread call es others (sym other.1 ∙ first) m.1.1.1 in
+          sym (other_place shape here e m.0 m.1.0 thread other.0 m.1.1.0) ∙ later
+    ]
+
+turns_before : (least : ℕ) (xs ys : List Event) → AllHaveTurns least (xs ++ ys) → AllHaveTurns least xs
+turns_before least [] ys h = tt
+turns_before least (e ∷ xs) ys h = (h.0, turns_before least xs ys h.1)
+
+counted_before : (shape : Shape) (world : Option World) (xs ys : List Event)
+    → calls_answered shape world xs ≤ calls_answered shape world (xs ++ ys)
+counted_before shape world [] ys = omega arith
+counted_before shape None (e ∷ xs) ys = omega arith
+counted_before shape (Some world) (e ∷ xs) ys = omega (arith, counted_before shape (world_of (step shape world e)) xs ys)
+
+pub busy_means_progress : (shape : Shape) (threads : ℕ) → shape.holds_again ≡ true → threads < shape.n → BusyMeansProgress shape threads
+busy_means_progress shape threads again few thread call old new whole turns =
+    let k = run_before shape (Some (opening shape threads)) whole.before old whole.between whole.reached in
+    rw k.1 (elim (cases_lt 0 (calls_answered shape (Some k.0) (whole.between ++ whole.last ∷ []))) [
+      | inl some ↦ some
+      | inr none ↦
+          let all : run shape (Some k.0) (whole.between ++ whole.last ∷ []) ≡ Some whole.world =
+          run_on shape (Some k.0) whole.before whole.between (whole.last ∷ []) k.2 ∙ ap world_of whole.ends in
+          let idle : place_of k.0 thread ≡ None =
+          idle_before shape k.0 whole.world thread call (whole.between ++ whole.last ∷ []) whole.one_call.others whole.one_call.first all in
+          let begun = stretched_begins shape again threads few (Some thread) old k.0 k.1
+          (λ t is. ap (place_of k.0) (sym (same_Some thread t is)) ∙ idle) in
+          let quiet : calls_answered shape (Some k.0) whole.between ≡ 0 =
+          omega (arith, none, counted_before shape (Some k.0) whole.between (whole.last ∷ [])) in
+          let h = stretched shape again threads few (Some thread) whole.between k.0 whole.before (ledger_after_all shape threads old) 0 begun
+          (turns_before (turns_for_progress shape threads) whole.between (whole.last ∷ []) turns) k.2 quiet in
+          let was = busy_old shape again threads few (Some thread) whole.before whole.world whole.last
+          (ledger_of shape (Some k.0) whole.between (ledger_after_all shape threads old)) (0 + call_steps whole.between) h whole.ends in
+          absurd (false≢true (sym (ap h.b.old whole.last_own ∙ h.new thread refl) ∙ was))
+    ])
 
 -- a call can have so many turns
 pub few_turns : (shape : Shape) (threads : ℕ) → threads ≤ 20 → turns_for_progress shape threads < 65536

@@ -1,5 +1,5 @@
 -- Progress of every schedule: how many steps calls make until one of them ends.
-use Rattle.std.specs.Prelude.{ℕ, ◌≡◌, ◌+◌, ◌*◌, ◌≤◌, Option, Some, None, Result, Ok, Err, List, [], ◌∷◌}
+use Rattle.std.specs.Prelude.{ℕ, ◌≡◌, ◌+◌, ◌*◌, ◌<◌, ◌≤◌, Option, Some, None, Result, Ok, Err, List, [], ◌∷◌, ◌++◌}
 use Rattle.kfifo_words.specs.declared.shape.Shape.{Shape}
 use Rattle.kfifo_model.specs.declared.calls.Answer.TheVariants.{Busy}
 use Rattle.kfifo_machine.specs.declared.event.Begin.{Begin}
@@ -9,6 +9,7 @@ use Rattle.kfifo_machine.specs.declared.event.Outcome.{Outcome}
 use Rattle.kfifo_machine.specs.declared.event.Outcome.TheVariants.{Went, Ended}
 use Rattle.kfifo_machine.specs.declared.event.NotEnabled.{NotEnabled}
 use Rattle.kfifo_machine.specs.Machine.{World, world_of, step, run, after}
+use Rattle.kfifo_machine.specs.Runs.{CompleteExecution}
 
 -- an event is a step of a call, unless it is a tick
 abbrev pub steps_of : Option Begin → ℕ
@@ -94,3 +95,11 @@ SomeCallAnswers shape threads = (events stretch : List Event) (here there : Worl
     → AllHaveTurns (turns_for_progress shape threads) stretch
     → calls_answered shape (Some here) stretch ≡ 0
     → call_steps stretch ≤ (threads + 1) * (most_steps shape threads + 1)
+
+-- Busy means progress: where each call that begins between the first and the last event of a call has enough turns, the
+-- call itself included, it ends with Busy only if another call ended with another answer in between
+abbrev pub BusyMeansProgress : Shape → ℕ → Type 0
+BusyMeansProgress shape threads = (thread : ℕ) (call : Begin) (old new : List Event)
+    (whole : CompleteExecution shape threads thread call Busy old new)
+    → AllHaveTurns (turns_for_progress shape threads) (whole.between ++ whole.last ∷ [])
+    → 0 < calls_answered shape (after shape threads old) (whole.between ++ whole.last ∷ [])

@@ -3,7 +3,7 @@
 
 ghost use Rattle.std.specs.Prelude.{ℕ, ◌≡◌, ◌<◌, ◌≤◌, ◌^◌, true};
 ghost use Rattle.kfifo_words.specs.declared.shape.Shape.{Shape};
-ghost use Rattle.kfifo_progress.specs.Progress.{SomeCallAnswers, SomeCallEnds, turns_for_progress};
+ghost use Rattle.kfifo_progress.specs.Progress.{BusyMeansProgress, SomeCallAnswers, SomeCallEnds, turns_for_progress};
 
 /// Lock-freedom, of every schedule of a shape that holds again and has more segments than there are threads.
 ///
@@ -13,12 +13,14 @@ ghost use Rattle.kfifo_progress.specs.Progress.{SomeCallAnswers, SomeCallEnds, t
 ///
 /// A call that runs out of turns ends with Busy, so with few turns calls may end with nothing but Busy for ever. Where
 /// each call that begins in a stretch has at least `turns_for_progress` turns, and no call ends in it with another answer
-/// than Busy, it has at most `(threads + 1) * (most_steps + 1)` steps of calls. For up to 20 threads a call can have so
-/// many turns, whatever the shape.
+/// than Busy, it has at most `(threads + 1) * (most_steps + 1)` steps of calls. So such a call ends with Busy
+/// only if another one answered meanwhile. For up to 20 threads a call can have so many turns, whatever the shape.
 pub fn every_schedule_makes_progress()
     ensures ends { (shape : Shape) (threads : ℕ) → shape.holds_again ≡ true → threads < shape.n
         → SomeCallEnds shape threads }
     ensures answers { (shape : Shape) (threads : ℕ) → shape.holds_again ≡ true → threads < shape.n
         → SomeCallAnswers shape threads }
+    ensures busy { (shape : Shape) (threads : ℕ) → shape.holds_again ≡ true → threads < shape.n
+        → BusyMeansProgress shape threads }
     ensures turns { (shape : Shape) (threads : ℕ) → threads ≤ 20 → turns_for_progress shape threads < 2 ^ 16 }
 {}
