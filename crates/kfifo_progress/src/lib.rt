@@ -13,8 +13,8 @@ ghost use Rattle.kfifo_progress.specs.Progress.{BusyMeansProgress, SomeCallAnswe
 ///
 /// A call that runs out of turns ends with Busy, so with few turns calls may end with nothing but Busy for ever. Where
 /// each call that begins in a stretch has at least `turns_for_progress` turns, and no call ends in it with another answer
-/// than Busy, it has at most `(threads + 1) * (most_steps + 1)` steps of calls. So such a call ends with Busy
-/// only if another one answered meanwhile. For up to 20 threads a call can have so many turns, whatever the shape.
+/// than Busy, it has at most `(threads + 1) * (most_steps + 1)` steps of calls. So such a call ends with Busy only if
+/// another one answered meanwhile. For up to 20 threads a call can have so many turns, whatever the shape.
 pub fn every_schedule_makes_progress()
     ensures ends { (shape : Shape) (threads : ℕ) → shape.holds_again ≡ true → threads < shape.n
         → SomeCallEnds shape threads }
