@@ -2,7 +2,7 @@
 -- head has passed the visit in which its round began. So of the moves, those of the head count past the visit where the
 -- tail was at the begin of the stretch.
 use Rattle.std.proofs.Common.{◌≡◌, ◌≢◌, ℕ, ◌+◌, ◌*◌, ◌<◌, ◌≤◌, ◌⊎◌, Bool, true, false, inl, inr, refl, ap, arith, Option, Some, None}
-use Rattle.std.specs.Prelude.{nat_lt, max, if◌then◌else◌}
+use Rattle.std.specs.Prelude.{◌==◌, ◌&&◌, nat_lt, max, if◌then◌else◌}
 use Rattle.std.proofs.lemmas.Bool.{cases_Bool, cases_eq, cases_lt}
 use Rattle.std.proofs.lemmas.Bool.Decides.{nat_tests}
 use Rattle.kfifo_linear.proofs.Types.{Running, Shape}
@@ -18,8 +18,8 @@ use Rattle.kfifo_machine.specs.Machine.{place_after}
 use Rattle.kfifo_machine.specs.Places.{IsPlace}
 use Rattle.kfifo_machine.specs.Program.{access, accessed, advance}
 use Rattle.kfifo_progress.proofs.Cost.{ends_move, ends_same, wins, words_same}
-use Rattle.kfifo_progress.proofs.Kept.{goes}
-use Rattle.kfifo_progress.proofs.Spending.{after_goes, sum, sum_falls, won_by}
+use Rattle.kfifo_progress.proofs.Kept.{goes, quiet}
+use Rattle.kfifo_progress.proofs.Spending.{sum, sum_falls, won_by}
 use Rattle.kfifo_progress.proofs.Stretches.{moves_one, others_seen, seen_after}
 use Rattle.kfifo_progress.proofs.Undos.{HasPassed}
 
@@ -68,27 +68,38 @@ changes_bound passed o = grind (arith, nat_tests)
 changes_rise : (passed passed' : Bool) (o : Option Running) → changes_at passed' o ≤ changes_at passed o + 2
 changes_rise passed passed' o = grind (arith, nat_tests)
 
+-- an item that is taken out after the last hold, which lets its thread change two words more
+abbrev pub last_undo : (ℕ → ℕ) → Running → ℕ
+last_undo w (R.Enqueue item start left (E.Undo index filled false)) = if (left == 1) && (w index == filled) then 2 else 0
+last_undo w other = 0
+
+pub last_undo_two : (w : ℕ → ℕ) (r : Running) → last_undo w r ≤ 2
+last_undo_two w r = grind (arith, nat_tests)
+
+pub no_last_undo : (shape : Shape) (w : ℕ → ℕ) (r : Running) → goes (advance shape r (found_in shape w r)) ≡ true → last_undo w r ≡ 0
+no_last_undo shape w r calm = grind (arith, nat_tests)
+
 abbrev undo_left : Running → Type 0
 undo_left (R.Enqueue item start left (E.Undo index filled false)) = left ≢ 1
 undo_left other = ⊥
 
 -- one's own step: one that changes no word, one that changes a slot, one that changes the ends
 module _ (shape : Shape) (w : ℕ → ℕ) (passed passed' : Bool) where
-  changes_own : (r : Running) → wins w (access shape r) ≡ false → goes (advance shape r (found_in shape w r)) ≡ true
+  changes_own : (r : Running) → wins w (access shape r) ≡ false → quiet (advance shape r (found_in shape w r)) ≡ true
       → (at_load r ≡ false → passed' ≡ passed) → (at_load r ≡ true → passed' ≡ false)
-      → IfGoes (λ q. changes passed' q ≤ changes passed r) (advance shape r (found_in shape w r))
+      → changes_at passed' (place_after (advance shape r (found_in shape w r))) ≤ changes passed r
   changes_own (R.Enqueue item start left phase) none calm same new = grind (arith, nat_tests)
   changes_own (R.Dequeue start left phase) none calm same new = grind (arith, nat_tests)
 
   changes_slot : (r : Running) → wins w (access shape r) ≡ true → accessed (access shape r) ≢ 0
-      → goes (advance shape r (found_in shape w r)) ≡ true → (at_load r ≡ false → passed' ≡ passed) → (undo_left r → passed ≡ true)
-      → IfGoes (λ q. changes passed' q + 1 ≤ changes passed r) (advance shape r (found_in shape w r))
+      → quiet (advance shape r (found_in shape w r)) ≡ true → (at_load r ≡ false → passed' ≡ passed) → (undo_left r → passed ≡ true)
+      → changes_at passed' (place_after (advance shape r (found_in shape w r))) + 1 ≤ changes passed r + last_undo w r
   changes_slot (R.Enqueue item start left phase) won slot calm same undo = grind (arith, nat_tests)
   changes_slot (R.Dequeue start left phase) won slot calm same undo = grind (arith, nat_tests)
 
   changes_ends : (r : Running) → IsPlace shape r → wins w (access shape r) ≡ true → accessed (access shape r) ≡ 0
-      → goes (advance shape r (found_in shape w r)) ≡ true
-      → IfGoes (λ q. changes passed' q ≤ changes passed r) (advance shape r (found_in shape w r))
+      → quiet (advance shape r (found_in shape w r)) ≡ true
+      → changes_at passed' (place_after (advance shape r (found_in shape w r))) ≤ changes passed r
   changes_ends (R.Enqueue item start left phase) place won at calm = grind (arith, nat_tests)
   changes_ends (R.Dequeue start left phase) place won at calm = grind (arith, nat_tests)
 
@@ -100,7 +111,7 @@ passes_undo from l t r passed last = absurd (grind arith)
 
 module _ (shape : Shape) (threads from : ℕ) (w : ℕ → ℕ) (p : ℕ → Option Running) (l : Ledger) (t : ℕ) (r : Running) (e : p t ≡ Some r)
     (in_range : t < threads) (s : Sane shape r) (place : IsPlace shape r) (ok : EndsOk shape (w 0) l.head l.tail)
-    (calm : goes (advance shape r (found_in shape w r)) ≡ true) (undo : HasPassed l t r) (reached : from ≤ l.tail) where
+    (calm : quiet (advance shape r (found_in shape w r)) ≡ true) (undo : HasPassed l t r) (reached : from ≤ l.tail) where
   change : EndsChange w (words_by (access shape r) w) l (stepped shape w t r l)
   change = ends_change shape w l t r s ok
 
@@ -134,24 +145,21 @@ module _ (shape : Shape) (threads from : ℕ) (w : ℕ → ℕ) (p : ℕ → Opt
       let z : words_by (access shape r) w 0 ≡ w 0 = ap (λ f. f 0) (words_same w (access shape r) none) in
       let top_same : top from (stepped shape w t r l) ≡ top from l = ap (λ h. max h from) (change.head_kept z) in
       let passed' = has_passed from (stepped shape w t r l) t in
-      let o = after_goes (λ _. changes_at passed') w (λ c. c ≤ changes (has_passed from l t) r) (advance shape r (found_in shape w r)) calm
-      (changes_own shape w (has_passed from l t) passed' r none calm (own_same top_same) (own_new (change.head_kept z))) in
+      let o = changes_own shape w (has_passed from l t) passed' r none calm (own_same top_same) (own_new (change.head_kept z)) in
       let k = sum_falls (λ u. changes_at (has_passed from l u)) (λ u. changes_at (has_passed from (stepped shape w t r l) u)) p t threads
       (place_after (advance shape r (found_in shape w r))) 0 (others_same top_same) 0 0 in_range (rw e (omega (arith, o))) in
       omega (arith, k)
 
   slot_changed : wins w (access shape r) ≡ true → accessed (access shape r) ≢ 0
       → to_change from (stepped shape w t r l) (noted p t (place_after (advance shape r (found_in shape w r)))) threads + 1
-      ≤ to_change from l p threads
+      ≤ to_change from l p threads + last_undo w r
   slot_changed won slot =
       let z : words_by (access shape r) w 0 ≡ w 0 = ends_same w (access shape r) slot in
       let top_same : top from (stepped shape w t r l) ≡ top from l = ap (λ h. max h from) (change.head_kept z) in
       let passed' = has_passed from (stepped shape w t r l) t in
-      let o = after_goes (λ _. changes_at passed') w (λ c. c + 1 ≤ changes (has_passed from l t) r)
-      (advance shape r (found_in shape w r)) calm
-      (changes_slot shape w (has_passed from l t) passed' r won slot calm (own_same top_same) (passes_undo from l t r undo)) in
+      let o = changes_slot shape w (has_passed from l t) passed' r won slot calm (own_same top_same) (passes_undo from l t r undo) in
       let k = sum_falls (λ u. changes_at (has_passed from l u)) (λ u. changes_at (has_passed from (stepped shape w t r l) u)) p t threads
-      (place_after (advance shape r (found_in shape w r))) 0 (others_same top_same) 0 1 in_range (rw e (omega (arith, o))) in
+      (place_after (advance shape r (found_in shape w r))) 0 (others_same top_same) (last_undo w r) 1 in_range (rw e (omega (arith, o))) in
       omega (arith, k)
 
   -- a move of an end lets others change words only where the head goes past
@@ -162,8 +170,7 @@ module _ (shape : Shape) (threads from : ℕ) (w : ℕ → ℕ) (p : ℕ → Opt
       ≤ to_change from l p threads + threads * c
   ends_changed won at c others =
       let passed' = has_passed from (stepped shape w t r l) t in
-      let o = after_goes (λ _. changes_at passed') w (λ c. c ≤ changes (has_passed from l t) r) (advance shape r (found_in shape w r)) calm
-      (changes_ends shape w (has_passed from l t) passed' r place won at calm) in
+      let o = changes_ends shape w (has_passed from l t) passed' r place won at calm in
       let k = sum_falls (λ u. changes_at (has_passed from l u)) (λ u. changes_at (has_passed from (stepped shape w t r l) u)) p t threads
       (place_after (advance shape r (found_in shape w r))) c others 0 0 in_range (rw e (omega (arith, o))) in
       omega (arith, k)
@@ -177,7 +184,7 @@ module _ (shape : Shape) (threads from : ℕ) (w : ℕ → ℕ) (p : ℕ → Opt
   -- each change of a word is one of those that the threads may make
   pub changes_made : to_change from (stepped shape w t r l) (noted p t (place_after (advance shape r (found_in shape w r)))) threads
       + won_by shape w r + (l.head + l.tail) + threads * 2 * top from l
-      ≤ to_change from l p threads + ((stepped shape w t r l).head + (stepped shape w t r l).tail)
+      ≤ to_change from l p threads + last_undo w r + ((stepped shape w t r l).head + (stepped shape w t r l).tail)
       + threads * 2 * top from (stepped shape w t r l)
   changes_made =
       elim (cases_Bool (wins w (access shape r))) [

@@ -1,6 +1,6 @@
 -- How many steps a thread may still make, and what others pay for them: a round is in vain only where a word that the
 -- thread remembers was changed.
-use Rattle.std.proofs.Common.{◌≡◌, ◌≢◌, ℕ, ◌+◌, ◌*◌, ◌≤◌, Bool, true, false, refl, arith}
+use Rattle.std.proofs.Common.{◌≡◌, ◌≢◌, ℕ, ◌+◌, ◌*◌, ◌≤◌, Bool, true, false, refl, arith, Option, Some, None}
 use Rattle.std.specs.Prelude.{◌==◌, if◌then◌else◌}
 use Rattle.std.proofs.lemmas.Bool.Decides.{nat_tests}
 use Rattle.std.proofs.Math.Path.{fun_ext}
@@ -17,9 +17,10 @@ use Rattle.kfifo_linear.proofs.Abstract.{noted-other, words_by}
 use Rattle.kfifo_linear.proofs.Claims.{IfGoes}
 use Rattle.kfifo_linear.specs.Ledger.{Ledger, found_in, stepped}
 use Rattle.kfifo_machine.proofs.Places.{dequeue_budget, enqueue_budget}
+use Rattle.kfifo_machine.specs.Machine.{place_after}
 use Rattle.kfifo_machine.specs.Places.{IsPlace}
 use Rattle.kfifo_machine.specs.Program.{access, accessed, advance}
-use Rattle.kfifo_progress.proofs.Kept.{goes}
+use Rattle.kfifo_progress.proofs.Kept.{quiet}
 
 -- what a round costs; what a thread has for the others when it puts an item; and what it gets where the ends changed
 pub record Prices : Type 0 where
@@ -63,6 +64,11 @@ abbrev pub cost : Shape → Prices → (ℕ → ℕ) → Running → ℕ
 cost shape x w (R.Enqueue item start left phase) = enqueue_cost shape x w phase
 cost shape x w (R.Dequeue start left phase) = dequeue_cost shape x w phase
 
+-- the same where an idle thread begins a call
+abbrev pub cost_at : Shape → Prices → (ℕ → ℕ) → Option Running → ℕ
+cost_at shape x w None = x.round + x.put
+cost_at shape x w (Some r) = cost shape x w r
+
 -- whether an access changes a word
 abbrev pub wins : (ℕ → ℕ) → Access → Bool
 wins w (Load index) = false
@@ -90,28 +96,28 @@ cost_bound shape threads x w q enough = grind (arith, nat_tests)
 
 -- a step that changes no word
 pub falls_own : (shape : Shape) (threads : ℕ) (x : Prices) (w : ℕ → ℕ) (r : Running) → AreEnough shape threads x → IsPlace shape r
-    → wins w (access shape r) ≡ false → goes (advance shape r (found_in shape w r)) ≡ true
-    → IfGoes (λ q. cost shape x w q + 1 ≤ cost shape x w r) (advance shape r (found_in shape w r))
+    → wins w (access shape r) ≡ false → quiet (advance shape r (found_in shape w r)) ≡ true
+    → cost_at shape x w (place_after (advance shape r (found_in shape w r))) + 1 ≤ cost shape x w r
 falls_own shape threads x w (R.Enqueue item start left phase) enough place none calm = grind (arith, nat_tests)
 falls_own shape threads x w (R.Dequeue start left phase) enough place none calm = grind (arith, nat_tests)
 
 -- a step that changes the ends
 pub moves_own : (shape : Shape) (threads : ℕ) (x : Prices) (w w' : ℕ → ℕ) (r : Running) → AreEnough shape threads x → IsPlace shape r
-    → goes (advance shape r (found_in shape w r)) ≡ true
-    → IfGoes (λ q. cost shape x w' q ≤ cost shape x w r + (x.ends + x.ends + x.round)) (advance shape r (found_in shape w r))
+    → quiet (advance shape r (found_in shape w r)) ≡ true
+    → cost_at shape x w' (place_after (advance shape r (found_in shape w r))) ≤ cost shape x w r + (x.ends + x.ends + x.round)
 moves_own shape threads x w w' (R.Enqueue item start left phase) enough place calm = grind (arith, nat_tests)
 moves_own shape threads x w w' (R.Dequeue start left phase) enough place calm = grind (arith, nat_tests)
 
 -- a step that changes a slot leaves each thread what one round costs
 pub slot_own : (shape : Shape) (threads : ℕ) (x : Prices) (w w' : ℕ → ℕ) (r : Running) → AreEnough shape threads x → IsPlace shape r
-    → wins w (access shape r) ≡ true → accessed (access shape r) ≢ 0 → goes (advance shape r (found_in shape w r)) ≡ true → w' 0 ≡ w 0
-    → IfGoes (λ q. cost shape x w' q + (1 + x.put) ≤ cost shape x w r) (advance shape r (found_in shape w r))
+    → wins w (access shape r) ≡ true → accessed (access shape r) ≢ 0 → quiet (advance shape r (found_in shape w r)) ≡ true → w' 0 ≡ w 0
+    → cost_at shape x w' (place_after (advance shape r (found_in shape w r))) + (1 + x.put) ≤ cost shape x w r
 slot_own shape threads x w w' (R.Enqueue item start left phase) enough place won slot calm same = grind (arith, nat_tests)
 slot_own shape threads x w w' (R.Dequeue start left phase) enough place won slot calm same = grind (arith, nat_tests)
 
 -- one that changes the ends while its call goes on moves head or tail
 pub ends_move : (shape : Shape) (w : ℕ → ℕ) (l : Ledger) (t : ℕ) (r : Running) → wins w (access shape r) ≡ true
-    → accessed (access shape r) ≡ 0 → IsPlace shape r → goes (advance shape r (found_in shape w r)) ≡ true
+    → accessed (access shape r) ≡ 0 → IsPlace shape r → quiet (advance shape r (found_in shape w r)) ≡ true
     → (stepped shape w t r l).head + (stepped shape w t r l).tail ≡ l.head + l.tail + 1
 unfolding stepped
 ends_move shape w l t (R.Enqueue item start left phase) won at place calm = grind (arith, nat_tests)

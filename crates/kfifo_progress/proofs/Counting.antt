@@ -1,6 +1,8 @@
 -- No more things than places, if no two are in one place; and sums over threads.
-use Rattle.std.proofs.Common.{◌≡◌, ◌≢◌, ℕ, zero, suc, ◌+◌, ◌*◌, ◌<◌, ◌≤◌, ◌⊎◌, inl, inr, sym, ◌∙◌, subst, arith}
-use Rattle.std.specs.Prelude.{◌==◌, if◌then◌else◌}
+use Rattle.std.proofs.Common.{◌≡◌, ◌≢◌, ℕ, zero, suc, ◌+◌, ◌*◌, ◌<◌, ◌≤◌, ◌⊎◌, inl, inr, sym, ◌∙◌, subst, arith, refl}
+use Rattle.std.specs.Prelude.{◌==◌, if◌then◌else◌, Bool, true, false}
+use Rattle.kfifo_linear.proofs.Abstract.{noted-other, noted-same}
+use Rattle.kfifo_linear.specs.Ledger.{noted}
 use Rattle.std.proofs.lemmas.Bool.{cases_eq}
 use Rattle.std.proofs.lemmas.Bool.Decides.{nat_tests}
 
@@ -53,3 +55,28 @@ total_falls f g (suc n) a c rise fall b own h = elim (cases_eq a n) [
       omega (arith, o, total_rises f g n c (λ i z. h i (omega arith) (omega arith)))
   | inr ne ↦ omega (arith, h n (omega arith) (λ z. ne (sym z)), total_falls f g n a c rise fall (omega arith) own (λ i z. h i (omega arith)))
 ]
+
+-- how many threads are old
+abbrev pub old_threads : (ℕ → Bool) → ℕ → ℕ
+old_threads old threads = total (λ t. if old t then 1 else 0) threads
+
+pub few_old : (old : ℕ → Bool) (n : ℕ) → old_threads old n ≤ n
+few_old old zero = omega arith
+few_old old (suc n) = omega (arith, few_old old n, one (old n))
+  where
+    one : (b : Bool) → (if b then 1 else 0) ≤ 1
+    one true = omega arith
+    one false = omega arith
+
+-- one fewer, after an old thread is one no more
+pub fewer_old : (old : ℕ → Bool) (n t : ℕ) → t < n → old t ≡ true → old_threads (noted old t false) n + 1 ≤ old_threads old n
+fewer_old old n t within was_old =
+    let k = total_falls (λ u. if old u then 1 else 0) (λ u. if noted old t false u then 1 else 0) n t 0 0 1 within (own (old t) was_old)
+    (λ u _ ne. other u ne) in
+    omega (arith, k)
+  where
+    own : (b : Bool) → b ≡ true → (if noted old t false t then 1 else 0) + 1 ≤ (if b then 1 else 0) + 0
+    own b was = rw (noted-same old t t false refl, was) (omega arith)
+
+    other : (u : ℕ) → u ≢ t → (if noted old t false u then 1 else 0) ≤ (if old u then 1 else 0) + 0
+    other u ne = rw (noted-other old t u false ne) (omega arith)

@@ -4,8 +4,9 @@ use Rattle.std.proofs.Common.{◌≡◌, ◌≢◌, ℕ, ◌+◌, ◌-◌, ◌*�
 use Rattle.std.proofs.Common.{is_some}
 use Rattle.std.specs.Prelude.{nat_le, ◌==◌, ◌&&◌, if◌then◌else◌}
 use Rattle.std.proofs.Math.Nat.{div-mul-le_self, mul-le-mul_right}
-use Rattle.std.proofs.lemmas.Bool.{cases_eq, cases_lt}
+use Rattle.std.proofs.lemmas.Bool.{cases_eq, cases_lt, false≢true}
 use Rattle.std.proofs.lemmas.Bool.Decides.{nat_tests}
+use Rattle.kfifo_model.specs.declared.calls.Answer.TheVariants.{Busy}
 use Rattle.kfifo_linear.proofs.Types.{Next, Running, Shape}
 use Rattle.kfifo_machine.specs.declared.place.EnqueuePhase.TheVariants as E
 use Rattle.kfifo_machine.specs.declared.place.Next.TheVariants.{Answers, Goes}
@@ -54,6 +55,16 @@ abbrev pub goes : Next → Bool
 goes (Goes running) = true
 goes (Answers answer) = false
 
+-- or after which it ends with Busy
+abbrev pub quiet : Next → Bool
+quiet (Goes running) = true
+quiet (Answers Busy) = true
+quiet (Answers answer) = false
+
+pub goes_quiet : (next : Next) → goes next ≡ true → quiet next ≡ true
+goes_quiet (Goes running) e = refl
+goes_quiet (Answers answer) e = absurd (false≢true e)
+
 below_product : (n k q : ℕ) → q * k < n * k → q < n
 below_product n k q h = elim (cases_lt q n) [
   | inl lt ↦ lt
@@ -69,7 +80,7 @@ module _ (shape : Shape) (w : ℕ → ℕ) (l : Ledger) (t : ℕ) (charge : ℕ 
   grows r v h = grind (arith, nat_tests, noted_tells)
 
   -- no step but an undo empties a slot while no item is taken
-  filled_stays : (r : Running) (i : ℕ) → Sane shape r → goes (advance shape r (found_in shape w r)) ≡ true → is_undo r ≡ false
+  filled_stays : (r : Running) (i : ℕ) → Sane shape r → quiet (advance shape r (found_in shape w r)) ≡ true → is_undo r ≡ false
       → 0 < i → value_of (words_by (access shape r) w i) ≡ 0 → value_of (w i) ≡ 0
   filled_stays r i s calm not_undo pos e = grind (arith, nat_tests, noted_tells, filled_with-value)
 
@@ -89,7 +100,7 @@ module _ (shape : Shape) (w : ℕ → ℕ) (l : Ledger) (t : ℕ) (charge : ℕ 
       rw ok.head (d.0, omega arith, omega (arith, d.1))
 
   -- what is kept of a visit between head and tail stays so
-  pub keeps : (r : Running) (Slots : ℕ → Type 0) (v : ℕ) → Sane shape r → goes (advance shape r (found_in shape w r)) ≡ true
+  pub keeps : (r : Running) (Slots : ℕ → Type 0) (v : ℕ) → Sane shape r → quiet (advance shape r (found_in shape w r)) ≡ true
       → l.head ≤ v → v ≤ l.tail → Kept shape w charge Slots v
       → Kept shape (words_by (access shape r) w) (charge_after shape w l t r charge) Slots v
   keeps (R.Enqueue item start left (E.Undo index filled worn)) Slots v s calm from to k =

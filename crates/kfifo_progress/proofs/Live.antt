@@ -3,7 +3,9 @@ use Rattle.std.proofs.Common.{◌≡◌, ℕ, ◌+◌, ◌*◌, ◌<◌, ◌≤�
 use Rattle.std.proofs.Common.{Some, None}
 use Rattle.std.proofs.lemmas.Bool.{cases_eq, false≢true}
 use Rattle.std.proofs.lemmas.Bool.Decides.{nat_tests}
-use Rattle.std.proofs.lemmas.Option.{same_Some}
+use Rattle.std.proofs.lemmas.Option.{none-some, same_Some}
+use Rattle.kfifo_model.specs.declared.calls.Answer.TheVariants.{Busy}
+use Rattle.kfifo_machine.specs.declared.place.Next.TheVariants.{Answers}
 use Rattle.kfifo_linear.proofs.Types.{Begin, Running, Shape}
 use Rattle.kfifo_linear.proofs.Abstract.{noted-other, noted-same, words_by}
 use Rattle.kfifo_linear.proofs.Base.{Sane}
@@ -17,14 +19,14 @@ use Rattle.kfifo_machine.specs.Program.{access, advance}
 use Rattle.kfifo_words.specs.Ring.{clock_at}
 use Rattle.kfifo_words.specs.Words.{value_of}
 use Rattle.kfifo_progress.proofs.Charges.{HasKept, HasKept-others}
-use Rattle.kfifo_progress.proofs.Cost.{AreEnough, Prices, cost}
-use Rattle.kfifo_progress.proofs.Counting.{total_rises}
-use Rattle.kfifo_progress.proofs.Kept.{Every, Kept, charge_after, goes}
-use Rattle.kfifo_progress.proofs.Changing.{changes_at, changes_made, has_passed, to_change, top}
+use Rattle.kfifo_progress.proofs.Cost.{AreEnough, Prices, cost, cost_at}
+use Rattle.kfifo_progress.proofs.Counting.{few_old, fewer_old, old_threads, total_rises}
+use Rattle.kfifo_progress.proofs.Kept.{Every, Kept, charge_after, goes, goes_quiet, quiet}
+use Rattle.kfifo_progress.proofs.Changing.{changes_at, changes_made, has_passed, last_undo_two, no_last_undo, to_change, top}
 use Rattle.kfifo_progress.proofs.Rounds.{disturbed, rounds_left}
-use Rattle.kfifo_progress.proofs.Spending.{cost_at, move_price, others_disturbed, own_rounds, purse}
+use Rattle.kfifo_progress.proofs.Spending.{move_price, others_disturbed, own_rounds, purse}
 use Rattle.kfifo_progress.proofs.Spending.{spends, won_by}
-use Rattle.kfifo_progress.proofs.Stretches.{Stretch, stretch_step}
+use Rattle.kfifo_progress.proofs.Stretches.{Stretch, stretch_ends, stretch_step}
 use Rattle.kfifo_progress.specs.Progress.{HasTurns}
 use Rattle.kfifo_progress.proofs.Undos.{Undos, undos_begin, undos_step, undos_tick}
 
@@ -35,22 +37,24 @@ pub record Begun : Type 0 where
   pub ends : ℕ
   pub purse : ℕ
   pub to_change : ℕ
-  pub old : ℕ → Bool
+  pub names : ℕ
+  pub spare : ℕ
   pub turns : ℕ
   pub lost : ℕ
 
-pub record Live (shape : Shape) (threads : ℕ) (x : Prices) (b : Begun) (w : ℕ → ℕ) (p : ℕ → Option Running) (l : Ledger) (spent : ℕ)
+pub record Live (shape : Shape) (threads : ℕ) (x : Prices) (b : Begun) (old : ℕ → Bool) (w : ℕ → ℕ) (p : ℕ → Option Running) (l : Ledger) (spent : ℕ)
     : Type 0 where
   pub undos : Undos shape w p l
+  pub names : threads ≤ b.names
   pub charge : ℕ → Option ℕ
-  pub stretch : Stretch shape threads b.tail w p l charge
+  pub stretch : Stretch shape threads b.names b.tail old w p l charge
   pub account : spent + purse shape x w p threads + move_price x threads * b.ends
       ≤ b.purse + move_price x threads * (l.head + l.tail)
   pub changed : ℕ
   pub reached : b.tail ≤ l.tail
-  pub changes : changed + to_change b.tail l p threads + b.ends + threads * 2 * b.tail
+  pub changes : changed + to_change b.tail l p threads + b.spare * old_threads old threads + b.ends + threads * 2 * b.tail
       ≤ b.to_change + (l.head + l.tail) + threads * 2 * top b.tail l
-  pub young : (t : ℕ) (r : Running) → p t ≡ Some r → b.old t ≡ false
+  pub young : (t : ℕ) (r : Running) → p t ≡ Some r → old t ≡ false
       → b.turns + disturbed w r ≤ rounds_left r + b.lost + 1 + changed
 
 kept_same : (shape : Shape) (w w' : ℕ → ℕ) (charge : ℕ → Option ℕ) (Slots : ℕ → Type 0) (v : ℕ)
@@ -81,25 +85,28 @@ begun_kept : (shape : Shape) (from : ℕ) (w : ℕ → ℕ) (l : Ledger) (charge
     → HasKept shape from w l charge r
 begun_kept shape from w l charge b r g = grind arith
 
-module _ (shape : Shape) (again : shape.holds_again ≡ true) (threads : ℕ) (x : Prices) (enough : AreEnough shape threads x) (b : Begun)
-    (w : ℕ → ℕ) (p : ℕ → Option Running) (l : Ledger) (spent : ℕ) (h : Live shape threads x b w p l spent) where
+module _ (shape : Shape) (again : shape.holds_again ≡ true) (threads : ℕ) (x : Prices) (enough : AreEnough shape threads x) (b : Begun) (old : ℕ → Bool)
+    (w : ℕ → ℕ) (p : ℕ → Option Running) (l : Ledger) (spent : ℕ) (h : Live shape threads x b old w p l spent) where
+  -- a step after which the call goes on
   pub live_step : (t : ℕ) (r : Running) → p t ≡ Some r → t < threads → IsPlace shape r
       → goes (advance shape r (found_in shape w r)) ≡ true
-      → Live shape threads x b (words_by (access shape r) w) (noted p t (place_after (advance shape r (found_in shape w r))))
+      → Live shape threads x b old (words_by (access shape r) w) (noted p t (place_after (advance shape r (found_in shape w r))))
       (stepped shape w t r l) (spent + 1)
   live_step t r e in_range place calm =
+      let calm_too = goes_quiet (advance shape r (found_in shape w r)) calm in
       record {
+        names = h.names;
         undos = undos_step shape again w p l t r h.undos e;
         charge = charge_after shape w l t r h.charge;
-        stretch = stretch_step shape threads b.tail w p l t r h.charge h.undos e calm in_range h.stretch;
+        stretch = stretch_step shape threads b.tail w p l t r h.charge h.undos e in_range b.names old h.stretch calm h.names;
         account =
-            let k = spends shape threads x enough w p l t r e in_range (h.undos.inv.base.sane t r e) place h.undos.inv.base.ends calm in
+            let k = spends shape threads x enough w p l t r e in_range (h.undos.inv.base.sane t r e) place h.undos.inv.base.ends calm_too in
             omega (arith, k, h.account);
         changed = h.changed + won_by shape w r;
         changes =
-            let k = changes_made shape threads b.tail w p l t r e in_range (h.undos.inv.base.sane t r e) place h.undos.inv.base.ends calm
+            let k = changes_made shape threads b.tail w p l t r e in_range (h.undos.inv.base.sane t r e) place h.undos.inv.base.ends calm_too
             (h.undos.passed t r e) h.reached in
-            omega (arith, k, h.changes);
+            omega (arith, k, h.changes, no_last_undo shape w r calm);
         reached =
             let change = ends_change shape w l t r (h.undos.inv.base.sane t r e) h.undos.inv.base.ends in
             omega (arith, h.reached, change.tail_rise);
@@ -108,13 +115,54 @@ module _ (shape : Shape) (again : shape.holds_again ≡ true) (threads : ℕ) (x
               let k = goes_at (λ q. rounds_left r + disturbed (words_by (access shape r) w) q
               ≤ rounds_left q + won_by shape w r + disturbed w r) (advance shape r (found_in shape w r)) q
               (sym (noted-same p t u (place_after (advance shape r (found_in shape w r))) same) ∙ f)
-              (own_rounds shape threads x enough w p l t r e in_range (h.undos.inv.base.sane t r e) place h.undos.inv.base.ends calm) in
-              omega (arith, k, h.young t r e (ap b.old (sym same) ∙ new))
+              (own_rounds shape threads x enough w p l t r e in_range (h.undos.inv.base.sane t r e) place h.undos.inv.base.ends calm_too) in
+              omega (arith, k, h.young t r e (ap old (sym same) ∙ new))
+          | inr ne ↦
+              let g : p u ≡ Some q = sym (noted-other p t u (place_after (advance shape r (found_in shape w r))) ne) ∙ f in
+              let k = others_disturbed shape threads x enough w p l t r e in_range (h.undos.inv.base.sane t r e) place
+              h.undos.inv.base.ends calm_too q in
+              omega (arith, k, h.young u q g new)
+        ];
+      }
+
+  -- the step with which a thread's first call in the stretch ends, with Busy
+  pub live_ends : (t : ℕ) (r : Running) → p t ≡ Some r → t < threads → IsPlace shape r
+      → advance shape r (found_in shape w r) ≡ Answers Busy → old t ≡ true → b.names ≡ 2 * threads → b.spare ≡ 2
+      → ((u : ℕ) (q : Running) → p u ≡ Some q → u < threads)
+      → Live shape threads x b (noted old t false) (words_by (access shape r) w)
+      (noted p t (place_after (advance shape r (found_in shape w r)))) (stepped shape w t r l) (spent + 1)
+  live_ends t r e in_range place busy was_old names spare range =
+      let calm : quiet (advance shape r (found_in shape w r)) ≡ true = ap quiet busy in
+      let gone : place_after (advance shape r (found_in shape w r)) ≡ None = ap place_after busy in
+      record {
+        names = h.names;
+        undos = undos_step shape again w p l t r h.undos e;
+        charge = charge_after shape w l (threads + t) r h.charge;
+        stretch = stretch_ends shape threads b.tail w p l t r h.charge h.undos e in_range b.names old h.stretch calm gone was_old names
+            range;
+        account =
+            let k = spends shape threads x enough w p l t r e in_range (h.undos.inv.base.sane t r e) place h.undos.inv.base.ends calm in
+            omega (arith, k, h.account);
+        changed = h.changed + won_by shape w r;
+        changes =
+            let k = changes_made shape threads b.tail w p l t r e in_range (h.undos.inv.base.sane t r e) place h.undos.inv.base.ends calm
+            (h.undos.passed t r e) h.reached in
+            let fewer = fewer_old old threads t in_range was_old in
+            let s1 : b.spare * old_threads old threads ≡ 2 * old_threads old threads = ap (λ z. z * old_threads old threads) spare in
+            let s2 : b.spare * old_threads (noted old t false) threads ≡ 2 * old_threads (noted old t false) threads =
+            ap (λ z. z * old_threads (noted old t false) threads) spare in
+            omega (arith, k, h.changes, fewer, s1, s2, last_undo_two w r);
+        reached =
+            let change = ends_change shape w l t r (h.undos.inv.base.sane t r e) h.undos.inv.base.ends in
+            omega (arith, h.reached, change.tail_rise);
+        young = λ u q f new. elim (cases_eq u t) [
+          | inl same ↦ absurd (none-some q (sym gone ∙ sym (noted-same p t u (place_after (advance shape r (found_in shape w r))) same)
+              ∙ f))
           | inr ne ↦
               let g : p u ≡ Some q = sym (noted-other p t u (place_after (advance shape r (found_in shape w r))) ne) ∙ f in
               let k = others_disturbed shape threads x enough w p l t r e in_range (h.undos.inv.base.sane t r e) place
               h.undos.inv.base.ends calm q in
-              omega (arith, k, h.young u q g new)
+              omega (arith, k, h.young u q g (sym (noted-other old t u false ne) ∙ new))
         ];
       }
 
@@ -139,10 +187,11 @@ module _ (shape : Shape) (again : shape.holds_again ≡ true) (threads : ℕ) (x
   ]
 
   pub live_begin : (t : ℕ) (begin : Begin) (r : Running) → p t ≡ None → may_begin shape begin ≡ true → begun begin ≡ Some r
-      → HasTurns b.turns (Some begin) → Live shape threads x b w (noted p t (Some r)) (called t begin l) spent
+      → HasTurns b.turns (Some begin) → Live shape threads x b old w (noted p t (Some r)) (called t begin l) spent
   unfolding called
   live_begin t begin r idle may g turns =
       record {
+        names = h.names;
         undos = undos_begin shape again w p l t begin r h.undos idle may g;
         charge = h.charge;
         stretch = record {
@@ -166,6 +215,7 @@ module _ (shape : Shape) (again : shape.holds_again ≡ true) (threads : ℕ) (x
           ];
           apart = h.stretch.apart;
           within = h.stretch.within;
+          second = h.stretch.second;
         };
         account =
             let k = total_rises (λ u. cost_at shape x w (p u)) (λ u. cost_at shape x w (noted p t (Some r) u)) threads 0
@@ -185,11 +235,12 @@ module _ (shape : Shape) (again : shape.holds_again ≡ true) (threads : ℕ) (x
         ];
       }
 
-  pub live_tick : Live shape threads x b (noted w (clock_at shape.k shape.n) (w (clock_at shape.k shape.n) + 1)) p
+  pub live_tick : Live shape threads x b old (noted w (clock_at shape.k shape.n) (w (clock_at shape.k shape.n) + 1)) p
       (record l { now = l.now + 1 }) spent
   live_tick =
       let z = ticked_word shape w (w (clock_at shape.k shape.n) + 1) in
       record {
+        names = h.names;
         undos = undos_tick shape again w p l h.undos;
         charge = h.charge;
         stretch = record {
@@ -206,6 +257,7 @@ module _ (shape : Shape) (again : shape.holds_again ≡ true) (threads : ℕ) (x
           to_round = h.stretch.to_round;
           apart = h.stretch.apart;
           within = h.stretch.within;
+          second = h.stretch.second;
         };
         account =
             let k = total_rises (λ u. cost_at shape x w (p u))

@@ -14,7 +14,7 @@ use Rattle.kfifo_linear.specs.Ledger.{found_in}
 use Rattle.kfifo_machine.specs.Places.{IsPlace}
 use Rattle.kfifo_machine.specs.Program.{access, advance}
 use Rattle.kfifo_progress.proofs.Cost.{wins}
-use Rattle.kfifo_progress.proofs.Kept.{goes}
+use Rattle.kfifo_progress.proofs.Kept.{quiet}
 
 -- whether a word that a thread remembers for this round has changed
 abbrev pub differs : (ℕ → ℕ) → ℕ → ℕ → ℕ
@@ -65,13 +65,13 @@ disturbed_bound w q = grind (arith, nat_tests)
 module _ (shape : Shape) (w w' : ℕ → ℕ) where
   -- one's own step that changes no word
   pub rounds_own : (r : Running) → IsPlace shape r → wins w (access shape r) ≡ false
-      → goes (advance shape r (found_in shape w r)) ≡ true
+      → quiet (advance shape r (found_in shape w r)) ≡ true
       → IfGoes (λ q. rounds_left r + disturbed w q ≤ rounds_left q + disturbed w r) (advance shape r (found_in shape w r))
   rounds_own (R.Enqueue item start left phase) place none calm = grind (arith, nat_tests)
   rounds_own (R.Dequeue start left phase) place none calm = grind (arith, nat_tests)
 
   -- one that changes a word
-  pub rounds_change : (r : Running) → IsPlace shape r → wins w (access shape r) ≡ true → goes (advance shape r (found_in shape w r)) ≡ true
+  pub rounds_change : (r : Running) → IsPlace shape r → wins w (access shape r) ≡ true → quiet (advance shape r (found_in shape w r)) ≡ true
       → IfGoes (λ q. rounds_left r + disturbed w' q ≤ rounds_left q + 1 + disturbed w r) (advance shape r (found_in shape w r))
   rounds_change (R.Enqueue item start left phase) place won calm = grind (arith, nat_tests)
   rounds_change (R.Dequeue start left phase) place won calm = grind (arith, nat_tests)

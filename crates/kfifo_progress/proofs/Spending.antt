@@ -12,10 +12,10 @@ use Rattle.kfifo_machine.proofs.NoWrap.{EndsOk}
 use Rattle.kfifo_machine.specs.Machine.{place_after}
 use Rattle.kfifo_machine.specs.Places.{IsPlace}
 use Rattle.kfifo_machine.specs.Program.{access, accessed, advance}
-use Rattle.kfifo_progress.proofs.Cost.{AreEnough, Prices, cost, ends_move, ends_same, falls_own, moves_own, others_rise}
+use Rattle.kfifo_progress.proofs.Cost.{AreEnough, Prices, cost, cost_at, ends_move, ends_same, falls_own, moves_own, others_rise}
 use Rattle.kfifo_progress.proofs.Cost.{others_rise_little, slot_own, wins, words_same}
 use Rattle.kfifo_progress.proofs.Counting.{total, total_falls, total_rises}
-use Rattle.kfifo_progress.proofs.Kept.{goes}
+use Rattle.kfifo_progress.proofs.Kept.{quiet}
 use Rattle.kfifo_progress.proofs.Rounds.{disturbed, disturbed_rises, rounds_change, rounds_left, rounds_own}
 
 -- what a step changes of a sum over all threads, of what is said of each thread and its place
@@ -38,11 +38,6 @@ module _ (f g : ℕ → Option Running → ℕ) (p : ℕ → Option Running) (t 
       total_rises (λ u. f u (p u)) (λ u. g u (noted p t next u)) threads c
       (λ u _. elim (cases_eq u t) [ inl same ↦ rw (same, noted-same p t t next refl) own | inr ne ↦ other u ne ])
 
--- what a place costs, where an idle thread begins a call
-abbrev pub cost_at : Shape → Prices → (ℕ → ℕ) → Option Running → ℕ
-cost_at shape x w None = x.round + x.put
-cost_at shape x w (Some r) = cost shape x w r
-
 -- what all threads may spend
 abbrev pub purse : Shape → Prices → (ℕ → ℕ) → (ℕ → Option Running) → ℕ → ℕ
 purse shape x w p threads = sum (λ _. cost_at shape x w) p threads
@@ -55,18 +50,13 @@ move_price x threads = threads * (x.ends + x.ends + x.round) + 1
 abbrev pub won_by : Shape → (ℕ → ℕ) → Running → ℕ
 won_by shape w r = if wins w (access shape r) then 1 else 0
 
-pub after_goes : (f : (ℕ → ℕ) → Option Running → ℕ) (w : ℕ → ℕ) (P : ℕ → Type 0) (next : Next) → goes next ≡ true
-    → IfGoes (λ q. P (f w (Some q))) next → P (f w (place_after next))
-after_goes f w P (Goes q) calm h = h
-after_goes f w P (Answers answer) calm h = absurd (false≢true calm)
-
 pub if_goes : (P Q : Running → Type 0) → ((q : Running) → P q → Q q) → (next : Next) → IfGoes P next → IfGoes Q next
 if_goes P Q on (Goes q) h = on q h
 if_goes P Q on (Answers answer) h = tt
 
 module _ (shape : Shape) (threads : ℕ) (x : Prices) (enough : AreEnough shape threads x) (w : ℕ → ℕ) (p : ℕ → Option Running) (l : Ledger)
     (t : ℕ) (r : Running) (e : p t ≡ Some r) (in_range : t < threads) (s : Sane shape r) (place : IsPlace shape r)
-    (ok : EndsOk shape (w 0) l.head l.tail) (calm : goes (advance shape r (found_in shape w r)) ≡ true) where
+    (ok : EndsOk shape (w 0) l.head l.tail) (calm : quiet (advance shape r (found_in shape w r)) ≡ true) where
   next : Option Running
   next = place_after (advance shape r (found_in shape w r))
 
@@ -78,8 +68,7 @@ module _ (shape : Shape) (threads : ℕ) (x : Prices) (enough : AreEnough shape 
       → purse shape x (words_by (access shape r) w) (noted p t (place_after (advance shape r (found_in shape w r)))) threads + 1
       ≤ purse shape x w p threads
   none_changed none =
-      let o = after_goes (cost_at shape x) w (λ c. c + 1 ≤ cost shape x w r) (advance shape r (found_in shape w r)) calm
-      (falls_own shape threads x w r enough place none calm) in
+      let o = falls_own shape threads x w r enough place none calm in
       let k = sum_falls (λ _. cost_at shape x w) (λ _. cost_at shape x w) p t threads (place_after (advance shape r (found_in shape w r))) 0
       (λ u o _. omega arith) 0 1
       in_range (rw e (omega (arith, o))) in
@@ -90,9 +79,7 @@ module _ (shape : Shape) (threads : ℕ) (x : Prices) (enough : AreEnough shape 
       ≤ purse shape x w p threads
   slot_changed won slot =
       let same = ends_same w (access shape r) slot in
-      let o = after_goes (cost_at shape x) (words_by (access shape r) w) (λ c. c + (1 + x.put) ≤ cost shape x w r)
-      (advance shape r (found_in shape w r)) calm
-      (slot_own shape threads x w (words_by (access shape r) w) r enough place won slot calm same) in
+      let o = slot_own shape threads x w (words_by (access shape r) w) r enough place won slot calm same in
       let k = sum_falls (λ _. cost_at shape x w) (λ _. cost_at shape x (words_by (access shape r) w)) p t threads (place_after (advance shape r (found_in shape w r)))
       x.round (λ u o _. others_little (words_by (access shape r) w) same o) 0 (1 + x.put) in_range (rw e (omega (arith, o))) in
       omega (arith, k, enough.put)
@@ -104,8 +91,7 @@ module _ (shape : Shape) (threads : ℕ) (x : Prices) (enough : AreEnough shape 
   ends_changed : purse shape x (words_by (access shape r) w) (noted p t (place_after (advance shape r (found_in shape w r)))) threads + 1
       ≤ purse shape x w p threads + move_price x threads
   ends_changed =
-      let o = after_goes (cost_at shape x) (words_by (access shape r) w) (λ c. c ≤ cost shape x w r + (x.ends + x.ends + x.round))
-      (advance shape r (found_in shape w r)) calm (moves_own shape threads x w (words_by (access shape r) w) r enough place calm) in
+      let o = moves_own shape threads x w (words_by (access shape r) w) r enough place calm in
       let k = sum_rises (λ _. cost_at shape x w) (λ _. cost_at shape x (words_by (access shape r) w)) p t threads (place_after (advance shape r (found_in shape w r)))
       (x.ends + x.ends + x.round) (λ u o _. others_much (words_by (access shape r) w) o) (rw e o) in
       omega (arith, k)

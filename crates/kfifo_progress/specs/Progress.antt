@@ -1,5 +1,5 @@
 -- Progress of every schedule: how many steps calls make until one of them ends.
-use Rattle.std.specs.Prelude.{ℕ, ◌≡◌, ◌+◌, ◌*◌, ◌<◌, ◌≤◌, Option, Some, None, Result, Ok, Err, List, [], ◌∷◌, ◌++◌}
+use Rattle.std.specs.Prelude.{Bool, nat_lt, if◌then◌else◌, ℕ, ◌≡◌, ◌+◌, ◌*◌, ◌<◌, ◌≤◌, Option, Some, None, Result, Ok, Err, List, [], ◌∷◌, ◌++◌}
 use Rattle.kfifo_words.specs.declared.shape.Shape.{Shape}
 use Rattle.kfifo_model.specs.declared.calls.Answer.TheVariants.{Busy}
 use Rattle.kfifo_machine.specs.declared.event.Begin.{Begin}
@@ -62,17 +62,17 @@ round_steps shape = 2 * shape.k + 9
 
 -- The bounds of a stretch in which no call ends: how often head and tail are moved, how many words are changed, and how
 -- many steps are made. A thread puts an item into a slot or takes one out three times at most, and twice more after each
--- move of the head past the visit in which the tail was first, of which there are at most threads + 1
+-- move of the head past the visit in which the tail was first, of which there are at most `past`
 abbrev pub most_moves : Shape → ℕ → ℕ
-most_moves shape threads = 2 * (threads + shape.n)
+most_moves shape past = 2 * (past + shape.n)
 
-abbrev pub most_changes : Shape → ℕ → ℕ
-most_changes shape threads = 3 * threads + 2 * threads * (threads + 1) + most_moves shape threads
+abbrev pub most_changes : Shape → ℕ → ℕ → ℕ
+most_changes shape threads past = 3 * threads + 2 * threads * (past + 1) + most_moves shape past
 
-abbrev pub most_steps : Shape → ℕ → ℕ
-most_steps shape threads =
+abbrev pub most_steps : Shape → ℕ → ℕ → ℕ
+most_steps shape threads past =
     threads * (round_steps shape * (5 * threads + 3))
-    + most_moves shape threads * (threads * (round_steps shape * (4 * threads + 3)) + 1)
+    + most_moves shape past * (threads * (round_steps shape * (4 * threads + 3)) + 1)
 
 -- Where no call ends, few steps are made, whatever the turns of the calls
 abbrev pub SomeCallEnds : Shape → ℕ → Type 0
@@ -80,12 +80,24 @@ SomeCallEnds shape threads = (events stretch : List Event) (here there : World)
     → after shape threads events ≡ Some here
     → run shape (Some here) stretch ≡ Some there
     → calls_ended shape (Some here) stretch ≡ 0
-    → call_steps stretch ≤ most_steps shape threads
+    → call_steps stretch ≤ most_steps shape threads threads
 
--- turns that no call loses before some call answers: it loses at most one round for each word that changes, and one
--- more, until a call ends; and each thread may have one call that ends with Busy, as it began before
+-- Turns that no call loses before some call answers, and the steps until then. A call loses at most one round for each
+-- word that changes, and one more, until a call ends; and each thread may have one call that ends with Busy, as it began
+-- before. In a ring with more than twice as many segments as threads this Busy costs two more changes of words, in a
+-- smaller one all begins again
+abbrev pub is_wide : Shape → ℕ → Bool
+is_wide shape threads = nat_lt (2 * threads) shape.n
+
 abbrev pub turns_for_progress : Shape → ℕ → ℕ
-turns_for_progress shape threads = (threads + 1) * (most_changes shape threads + 1) + 2
+turns_for_progress shape threads =
+    if is_wide shape threads then most_changes shape threads (2 * threads) + 2 * threads + 3
+    else (threads + 1) * (most_changes shape threads threads + 1) + 2
+
+abbrev pub steps_to_answer : Shape → ℕ → ℕ
+steps_to_answer shape threads =
+    if is_wide shape threads then most_steps shape threads (2 * threads)
+    else (threads + 1) * (most_steps shape threads threads + 1)
 
 -- Where calls begin with enough turns, and none ends with another answer than Busy, few steps are made
 abbrev pub SomeCallAnswers : Shape → ℕ → Type 0
@@ -94,7 +106,7 @@ SomeCallAnswers shape threads = (events stretch : List Event) (here there : Worl
     → run shape (Some here) stretch ≡ Some there
     → AllHaveTurns (turns_for_progress shape threads) stretch
     → calls_answered shape (Some here) stretch ≡ 0
-    → call_steps stretch ≤ (threads + 1) * (most_steps shape threads + 1)
+    → call_steps stretch ≤ steps_to_answer shape threads
 
 -- Busy means progress: where each call that begins between the first and the last event of a call has enough turns, the
 -- call itself included, it ends with Busy only if another call ended with another answer in between

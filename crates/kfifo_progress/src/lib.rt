@@ -1,7 +1,7 @@
 //! Progress: whatever the schedule, some call answers after a bounded number of steps.
 #![tactic(auto)]
 
-ghost use Rattle.std.specs.Prelude.{ℕ, ◌≡◌, ◌<◌, ◌≤◌, ◌^◌, true};
+ghost use Rattle.std.specs.Prelude.{ℕ, ◌≡◌, ◌<◌, ◌≤◌, ◌^◌, ◌*◌, true};
 ghost use Rattle.kfifo_words.specs.declared.shape.Shape.{Shape};
 ghost use Rattle.kfifo_progress.specs.Progress.{BusyMeansProgress, SomeCallAnswers, SomeCallEnds, turns_for_progress};
 
@@ -22,5 +22,6 @@ pub fn every_schedule_makes_progress()
         → SomeCallAnswers shape threads }
     ensures busy { (shape : Shape) (threads : ℕ) → shape.holds_again ≡ true → threads < shape.n
         → BusyMeansProgress shape threads }
-    ensures turns { (shape : Shape) (threads : ℕ) → threads ≤ 20 → turns_for_progress shape threads < 2 ^ 16 }
+    ensures turns { (shape : Shape) (threads : ℕ) → threads ≤ 64 → 2 * threads < shape.n
+        → turns_for_progress shape threads < 2 ^ 16 }
 {}
