@@ -1,10 +1,10 @@
 -- Where calls begin with enough turns, Busy comes at most once from each thread before some call ends with another
 -- answer. So a stretch with no other answer is at most so many stretches in which no call ends.
-use Rattle.std.proofs.Common.{◌≡◌, ◌≢◌, ℕ, zero, suc, ◌+◌, ◌*◌, ◌<◌, ◌≤◌, Bool, true, false, inl, inr, refl, sym, ◌∙◌, ap, subst, arith}
+use Rattle.std.proofs.Common.{◌≡◌, ℕ, ◌+◌, ◌*◌, ◌<◌, ◌≤◌, Bool, true, false, inl, inr, refl, sym, ◌∙◌, ap, subst, arith}
 use Rattle.std.proofs.Common.{List, [], ◌∷◌, ◌++◌, Option, Some, None, Ok}
 use Rattle.std.specs.Prelude.{◌==◌, not, if◌then◌else◌}
 use Rattle.std.proofs.Math.Nat.{mul-le-mul_left, mul-le-mul_right}
-use Rattle.std.proofs.lemmas.Bool.{lt-ltb, ltb-true, cases_Bool, cases_eq, cases_lt, false≢true}
+use Rattle.std.proofs.lemmas.Bool.{lt-ltb, ltb-false, ltb-true, cases_Bool, cases_eq, cases_lt, false≢true}
 use Rattle.std.proofs.lemmas.Bool.Decides.{nat_tests}
 use Rattle.std.proofs.lemmas.Option.{none-some, same_Some}
 use Rattle.kfifo_machine.specs.declared.place.Next.TheVariants.{Answers, Goes}
@@ -443,3 +443,14 @@ few_turns shape threads few is_wide_ring =
     let wide : is_wide shape threads ≡ true = lt-ltb (2 * threads) shape.n is_wide_ring in
     let square : 2 * threads * (2 * threads + 1) ≤ 2 * threads * 129 = mul-le-mul_left (2 * threads) (omega (arith, few)) in
     rw wide (omega (arith, square, few, n))
+
+pub turns_of_few : (shape : Shape) (threads : ℕ) → threads ≤ 29 → turns_for_progress shape threads < 65536
+turns_of_few shape threads few = elim (cases_Bool (is_wide shape threads)) [
+  | inl wide ↦ few_turns shape threads (omega (arith, few)) (ltb-true (2 * threads) shape.n wide)
+  | inr narrow ↦
+      let n : shape.n ≤ 2 * threads = ltb-false (2 * threads) shape.n narrow in
+      let square : 2 * threads * (threads + 1) ≤ 2 * threads * 30 = mul-le-mul_left (2 * threads) (omega (arith, few)) in
+      let lost : most_changes shape threads threads + 1 ≤ 2002 = omega (arith, square, few, n) in
+      let all : (threads + 1) * (most_changes shape threads threads + 1) ≤ (threads + 1) * 2002 = mul-le-mul_left (threads + 1) lost in
+      rw narrow (omega (arith, all, few))
+]

@@ -11,7 +11,7 @@ use Rattle.kfifo_machine.specs.declared.place.EnqueuePhase.TheVariants as E
 use Rattle.kfifo_machine.specs.declared.place.Running.TheVariants as R
 use Rattle.kfifo_linear.proofs.Abstract.{words_by}
 use Rattle.kfifo_linear.proofs.Base.{Sane}
-use Rattle.kfifo_linear.proofs.Claims.{EndsChange, IfGoes, at_load, ends_change}
+use Rattle.kfifo_linear.proofs.Claims.{EndsChange, at_load, ends_change}
 use Rattle.kfifo_linear.specs.Ledger.{Ledger, found_in, noted, stepped}
 use Rattle.kfifo_machine.proofs.NoWrap.{EndsOk}
 use Rattle.kfifo_machine.specs.Machine.{place_after}

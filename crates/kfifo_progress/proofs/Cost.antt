@@ -14,7 +14,6 @@ use Rattle.kfifo_machine.specs.declared.place.EnqueuePhase.TheVariants as E
 use Rattle.kfifo_machine.specs.declared.place.Found.TheVariants.{Nothing, Slot}
 use Rattle.kfifo_machine.specs.declared.place.Running.TheVariants as R
 use Rattle.kfifo_linear.proofs.Abstract.{noted-other, words_by}
-use Rattle.kfifo_linear.proofs.Claims.{IfGoes}
 use Rattle.kfifo_linear.specs.Ledger.{Ledger, found_in, stepped}
 use Rattle.kfifo_machine.proofs.Places.{dequeue_budget, enqueue_budget}
 use Rattle.kfifo_machine.specs.Machine.{place_after}

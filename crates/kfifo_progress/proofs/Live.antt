@@ -20,7 +20,7 @@ use Rattle.kfifo_words.specs.Ring.{clock_at}
 use Rattle.kfifo_words.specs.Words.{value_of}
 use Rattle.kfifo_progress.proofs.Charges.{HasKept, HasKept-others}
 use Rattle.kfifo_progress.proofs.Cost.{AreEnough, Prices, cost, cost_at}
-use Rattle.kfifo_progress.proofs.Counting.{few_old, fewer_old, old_threads, total_rises}
+use Rattle.kfifo_progress.proofs.Counting.{fewer_old, old_threads, total_rises}
 use Rattle.kfifo_progress.proofs.Kept.{Every, Kept, charge_after, goes, goes_quiet, quiet}
 use Rattle.kfifo_progress.proofs.Changing.{changes_at, changes_made, has_passed, last_undo_two, no_last_undo, to_change, top}
 use Rattle.kfifo_progress.proofs.Rounds.{disturbed, rounds_left}

@@ -1,7 +1,7 @@
 -- What all threads together may still spend: each step of a call spends some of it, and each move of an end adds to it.
 use Rattle.std.proofs.Common.{◌≡◌, ◌≢◌, ℕ, ◌+◌, ◌*◌, ◌<◌, ◌≤◌, true, false, inl, inr, refl, ap, arith, Option, Some, None}
 use Rattle.std.specs.Prelude.{if◌then◌else◌}
-use Rattle.std.proofs.lemmas.Bool.{cases_Bool, cases_eq, false≢true}
+use Rattle.std.proofs.lemmas.Bool.{cases_Bool, cases_eq}
 use Rattle.kfifo_linear.proofs.Types.{Next, Running, Shape}
 use Rattle.kfifo_machine.specs.declared.place.Next.TheVariants.{Answers, Goes}
 use Rattle.kfifo_linear.proofs.Abstract.{noted-other, noted-same, words_by}
@@ -12,7 +12,7 @@ use Rattle.kfifo_machine.proofs.NoWrap.{EndsOk}
 use Rattle.kfifo_machine.specs.Machine.{place_after}
 use Rattle.kfifo_machine.specs.Places.{IsPlace}
 use Rattle.kfifo_machine.specs.Program.{access, accessed, advance}
-use Rattle.kfifo_progress.proofs.Cost.{AreEnough, Prices, cost, cost_at, ends_move, ends_same, falls_own, moves_own, others_rise}
+use Rattle.kfifo_progress.proofs.Cost.{AreEnough, Prices, cost_at, ends_move, ends_same, falls_own, moves_own, others_rise}
 use Rattle.kfifo_progress.proofs.Cost.{others_rise_little, slot_own, wins, words_same}
 use Rattle.kfifo_progress.proofs.Counting.{total, total_falls, total_rises}
 use Rattle.kfifo_progress.proofs.Kept.{quiet}

@@ -13,8 +13,10 @@ ghost use Rattle.kfifo_progress.specs.Progress.{BusyMeansProgress, SomeCallAnswe
 ///
 /// A call that runs out of turns ends with Busy, so with few turns calls may end with nothing but Busy for ever. Where
 /// each call that begins in a stretch has at least `turns_for_progress` turns, and no call ends in it with another answer
-/// than Busy, it has at most `(threads + 1) * (most_steps + 1)` steps of calls. So such a call ends with Busy only if
-/// another one answered meanwhile. For up to 20 threads a call can have so many turns, whatever the shape.
+/// than Busy, it has at most `steps_to_answer` steps of calls. So such a call ends with Busy only if another one answered
+/// meanwhile.
+///
+/// A call can have so many turns with up to 29 threads, and with up to 64 if there are more than twice as many segments.
 pub fn every_schedule_makes_progress()
     ensures ends { (shape : Shape) (threads : ℕ) → shape.holds_again ≡ true → threads < shape.n
         → SomeCallEnds shape threads }
@@ -22,6 +24,7 @@ pub fn every_schedule_makes_progress()
         → SomeCallAnswers shape threads }
     ensures busy { (shape : Shape) (threads : ℕ) → shape.holds_again ≡ true → threads < shape.n
         → BusyMeansProgress shape threads }
+    ensures few_threads { (shape : Shape) (threads : ℕ) → threads ≤ 29 → turns_for_progress shape threads < 2 ^ 16 }
     ensures turns { (shape : Shape) (threads : ℕ) → threads ≤ 64 → 2 * threads < shape.n
         → turns_for_progress shape threads < 2 ^ 16 }
 {}
