@@ -62,7 +62,7 @@ round_steps shape = 2 * shape.k + 9
 
 -- The bounds of a stretch in which no call ends: how often head and tail are moved, how many words are changed, and how
 -- many steps are made. A thread puts an item into a slot or takes one out three times at most, and twice more after each
--- move of the head past the visit in which the tail was first, of which there are at most `past`
+-- move of the head past the visit in which the tail was first, of which there are at most `past + 1`
 abbrev pub most_moves : Shape → ℕ → ℕ
 most_moves shape past = 2 * (past + shape.n)
 
