@@ -1,5 +1,6 @@
-// The queue's machine, with unlimited rounds, and with versions that never run out. A changed word never comes back, so
-// what a thread remembers of a word counts only by whether it is still the word. That leaves finitely many states.
+// The queue's machine, with versions that never run out, and with any number of rounds or a limited one. A changed word
+// never comes back, so what a thread remembers of a word counts only by whether it is still the word. That leaves
+// finitely many states.
 //
 // The places are those of crates/kfifo_machine/src/place.rt, and each step is that of specs/Program.antt there.
 #ifndef KFIFO_PROGRESS_MACHINE_HPP
@@ -34,6 +35,7 @@ constexpr const char *ANSWERS[] = {"", "done", "full", "got", "empty"};
 struct Sizes {
     int k, segments, enqueuers, dequeuers;
     bool holds_again;
+    int turns = 0; // of each call; 0 for any number of rounds
 
     int threads() const { return enqueuers + dequeuers; }
 };
@@ -45,6 +47,7 @@ struct Thread {
     Call call = Call::enqueue;
     bool is_calling = false;
     Place place = Place::LoadEnds; // the step that it makes next
+    int left = 0;                  // the rounds that its call has, this one among them; 0 for any number
     int start = 0;                 // the slot at which its scans begin
     int offset = 0;                // how many slots its scan has seen
     int segment = 0;               // the segment that it scans, or that of its slot
@@ -81,6 +84,7 @@ class Machine {
         Thread &me = state.threads[thread];
         if (!me.is_calling) {
             me.is_calling = true;
+            me.left = sizes.turns;
             me.start = start;
         }
         return me.call == Call::enqueue ? enqueue(state, me) : dequeue(state, me);
@@ -127,8 +131,19 @@ class Machine {
         return outcome;
     }
 
-    // The round ends, and the next one begins.
-    static void again(Thread &me) { me.place = Place::LoadEnds; }
+    // The round ends, and the next one begins. After the last one the call returns Busy, which is no answer here.
+    static void again(Thread &me) {
+        if (me.left == 1) {
+            end(me, Answer::none);
+        } else {
+            lose_round(me);
+            me.place = Place::LoadEnds;
+        }
+    }
+
+    static void lose_round(Thread &me) {
+        if (me.left > 0) me.left--;
+    }
 
     // The call ends.
     static Answer end(Thread &me, Answer answer) {
@@ -197,8 +212,11 @@ inline Outcome Machine::enqueue(State &state, Thread &me) const {
     case Place::HoldHead:
         if (exchange_ends(state, me, outcome)) {
             outcome.answer = end(me, Answer::done);
+        } else if (sizes.holds_again && me.left != 1) {
+            lose_round(me);
+            me.place = Place::ReloadSlot;
         } else {
-            me.place = sizes.holds_again ? Place::ReloadSlot : Place::Undo;
+            me.place = Place::Undo;
         }
         break;
     case Place::Undo:

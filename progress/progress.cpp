@@ -3,13 +3,18 @@
 //
 //     progress K SEGMENTS ENQUEUERS DEQUEUERS once|again
 //     progress K SEGMENTS ENQUEUERS DEQUEUERS once|again STEPS SEED
+//     progress K SEGMENTS ENQUEUERS DEQUEUERS once|again stretch TURNS
 //
 // With `again` an enqueue that loses its hold of the head tries again, with `once` it takes its item out. The first
 // form prints how many states there are, and `no endless schedule`, or one: its scripts, as `kfifo replay` takes them,
 // and a line for each step up to the cycle and of the cycle. A line is that of `kfifo replay --trace` without its
-// number and without the words. The second form prints a schedule of so many steps that is drawn at random.
+// number and without the words. The second form prints a schedule of so many steps that is drawn at random. The third
+// form prints how many steps, moves of head and tail and changes of words a stretch has at most in which no call ends
+// with an answer, or that one is endless. Its calls have so many turns, or any number with 0, and may return Busy,
+// which is no answer.
 #include "states.hpp"
 
+#include <algorithm>
 #include <cstdlib>
 #include <iostream>
 #include <optional>
@@ -30,6 +35,18 @@ struct Move {
 struct Schedule {
     std::vector<Move> moves;
     size_t cycle = 0;
+};
+
+// What a stretch without an answer has at most: steps, moves of head and tail, and changes of words.
+struct Longest {
+    uint32_t steps = 0, moves = 0, changes = 0;
+
+    // Counts a step that is made before a stretch.
+    void count(const Longest &after, bool is_move, bool is_change) {
+        steps = std::max(steps, after.steps + 1);
+        moves = std::max(moves, after.moves + is_move);
+        changes = std::max(changes, after.changes + is_change);
+    }
 };
 
 std::string text_of(int number, const Thread &before, const Outcome &outcome) {
@@ -102,7 +119,46 @@ class Reached {
         return unfold(way_to(*at), cycle_at(*at));
     }
 
+    // Returns what a stretch without an answer has at most, or nothing if one is endless. The search is in depth: it
+    // comes to a state again, and counts a step, when it knows what can follow the step.
+    std::optional<Longest> longest() const {
+        enum Mark : uint8_t { unseen, on_path, done };
+        std::vector<Mark> marks(count(), unseen);
+        std::vector<Longest> most(count());
+        std::vector<std::pair<uint32_t, int>> path;
+        Longest all;
+        for (uint32_t root = 0; root < count(); root++) {
+            if (marks[root] == unseen) path.push_back({root, 0});
+            while (!path.empty()) {
+                auto &[at, tried] = path.back();
+                marks[at] = on_path;
+                if (tried == machine.sizes.threads() * machine.sizes.k) {
+                    marks[at] = done;
+                    all.steps = std::max(all.steps, most[at].steps);
+                    all.moves = std::max(all.moves, most[at].moves);
+                    all.changes = std::max(all.changes, most[at].changes);
+                    path.pop_back();
+                } else if (const auto step = step_without_answer(at, tried); !step) {
+                    tried++;
+                } else if (marks[step->to] == on_path) {
+                    return {};
+                } else if (marks[step->to] == unseen) {
+                    path.push_back({step->to, 0});
+                } else {
+                    most[at].count(most[step->to], step->is_move, step->is_change);
+                    tried++;
+                }
+            }
+        }
+        return all;
+    }
+
   private:
+    struct Step {
+        uint32_t to;
+        bool is_move, is_change;
+    };
+
     struct From {
         uint32_t state;
         Move move;
@@ -123,6 +179,19 @@ class Reached {
         if (machine.step(state, thread, 0).answer != Answer::none) return {};
         Order order;
         return places.at(states.number(state, order));
+    }
+
+    // One of the steps after a state: of each thread, which begins a call with each start if it is idle. Nothing if
+    // the step returns an answer, or is none.
+    std::optional<Step> step_without_answer(uint32_t at, int choice) const {
+        State state = states.state(numbers[at]);
+        const int thread = choice / machine.sizes.k, start = choice % machine.sizes.k;
+        if (state.threads[thread].is_calling && start > 0) return {};
+        const Outcome outcome = machine.step(state, thread, start);
+        if (outcome.answer != Answer::none) return {};
+        Order order;
+        const bool is_change = outcome.exchanges && outcome.is_won;
+        return Step{places.at(states.number(state, order)), is_change && outcome.segment < 0, is_change};
     }
 
     // Returns a state from which steps without an answer lead back to it, by a search in depth.
@@ -215,6 +284,17 @@ void print_endless(const Machine &machine) {
     }
 }
 
+void print_longest(const Machine &machine) {
+    const Reached reached(machine);
+    std::cout << "states " << reached.count() << '\n';
+    if (const auto longest = reached.longest()) {
+        std::cout << "at most " << longest->steps << " steps, " << longest->moves << " moves, " << longest->changes
+                  << " changes\n";
+    } else {
+        std::cout << "an endless schedule\n";
+    }
+}
+
 // Prints a schedule in which the threads make up to six steps at a time.
 void print_drawn(const Machine &machine, int steps, uint64_t seed) {
     std::mt19937_64 random(seed);
@@ -259,13 +339,18 @@ Sizes sizes_of(char **words) {
 
 int main(int count, char **words) {
     if (count != 6 && count != 8) {
-        std::cerr << "usage: progress K SEGMENTS ENQUEUERS DEQUEUERS once|again [STEPS SEED]\n";
+        std::cerr << "usage: progress K SEGMENTS ENQUEUERS DEQUEUERS once|again [STEPS SEED | stretch TURNS]\n";
         return 2;
     }
     try {
-        const Machine machine(sizes_of(words + 1));
+        Sizes sizes = sizes_of(words + 1);
+        const bool is_stretch = count == 8 && std::string(words[6]) == "stretch";
+        if (is_stretch) sizes.turns = number_of(words[7], 0, 1'000);
+        const Machine machine(sizes);
         if (count == 6) {
             print_endless(machine);
+        } else if (is_stretch) {
+            print_longest(machine);
         } else {
             print_drawn(machine, number_of(words[6], 1, 10'000), number_of(words[7], 0, 1'000'000'000));
         }

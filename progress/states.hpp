@@ -94,6 +94,7 @@ class States {
         const int place = field(thread.is_calling ? static_cast<int>(thread.place) + 1 : 0, PLACE_BITS);
         thread.is_calling = place != 0;
         thread.place = place == 0 ? Place::LoadEnds : static_cast<Place>(place - 1);
+        thread.left = field(thread.left, bits_for(sizes.turns + 1));
         thread.start = field(thread.start, slot_bits);
         thread.offset = field(thread.offset, slot_bits);
         thread.segment = field(thread.segment, segment_bits);
@@ -125,7 +126,7 @@ class States {
 
     // Forgets what no later step depends on.
     static void forget(Thread &thread) {
-        if (!thread.is_calling) thread.start = 0;
+        if (!thread.is_calling) thread.start = thread.left = 0;
         if (!needs_ends(thread)) thread.is_ends_same = false;
         if (!needs_slot(thread)) {
             thread.is_slot_same = false;

@@ -1,0 +1,12 @@
+pub mod Counting
+pub mod Undos
+pub mod Kept
+pub mod Charges
+pub mod Stretches
+pub mod Cost
+pub mod Rounds
+pub mod Spending
+pub mod Changing
+pub mod Live
+pub mod Schedule
+pub mod Answers
