@@ -1,6 +1,6 @@
 -- What a call with a payload leaves of its pass, and what it did.
-use Rattle.std.proofs.Common.{◌≡◌, ℕ, zero, suc, ◌+◌, ◌-◌, ◌*◌, ◌^◌, ◌<◌, ◌≤◌, List, [], ◌∷◌, ◌++◌, reverse, Option, Some, None, refl, sym}
-use Rattle.std.proofs.Common.{Bool}
+use Rattle.std.proofs.Common.{◌≡◌, ℕ, zero, suc, ◌+◌, ◌-◌, ◌*◌, ◌<◌, ◌≤◌, List, [], ◌∷◌, ◌++◌, reverse, Option, Some, None, refl, sym}
+use Rattle.std.proofs.Common.{Bool, true}
 use Rattle.std.proofs.Common.{ap, ◌∙◌, subst, arith, mul-le-mul_right}
 use Rattle.std.proofs.lemmas.List.{append_assoc, reverse-append}
 use Rattle.atomic_table.specs.Table.{Me}
@@ -10,16 +10,16 @@ use Rattle.kfifo_model.specs.declared.calls.Answer.TheVariants as A
 use Rattle.kfifo_machine.specs.declared.event.Begin.TheVariants as B
 use Rattle.kfifo_machine.specs.declared.place.Next.TheVariants.{Answers}
 use Rattle.kfifo_machine.specs.Runs.{CompleteExecution, event, own}
-use Rattle.kfifo_live.specs.declared.payload.Given.TheVariants as G
 use Rattle.kfifo_live.specs.declared.payload.Taken.TheVariants as K
 use Rattle.kfifo_live.specs.Hands.{FitsOwn, Gifts, InTurn, IsGift, Leaves, BeginsWith, beside, carried, carrying, gift, out_next}
 use Rattle.kfifo_live.specs.Schedule.{AllGiven, GiftsFit, IsSmall, count_up, part, thread_in, more_in, hand_in, both_parts, first_part}
-use Rattle.kfifo_live.specs.Schedule.{thread_of, seen_of, gifts_of, hand_of, with_seen}
+use Rattle.kfifo_live.specs.Schedule.{thread_of, seen_of, gifts_of, hand_of, with_seen, with_home, with_resting, resting_view}
 use Rattle.kfifo_live.specs.Step.{IsAt, DrawsToken, Leads, Looks}
 use Rattle.kfifo_live.specs.Pass.{PassView, OpenQueue, pass_view}
 use Rattle.kfifo_live.specs.Calls.{MakesCall}
 use Rattle.kfifo_live.specs.Payloads.{new_pay_passes, pay_pass_view, HasTokens, GivesOn, EnqueuesWith, DequeuesWith, Refuses}
-use Rattle.kfifo_live.specs.Payloads.{TakesOut, TookWhatWasPut}
+use Rattle.kfifo_live.specs.Payloads.{PayPassView, TakesOut, TookWhatWasPut}
+use Rattle.kfifo_live.specs.Tokens.{IsTokenPass}
 use Rattle.kfifo_live.proofs.Givers.{took_what_was_put}
 use Rattle.kfifo_live.proofs.Made.{makes_call}
 use Rattle.kfifo_live.proofs.NewPasses.{no_slot}
@@ -99,6 +99,35 @@ module _ {T : Type 0} where
     has_room = subst (λ (x : ℕ × ℕ). x.0 ≤ x.1) (λ i. (sym (ap (λ o. o.threads * o.tokens) same) i, sym roomy i)) p.has_room;
     kind = ap (λ o. o.bare) same ∙ p.kind;
     in_turn = turns;
+  }
+
+  -- the pass with other tokens at home
+  pub rehomed : {bare : Bool} {thread room room_now : ℕ} {old new : Me (Option T) (View T)} {items : List ℕ} (tokens now : List ℕ)
+      → HasTokens bare thread old items room → new.0 ≡ with_home old.0 tokens → new.1 ≡ old.1 → tokens ≡ reverse now → room_now ≡ room
+      → HasTokens bare thread new now room_now
+  rehomed {bare} {thread} {room} {room_now} {old} {new} tokens now p view slots are roomy =
+      again p (alone_on thread old.0 new.0 p.pass.alone view) (slots ∙ p.pass.held)
+      (idle_with old new (record { at_home = tokens; out = (hand_of old.0).out; payload = (hand_of old.0).payload })
+      p.pass.idle.carries.0 p.pass.idle view (slots ∙ p.pass.idle.carries.1))
+      (ap (λ (v : View T). v.opened) view) (ap (λ (v : View T). (hand_of v).at_home) view ∙ are) roomy (in_turn_as view p.in_turn)
+
+  -- a pass with no token takes one in
+  pub holds_one : {bare : Bool} {thread room : ℕ} {old new : Me (Option T) (View T)} (token : ℕ) → HasTokens bare thread old [] room
+      → new ≡ (with_resting old.0 (resting_view old.0.opened token), old.1) → HasTokens bare thread new (token ∷ []) room
+  holds_one {bare} {thread} {room} {old} token p is =
+      rehomed (token ∷ (hand_of old.0).at_home) (token ∷ []) p (ap (λ m. m.0) is) (ap (λ m. m.1) is)
+      (ap (λ xs. token ∷ xs) p.stacked) refl
+
+  -- a pass with no token needs no room
+  pub token_pass : {thread room : ℕ} {me : Me (Option T) (View T)} → HasTokens true thread me [] room → IsTokenPass thread me
+  token_pass p = record {
+    pass = p.pass;
+    stacked = p.stacked;
+    some_tokens = p.some_tokens;
+    few_tokens = p.few_tokens;
+    has_room = omega arith;
+    kind = p.kind;
+    in_turn = p.in_turn;
   }
 
   -- after a look with another's parts beside its own, a pass has its tokens
@@ -254,7 +283,7 @@ module _ {T : Type 0} where
       turns_given : Fit fin.0
       turns_given = in_turn_as l.now l.in_turn
 
-      enqueued : (table table_now : TableId) (now : View T) → (pass_view table_now thread now ≡ pass_view table_now thread fin.0)
+      pub enqueued : (table table_now : TableId) (now : View T) → (pass_view table_now thread now ≡ pass_view table_now thread fin.0)
           → gifts_of now ≡ gifts_of fin.0
           → EnqueuesWith token s t answer payload (pay_pass_view table thread old.0) (pay_pass_view table_now thread now)
       enqueued table table_now now same gifts_same =
@@ -333,17 +362,23 @@ module _ {T : Type 0} where
           ∙ (λ i. carrying start.0.opened.tokens ((left.out ∙ refused_out answer left.fits not_done) i) (left.kept r.some i))
           ∙ one_slot start.0.opened.tokens token payload some_ready r.some
 
+      -- the pass between two calls, with these tokens at home
+      pub refused_home : {laid : Me (Option T) (View T)} {room_now : ℕ} (tokens now : List ℕ)
+          → laid.0 ≡ with_seen fin.0 (seen_of fin.0) (gifts_of fin.0) (record { at_home = tokens; out = 0; payload = None })
+          → laid.1 ≡ [] → tokens ≡ reverse now → room_now ≡ room → HasTokens bare thread laid now room_now
+      refused_home {laid} tokens now view held are roomy =
+          again p (alone_on thread fin.0 laid.0 alone_given view) held
+          (idle_with fin laid (record { at_home = tokens; out = 0; payload = None }) None idle_given view
+          (held ∙ sym (no_slot fin.0.opened.tokens None)))
+          (ap (λ (v : View T). v.opened) view ∙ opened_given) (ap (λ (v : View T). (hand_of v).at_home) view ∙ are) roomy
+          (in_turn_as view turns_given)
+
       module _ {laid : Me (Option T) (View T)} (view : laid.0
           ≡ with_seen fin.0 (seen_of fin.0) (gifts_of fin.0)
           (record { at_home = token ∷ (hand_of fin.0).at_home; out = 0; payload = None })) (held : laid.1 ≡ []) where
         pub refused_pass : {now : List ℕ} {room_now : ℕ} → now ≡ others ++ token ∷ [] → room_now ≡ room → HasTokens bare thread laid now room_now
-        refused_pass {now} now_is roomy =
-            again p (alone_on thread fin.0 laid.0 alone_given view) held
-            (idle_with fin laid (record { at_home = token ∷ (hand_of fin.0).at_home; out = 0; payload = None }) None idle_given view
-            (held ∙ sym (no_slot fin.0.opened.tokens None)))
-            (ap (λ (v : View T). v.opened) view ∙ opened_given)
-            (ap (λ (v : View T). (hand_of v).at_home) view ∙ ap (λ xs. token ∷ xs) home_given
-            ∙ sym (ap reverse now_is ∙ reverse-append others (token ∷ []))) roomy (in_turn_as view turns_given)
+        refused_pass {now} now_is roomy = refused_home (token ∷ (hand_of fin.0).at_home) now view held
+            (ap (λ xs. token ∷ xs) home_given ∙ sym (ap reverse now_is ∙ reverse-append others (token ∷ []))) roomy
 
         pub refused_enqueue : (a : Answer) → answer ≡ a → (table table_now : TableId)
             → EnqueuesWith token s t a payload (pay_pass_view table thread old.0) (pay_pass_view table_now thread laid.0)
@@ -381,7 +416,7 @@ module _ {T : Type 0} where
     home_took : (hand_of fin.0).at_home ≡ (hand_of old.0).at_home
     home_took = ap (λ (v : View T). (hand_of v).at_home) l.now ∙ l.at_home
 
-    opened_took : fin.0.opened ≡ old.0.opened
+    pub opened_took : fin.0.opened ≡ old.0.opened
     opened_took = ap (λ (v : View T). v.opened) l.now
 
     pub idle_took : IsAt None fin
@@ -446,22 +481,22 @@ module _ {T : Type 0} where
         refl,
       )
 
-      module _ {laid : Me (Option T) (View T)} (view : laid.0
-          ≡ with_seen fin.0 (seen_of fin.0) (gifts_of fin.0)
-          (record { at_home = token ∷ (hand_of fin.0).at_home; out = 0; payload = None })) (held : laid.1 ≡ []) where
-        pub got_pass : {now : List ℕ} {room_now : ℕ} → now ≡ items ++ token ∷ [] → room_now ≡ room → HasTokens bare thread laid now room_now
-        got_pass {now} now_is roomy =
+      module _ (laid : Me (Option T) (View T)) (home : List ℕ) (view : laid.0
+          ≡ with_seen fin.0 (seen_of fin.0) (gifts_of fin.0) (record { at_home = home; out = 0; payload = None })) where
+        -- the pass between two calls, with these tokens at home
+        pub got_home : {now : List ℕ} {room_now : ℕ} → laid.1 ≡ [] → home ≡ reverse now → room_now ≡ room
+            → HasTokens bare thread laid now room_now
+        got_home held are roomy =
             again p (alone_on thread fin.0 laid.0 alone_took view) held
-            (idle_with fin laid (record { at_home = token ∷ (hand_of fin.0).at_home; out = 0; payload = None }) None idle_took view
+            (idle_with fin laid (record { at_home = home; out = 0; payload = None }) None idle_took view
             (held ∙ sym (no_slot fin.0.opened.tokens None)))
-            (ap (λ (v : View T). v.opened) view ∙ opened_took)
-            (ap (λ (v : View T). (hand_of v).at_home) view ∙ ap (λ xs. token ∷ xs) stacked_took
-            ∙ sym (ap reverse now_is ∙ reverse-append items (token ∷ []))) roomy (in_turn_as view turns_took)
+            (ap (λ (v : View T). v.opened) view ∙ opened_took) (ap (λ (v : View T). (hand_of v).at_home) view ∙ are) roomy
+            (in_turn_as view turns_took)
 
         -- the token that was taken, with what was put beside it
-        pub got_takes : (table table_now : TableId) → (first : ℕ) × ((hand_of laid.0).at_home ≡ first ∷ (hand_of old.0).at_home)
-            × (beside first (gifts_of laid.0) ≡ got_held.0) × TookWhatWasPut first got_held.0 (pay_pass_view table_now thread laid.0)
-            × DequeuesWith s t (A.Got first) (pay_pass_view table thread old.0) (pay_pass_view table_now thread laid.0)
+        pub got_takes : (table table_now : TableId)
+            → (beside token (gifts_of laid.0) ≡ got_held.0) × TookWhatWasPut token got_held.0 (pay_pass_view table_now thread laid.0)
+            × DequeuesWith s t (A.Got token) (pay_pass_view table thread old.0) (pay_pass_view table_now thread laid.0)
         unfolding got got_held
         got_takes table table_now =
             let gifts : gifts_of laid.0 ≡ gifts_of old.0 ++ l.given = ap gifts_of view ∙ ap gifts_of l.now in
@@ -471,23 +506,58 @@ module _ {T : Type 0} where
             let opened : laid.0.opened ≡ old.0.opened = ap (λ (v : View T). v.opened) view ∙ opened_took in
             let run = subst (λ (o : Opening). CompleteExecution o.shape o.threads thread (B.Dequeue s t) (A.Got token) (seen_of old.0)
             (seen_of laid.0)) (sym opened) dequeue.call.run in (
-              token,
-              ap (λ (v : View T). (hand_of v).at_home) view ∙ ap (λ xs. token ∷ xs) home_took,
               last,
               took_what_was_put token got_held.0 (pay_pass_view table_now thread laid.0) s t (seen_of old.0) run got.0
                   dequeue.gifts.holder_law dequeue.gifts.in_turn last,
               dequeue,
             )
 
+      module _ {laid : Me (Option T) (View T)} (view : laid.0
+          ≡ with_seen fin.0 (seen_of fin.0) (gifts_of fin.0)
+          (record { at_home = token ∷ (hand_of fin.0).at_home; out = 0; payload = None })) (held : laid.1 ≡ []) where
+        pub got_pass : {now : List ℕ} {room_now : ℕ} → now ≡ items ++ token ∷ [] → room_now ≡ room → HasTokens bare thread laid now room_now
+        got_pass {now} now_is roomy = got_home laid (token ∷ (hand_of fin.0).at_home) view held
+            (ap (λ xs. token ∷ xs) stacked_took ∙ sym (ap reverse now_is ∙ reverse-append items (token ∷ []))) roomy
+
         -- of a payload that was found
         pub got_payload : (payload : T) → fin.1 ≡ (token - 1, Some payload) ∷ [] → (table table_now : TableId)
             → TakesOut s t (K.Got payload) (pay_pass_view table thread old.0) (pay_pass_view table_now thread laid.0)
         got_payload payload is_payload table table_now =
-            let is : got_held.0 ≡ Some payload = ap carried (sym got_held.2 ∙ is_payload) in
-            subst (λ (x : Option T). (first : ℕ) × ((hand_of laid.0).at_home ≡ first ∷ (hand_of old.0).at_home)
-            × (beside first (gifts_of laid.0) ≡ x) × TookWhatWasPut first x (pay_pass_view table_now thread laid.0)
-            × DequeuesWith s t (A.Got first) (pay_pass_view table thread old.0) (pay_pass_view table_now thread laid.0)) is
-            (got_takes table table_now)
+            let found : got_held.0 ≡ Some payload = ap carried (sym got_held.2 ∙ is_payload) in
+            let takes = got_takes laid (token ∷ (hand_of fin.0).at_home) view table table_now in (
+              token,
+              ap (λ (v : View T). (hand_of v).at_home) view ∙ ap (λ xs. token ∷ xs) home_took,
+              takes.0 ∙ found,
+              subst (λ x. TookWhatWasPut token x (pay_pass_view table_now thread laid.0)) found takes.1,
+              takes.2,
+            )
+
+-- what a call did, of views that differ in their tokens alone
+abbrev with_tokens : {T : Type 0} → PassView × Gifts T → List ℕ → PayPassView T
+with_tokens x tokens = record { pass = x.0; tokens = tokens; gifts = x.1 }
+
+module _ {T : Type 0} {old new was now : PayPassView T} (passes : (was.pass ≡ old.pass) × (now.pass ≡ new.pass))
+    (gifts : (was.gifts ≡ old.gifts) × (now.gifts ≡ new.gifts)) where
+  pub enqueues_as : {token start turns : ℕ} {answer : Answer} {payload : Option T} → EnqueuesWith token start turns answer payload old new
+      → EnqueuesWith token start turns answer payload was now
+  enqueues_as {token} {start} {turns} {answer} {payload} e =
+      let theirs : EnqueuesWith token start turns answer payload (with_tokens (old.pass, old.gifts) was.tokens)
+      (with_tokens (new.pass, new.gifts) now.tokens) = record {
+        call = e.call;
+        in_turn = e.in_turn;
+        holder_law = e.holder_law;
+        before = e.before;
+        after = e.after;
+        seen = e.seen;
+        others = e.others;
+        earlier = e.earlier;
+        later = e.later;
+        gifts = e.gifts;
+        before_it = e.before_it;
+      } in
+      subst (λ (x : (PassView × Gifts T) × (PassView × Gifts T)). EnqueuesWith token start turns answer payload
+      (with_tokens x.0 was.tokens) (with_tokens x.1 now.tokens))
+      (λ i. ((sym passes.0 i, sym gifts.0 i), (sym passes.1 i, sym gifts.1 i))) theirs
 
 -- a queue of few threads with few tokens each has few tokens
 pub few_in_all : (threads tokens : ℕ) → threads ≤ 64 → tokens ≤ 1024 → threads * tokens ≤ 65536

@@ -18,6 +18,7 @@ mod rule;
 mod scan;
 mod seats;
 mod stamped;
+mod tokens;
 mod view;
 
 pub use closing::close;
@@ -33,3 +34,4 @@ pub use queue::{Pass, Queue};
 pub use round_robin::RoundRobin;
 pub use stamped::gathering::gather;
 pub use stamped::{MAX_STAMPED_CALLS, StampPass, StampQueue};
+pub use tokens::{Put, TokenPass, TokenQueue};
