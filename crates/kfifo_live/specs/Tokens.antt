@@ -66,3 +66,9 @@ module _ {T : Type 0} where
   TakesToken start turns K.Empty old new = Dequeues start turns A.Empty old new
   TakesToken start turns K.Busy old new = Dequeues start turns A.Busy old new
   TakesToken start turns K.Worn old new = Dequeues start turns A.Worn old new
+
+-- a pass of such a queue in a handle, and the slots at which its next `put` and its next `take` begin
+pub record TokenHeld (T : Type 0) : Type 0 where
+  pub pass : PayPassView T
+  pub put_start : ℕ
+  pub take_start : ℕ

@@ -34,4 +34,5 @@ pub use queue::{Pass, Queue};
 pub use round_robin::RoundRobin;
 pub use stamped::gathering::gather;
 pub use stamped::{MAX_STAMPED_CALLS, StampPass, StampQueue};
+pub use tokens::handle::TokenHandle;
 pub use tokens::{Put, TokenPass, TokenQueue};

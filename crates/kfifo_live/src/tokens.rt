@@ -10,6 +10,8 @@ ghost use Rattle.kfifo_live.specs.Pass.{OpenQueue, queue_of, IsPassOf, IsSamePas
 ghost use Rattle.kfifo_live.specs.Payloads.{PayPassView, pay_pass_view};
 ghost use Rattle.kfifo_live.specs.Tokens.{IsTokenPass, Puts, TakesToken, token_opening};
 
+pub(crate) mod closing;
+pub(crate) mod handle;
 pub(crate) mod opening;
 
 use crate::payload::Taken;
@@ -42,7 +44,7 @@ impl Model for TokenQueue {
 
     ghost invariant = { λ q. (q.table.shared.key ≡ token_opening q.shape q.threads q.tokens)
         × (q.table.shared.table_id.words ≡ 2 + q.shape.n * q.shape.k)
-        × (q.table.shared.table_id.slots ≡ q.threads * q.tokens) };
+        × (q.table.shared.table_id.slots ≡ q.threads * q.tokens) × (0 < q.threads) };
 }
 
 /// What a thread puts and takes tokens with. It may go to another thread between two calls.
