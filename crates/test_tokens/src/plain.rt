@@ -55,11 +55,7 @@ pub fn put(queue: &TokenQueue, handle: &mut TokenHandle, spare: &mut Vec<Token<(
 }
 
 /// Takes a token, behind these, and returns its number.
-pub fn take(
-    queue: &TokenQueue,
-    handle: &mut TokenHandle,
-    spare: &mut Vec<Token<()>>,
-) -> Taken<u32>
+pub fn take(queue: &TokenQueue, handle: &mut TokenHandle, spare: &mut Vec<Token<()>>) -> Taken<u32>
     requires of { IsPassOf queue.now handle.old.pass.pass }
     requires tokens { All (λ t. t.queue ≡ queue.now) spare.old.items }
     ensures same { IsSamePass handle.old.pass.pass handle.new.pass.pass }

@@ -124,14 +124,16 @@ returns c =
     → HandsBack c.args.token c.args.start c.args.turns a c.lay_aside-back.result c.args.self.now now =
     λ a is. (
       back,
-      (subst (λ (x : ℕ × Answer). EnqueuesWith x.0 c.args.start c.args.turns x.1 None c.args.self.now now)
-          (λ i. (c.number-number.ensures.number i, is i))
-          (enqueues_as
-          (sym (ap (λ k. k.pass) was) ∙ sym (ap (λ m. pass_view c.self.inside.seat.table_id c.self.inside.thread m.0) t), refl)
-          (sym (ap (λ k. k.gifts) was) ∙ sym (ap (λ m. gifts_of m.0) t), refl)
-          (enqueued p r l c.self.inside.seat.table_id c.lay_aside-back.new.seat.table_id c.lay_aside-back.new.seat.me.0
-          (ap (pass_view c.lay_aside-back.new.seat.table_id c.self.inside.thread) aside.laid.0) (ap gifts_of aside.laid.0))),
-      ap (λ (v : View (Unit {0})). (hand_of v).at_home) aside.laid.0 ∙ sym c.self.invariant.stacked ∙ ap (λ k. k.tokens) was),
+      (
+        subst (λ (x : ℕ × Answer). EnqueuesWith x.0 c.args.start c.args.turns x.1 None c.args.self.now now)
+            (λ i. (c.number-number.ensures.number i, is i))
+            (enqueues_as
+            (sym (ap (λ k. k.pass) was) ∙ sym (ap (λ m. pass_view c.self.inside.seat.table_id c.self.inside.thread m.0) t), refl)
+            (sym (ap (λ k. k.gifts) was) ∙ sym (ap (λ m. gifts_of m.0) t), refl)
+            (enqueued p r l c.self.inside.seat.table_id c.lay_aside-back.new.seat.table_id c.lay_aside-back.new.seat.me.0
+            (ap (pass_view c.lay_aside-back.new.seat.table_id c.self.inside.thread) aside.laid.0) (ap gifts_of aside.laid.0))),
+        ap (λ (v : View (Unit {0})). (hand_of v).at_home) aside.laid.0 ∙ sym c.self.invariant.stacked ∙ ap (λ k. k.tokens) was,
+      ),
     ) in
     let Did : Put → Type 0 = λ x. Puts c.args.token c.args.start c.args.turns x c.args.self.now now in
     record {

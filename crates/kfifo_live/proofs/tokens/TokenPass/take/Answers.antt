@@ -21,8 +21,7 @@ lay_aside-requires-clause-table c =
 pub lay_aside-requires-clause-idle : goal.lay_aside-requires-clause-idle
 lay_aside-requires-clause-idle c =
     let l = c.dequeue.ensures.leads in
-    let opened = opened_took c.self.invariant l ∙ ap (λ (k : PayPassView (Unit {0})). k.pass.opened) c.self.view_is ∙ c.requires.of.1 in
-    (
+    let opened = opened_took c.self.invariant l ∙ ap (λ (k : PayPassView (Unit {0})). k.pass.opened) c.self.view_is ∙ c.requires.of.1 in (
       idle_took c.self.invariant l,
       opened,
       subst (λ (o : Opening). 0 < o.tokens) opened (some_took c.self.invariant l),

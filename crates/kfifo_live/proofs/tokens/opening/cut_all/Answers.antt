@@ -31,9 +31,12 @@ cut_token-alone-requires-clause-idle c =
 
 pub cut_token-alone-requires-clause-some : goal.cut_token-alone-requires-clause-some
 cut_token-alone-requires-clause-some c =
-    let less = c.loop-index-test.true in
-    (_, _, ap (λ m. (hand_of m.0).at_home) c.loop-index.invariant.view
-    ∙ count_first (c.args.first + c.loop-index.index) (c.args.count - c.loop-index.index) (λ none. omega (arith, less)))
+    let less = c.loop-index-test.true in (
+      _,
+      _,
+      ap (λ m. (hand_of m.0).at_home) c.loop-index.invariant.view
+          ∙ count_first (c.args.first + c.loop-index.index) (c.args.count - c.loop-index.index) (λ none. omega (arith, less)),
+    )
 
 pub new-requires-clause-table : goal.new-requires-clause-table
 new-requires-clause-table c = (
