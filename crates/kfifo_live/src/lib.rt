@@ -27,7 +27,7 @@ pub use gate::{Gate, OpenGate};
 pub use handle::Handle;
 pub use meeting::meet;
 pub use payload::handle::{PayHandle, Published, Received};
-pub use payload::opening::MAX_TOKENS;
+pub use payload::opening::{MAX_TOKENS, MOST_TOKENS};
 pub use payload::token::Token;
 pub use payload::{Given, PayPass, PayQueue, Taken};
 pub use queue::{Pass, Queue};

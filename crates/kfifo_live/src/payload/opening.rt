@@ -23,7 +23,7 @@ use std::marker::Brand;
 pub const MAX_TOKENS: u32 = 1_024;
 
 /// The greatest number of tokens of a queue: as many as a ring has slots at most.
-pub(crate) const MOST_TOKENS: u32 = 65_536;
+pub const MOST_TOKENS: u32 = 65_536;
 
 /// The tokens of a thread, the first of them last, with room for so many.
 fn own_tokens(alloc: Global, thread: u32, tokens: u32, room: usize) -> Result<Vec<u32>, AllocError>

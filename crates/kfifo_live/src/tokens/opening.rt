@@ -74,9 +74,14 @@ fn deal_all(
 }
 
 impl TokenQueue {
-    /// Opens a queue with so many tokens for each thread. Returns it with a pass for each thread, numbered from 0, and
-    /// all tokens, in the order of their numbers, from 1. The passes have seen the empty schedule, after which all words
-    /// are 0.
+    /// Opens a queue for 1 to 64 threads, with so many tokens for each: 1 or more, and 65,536 in all at most. Returns it
+    /// with a pass for each thread, numbered from 0, and all tokens, in the order of their numbers, from 1. The passes
+    /// have seen the empty schedule, after which all words are 0.
+    ///
+    /// ```rust
+    /// let shape = Shape::new(4, 8, MAX_VERSION)?; // k, segments, greatest version
+    /// let (queue, mut passes, mut tokens) = TokenQueue::open(alloc, shape, 1, 16)?; // threads, tokens a thread
+    /// ```
     ///
     /// AllocError where an allocation failed. Nothing is kept after that.
     pub fn open(
