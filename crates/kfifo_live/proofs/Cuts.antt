@@ -1,7 +1,7 @@
 -- A look at the schedule, and views that are cut in two or put together, keep the rule.
 use Rattle.std.proofs.Common.{map, mul-le-mul_right, suc-mul, None, nat_lt, ◌≡◌, ◌≢◌, ◌⊎◌, ℕ, zero, suc, ◌+◌, ◌-◌, ◌<◌, ◌≤◌, List, [], ◌∷◌}
 use Rattle.std.proofs.Common.{◌++◌, length, set, get_or, replicate, ◌*◌, take, drop, true, false, refl, sym, ap, ◌∙◌, subst, inl, inr}
-use Rattle.std.proofs.Common.{⊎_elim, Option, arith, cond, eq-eqb, ne_eqb, nat_eq, nat_le}
+use Rattle.std.proofs.Common.{⊎_elim, Bool, Option, arith, cond, eq-eqb, ne_eqb, nat_eq, nat_le}
 use Rattle.std.specs.Prelude.{slice_index, slice_set}
 use Rattle.std.proofs.lemmas.List.{append-nil, set-get_or}
 use Rattle.std.proofs.lemmas.Bool.{cases_eq}
@@ -32,14 +32,14 @@ looks_at {T} o s id thread seen gifts hand more i kept at =
     let words : slice_set s.words i (slice_index s.words i) ≡ kept.world.words = set-get_or s.words i 0 ∙ kept.words_are in
     let tokens : Tokens o s.homes s.homes s.views s.words kept kept.world (kept.gifts ++ []) thread hand = record {
       at_now = kept.at;
-      slots = λ some_tokens. subst (λ (g : Gifts T). SlotsFit (clock_at o.shape.k o.shape.n) (word_at kept.world) kept.at g s.homes)
+      slots = λ some_tokens. subst (λ (g : Gifts T). SlotsFit o.bare (clock_at o.shape.k o.shape.n) (word_at kept.world) kept.at g s.homes)
           (sym (append-nil kept.gifts)) (kept.slots some_tokens);
       own = λ some_tokens.
-          subst (λ (g : Gifts T). HandFits (word_at kept.world) (place_of kept.world thread) kept.at g s.homes thread hand)
+          subst (λ (g : Gifts T). HandFits o.bare (word_at kept.world) (place_of kept.world thread) kept.at g s.homes thread hand)
           (sym (append-nil kept.gifts))
           (kept.hands some_tokens id (view_of o (part thread seen gifts hand ∷ more)) at).0;
       others = λ some_tokens u other ne fits. subst
-          (λ (g : Gifts T). HandFits (word_at kept.world) (place_of kept.world u) kept.at g s.homes u other) (sym (append-nil kept.gifts))
+          (λ (g : Gifts T). HandFits o.bare (word_at kept.world) (place_of kept.world u) kept.at g s.homes u other) (sym (append-nil kept.gifts))
           fits;
     } in
     let k = adds o s.words (slice_set s.words i (slice_index s.words i)) s.homes s.homes s.views id thread seen gifts hand hand more kept at
@@ -124,25 +124,25 @@ AreResting-drop threads zero xs a = a
 AreResting-drop threads (suc n) [] a = tt
 AreResting-drop threads (suc n) (x ∷ xs) a = AreResting-drop threads n xs a.1
 
-AllHands-append : {T : Type 0} (words : ℕ → ℕ) (place : ℕ → Option Running) (at : ℕ → Where) (gifts : Gifts T) (homes : Homes T)
+AllHands-append : {T : Type 0} (bare : Bool) (words : ℕ → ℕ) (place : ℕ → Option Running) (at : ℕ → Where) (gifts : Gifts T) (homes : Homes T)
     (xs ys : List (Part T))
-    → AllHands words place at gifts homes xs → AllHands words place at gifts homes ys → AllHands words place at gifts homes (xs ++ ys)
-AllHands-append words place at gifts homes [] ys a b = b
-AllHands-append words place at gifts homes (x ∷ xs) ys a b = (a.0, AllHands-append words place at gifts homes xs ys a.1 b)
+    → AllHands bare words place at gifts homes xs → AllHands bare words place at gifts homes ys → AllHands bare words place at gifts homes (xs ++ ys)
+AllHands-append bare words place at gifts homes [] ys a b = b
+AllHands-append bare words place at gifts homes (x ∷ xs) ys a b = (a.0, AllHands-append bare words place at gifts homes xs ys a.1 b)
 
-AllHands-take : {T : Type 0} (words : ℕ → ℕ) (place : ℕ → Option Running) (at : ℕ → Where) (gifts : Gifts T) (homes : Homes T) (n : ℕ)
+AllHands-take : {T : Type 0} (bare : Bool) (words : ℕ → ℕ) (place : ℕ → Option Running) (at : ℕ → Where) (gifts : Gifts T) (homes : Homes T) (n : ℕ)
     (xs : List (Part T))
-    → AllHands words place at gifts homes xs → AllHands words place at gifts homes (take n xs)
-AllHands-take words place at gifts homes zero xs a = tt
-AllHands-take words place at gifts homes (suc n) [] a = tt
-AllHands-take words place at gifts homes (suc n) (x ∷ xs) a = (a.0, AllHands-take words place at gifts homes n xs a.1)
+    → AllHands bare words place at gifts homes xs → AllHands bare words place at gifts homes (take n xs)
+AllHands-take bare words place at gifts homes zero xs a = tt
+AllHands-take bare words place at gifts homes (suc n) [] a = tt
+AllHands-take bare words place at gifts homes (suc n) (x ∷ xs) a = (a.0, AllHands-take bare words place at gifts homes n xs a.1)
 
-AllHands-drop : {T : Type 0} (words : ℕ → ℕ) (place : ℕ → Option Running) (at : ℕ → Where) (gifts : Gifts T) (homes : Homes T) (n : ℕ)
+AllHands-drop : {T : Type 0} (bare : Bool) (words : ℕ → ℕ) (place : ℕ → Option Running) (at : ℕ → Where) (gifts : Gifts T) (homes : Homes T) (n : ℕ)
     (xs : List (Part T))
-    → AllHands words place at gifts homes xs → AllHands words place at gifts homes (drop n xs)
-AllHands-drop words place at gifts homes zero xs a = a
-AllHands-drop words place at gifts homes (suc n) [] a = tt
-AllHands-drop words place at gifts homes (suc n) (x ∷ xs) a = AllHands-drop words place at gifts homes n xs a.1
+    → AllHands bare words place at gifts homes xs → AllHands bare words place at gifts homes (drop n xs)
+AllHands-drop bare words place at gifts homes zero xs a = a
+AllHands-drop bare words place at gifts homes (suc n) [] a = tt
+AllHands-drop bare words place at gifts homes (suc n) (x ∷ xs) a = AllHands-drop bare words place at gifts homes n xs a.1
 
 -- the seat `from` gives its parts from the k-th on to the seat `to`, where they follow the first m
 abbrev pub passed_on : ℕ → ℕ → ℕ → ℕ → ℕ × ℕ → ℕ × ℕ
@@ -285,16 +285,16 @@ cuts {T} o id v n le s kept at =
       holders = kept.holders;
       hands = λ some_tokens j u e.
           let all = kept.hands some_tokens id v at in
-          let P : View T → Type 0 = λ x. AllHands (word_at kept.world) (place_of kept.world) kept.at kept.gifts s.homes x.parts in
+          let P : View T → Type 0 = λ x. AllHands o.bare (word_at kept.world) (place_of kept.world) kept.at kept.gifts s.homes x.parts in
           ⊎_elim
           (λ (x : get_elem? (set s.views id left) j ≡ some u).
           ⊎_elim
           (λ (y : (j ≡ id) × (left ≡ u)). subst P y.1
-          (AllHands-take (word_at kept.world) (place_of kept.world) kept.at kept.gifts s.homes n v.parts all))
+          (AllHands-take o.bare (word_at kept.world) (place_of kept.world) kept.at kept.gifts s.homes n v.parts all))
           (λ (y : (j ≢ id) × (get_elem? s.views j ≡ some u)). kept.hands some_tokens j u y.1)
           (at_set s.views id j left u x))
           (λ (x : (j ≡ length (set s.views id left)) × (right ≡ u)).
-          subst P x.1 (AllHands-drop (word_at kept.world) (place_of kept.world) kept.at kept.gifts s.homes n v.parts all))
+          subst P x.1 (AllHands-drop o.bare (word_at kept.world) (place_of kept.world) kept.at kept.gifts s.homes n v.parts all))
           (at_end (set s.views id left) right u j e);
     }
 
@@ -346,13 +346,13 @@ gathers {T} o id v other w opened same s kept at apart there =
       slots = kept.slots;
       holders = kept.holders;
       hands = λ some_tokens j u e.
-          let P : View T → Type 0 = λ x. AllHands (word_at kept.world) (place_of kept.world) kept.at kept.gifts s.homes x.parts in
+          let P : View T → Type 0 = λ x. AllHands o.bare (word_at kept.world) (place_of kept.world) kept.at kept.gifts s.homes x.parts in
           ⊎_elim
           (λ (x : (j ≡ other) × (view_of opened [] ≡ u)). subst P x.1 tt)
           (λ (x : (j ≢ other) × (get_elem? (set s.views id both) j ≡ some u)).
           ⊎_elim
           (λ (y : (j ≡ id) × (both ≡ u)).
-          subst P y.1 (AllHands-append (word_at kept.world) (place_of kept.world) kept.at kept.gifts s.homes v.parts w.parts
+          subst P y.1 (AllHands-append o.bare (word_at kept.world) (place_of kept.world) kept.at kept.gifts s.homes v.parts w.parts
           (kept.hands some_tokens id v at) (kept.hands some_tokens other w theirs_at)))
           (λ (y : (j ≢ id) × (get_elem? s.views j ≡ some u)). kept.hands some_tokens j u y.1)
           (at_set s.views id j both u x.1))
@@ -448,7 +448,7 @@ module _ (T : Type 0) (o : Opening) where
       )
 
   hands_open : (words : ℕ → ℕ) (first count : ℕ) → first + count ≡ o.threads
-      → AllHands words (place_of (opening o.shape o.threads)) (at_open o.tokens o.threads) [] homes_open (fresh o.tokens first count)
+      → AllHands o.bare words (place_of (opening o.shape o.threads)) (at_open o.tokens o.threads) [] homes_open (fresh o.tokens first count)
   unfolding opening place_of
   hands_open words first zero all = tt
   hands_open words first (suc count) all = (
@@ -456,7 +456,7 @@ module _ (T : Type 0) (o : Opening) where
       home = tokens_open first (first * o.tokens + 1) o.tokens (omega (arith, all))
           (let e : suc first * o.tokens ≡ first * o.tokens + o.tokens = suc-mul-of first o.tokens in omega (arith, e)) (omega arith);
       out = λ some_out. absurd (some_out refl);
-      stands = subst (CallFits words [] (first_hand o.tokens first)) (sym (idle_open o.threads first)) tt;
+      stands = subst (CallFits o.bare words [] (first_hand o.tokens first)) (sym (idle_open o.threads first)) tt;
     },
     hands_open words (suc first) count (omega (arith, all)),
   )
@@ -485,7 +485,7 @@ opens {T} o words is = record {
     record {
       home = tt;
       out = λ some_out. absurd (some_out refl);
-      stands = subst (CallFits (word_at (opening o.shape o.threads)) [] no_hand) (sym (idle_open o.threads thread)) tt;
+      stands = subst (CallFits o.bare (word_at (opening o.shape o.threads)) [] no_hand) (sym (idle_open o.threads thread)) tt;
     },
   );
 }
@@ -496,10 +496,10 @@ opens {T} o words is = record {
     zero_at (suc n) (suc i) = zero_at n i
 
     all_hands : (seat : ℕ) (v : View T) → get_elem? (first_view o ∷ []) seat ≡ some v
-        → AllHands (word_at (opening o.shape o.threads)) (place_of (opening o.shape o.threads)) (at_open o.tokens o.threads) []
+        → AllHands o.bare (word_at (opening o.shape o.threads)) (place_of (opening o.shape o.threads)) (at_open o.tokens o.threads) []
         (homes_open T o) v.parts
     all_hands zero v e =
-        subst (λ (x : View T). AllHands (word_at (opening o.shape o.threads)) (place_of (opening o.shape o.threads))
+        subst (λ (x : View T). AllHands o.bare (word_at (opening o.shape o.threads)) (place_of (opening o.shape o.threads))
         (at_open o.tokens o.threads) [] (homes_open T o) x.parts) (some-injective _ _ e)
         (hands_open T o (word_at (opening o.shape o.threads)) 0 o.threads (omega arith))
     all_hands (suc seat) v e = absurd (some-ne-none v (sym e))

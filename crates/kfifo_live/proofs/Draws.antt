@@ -47,12 +47,12 @@ rehands {T} o words homes homes_now views id thread seen gifts hand hand_now mor
       slots = tokens.slots;
       hands = λ some_tokens j u e.
           let on = λ (seat first : ℕ) (parts : List (Part T)).
-          all_hands_on (word_at kept.world) (word_at kept.world) (place_of kept.world) (place_of kept.world) kept.at tokens.at_now
+          all_hands_on o.bare (word_at kept.world) (word_at kept.world) (place_of kept.world) (place_of kept.world) kept.at tokens.at_now
           kept.gifts kept.gifts homes homes_now thread (tokens.others some_tokens) kept.owner seat first parts in
           let all_mine = kept.hands some_tokens id (view_of o (part thread seen gifts hand ∷ more)) at in
           ⊎_elim
           (λ (x : (j ≡ id) × (view_of o (part thread seen gifts hand_now ∷ more) ≡ u)).
-          subst (λ (y : View T). AllHands (word_at kept.world) (place_of kept.world) tokens.at_now kept.gifts homes_now y.parts) x.1 (
+          subst (λ (y : View T). AllHands o.bare (word_at kept.world) (place_of kept.world) tokens.at_now kept.gifts homes_now y.parts) x.1 (
             tokens.own some_tokens,
             on id 1 more (λ k le same. let e : k
                 ≡ 0 = ap (λ (x : ℕ × ℕ). x.1) (sym same ∙ owned) in absurd (omega arith)) mine.owns.1 all_mine.1,
@@ -61,7 +61,7 @@ rehands {T} o words homes homes_now views id thread seen gifts hand hand_now mor
           on j 0 u.parts (λ k le same. x.0 (ap (λ (z : ℕ × ℕ). z.0) (sym same ∙ owned))) (kept.fit j u x.1).owns
           (kept.hands some_tokens j u x.1))
           (at_set views id j (view_of o (part thread seen gifts hand_now ∷ more)) u e);
-      holders = λ some_tokens. held_on (word_at kept.world) (word_at kept.world) (place_of kept.world) (place_of kept.world) kept.at
+      holders = λ some_tokens. held_on o.bare (word_at kept.world) (word_at kept.world) (place_of kept.world) (place_of kept.world) kept.at
           tokens.at_now kept.gifts kept.gifts homes homes_now thread (tokens.others some_tokens)
           hand_now (tokens.own some_tokens) (kept.holders some_tokens);
     }
@@ -105,9 +105,9 @@ module _ {T : Type 0} (at : ℕ → Where) (homes : Homes T) (x : ℕ) (positive
       let ne : y ≢ x = λ e. apart (length ys) (omega arith) (ap at (sym e) ∙ a.0.1) in
       ((a.0.0, at_other y ne ∙ a.0.1, home_other y a.0.0 ne ∙ a.0.2), home_keeps t ys (λ j less. apart j (omega arith)) a.1)
 
-  pub slots_keep : (clock : ℕ) (words : ℕ → ℕ) (gifts : Gifts T) → ((i : ℕ) → at x ≢ In i) → SlotsFit clock words at gifts homes
-      → SlotsFit clock words elsewhere gifts homes_there
-  slots_keep clock words gifts apart fits i above below filled =
+  pub slots_keep : (bare : Bool) (clock : ℕ) (words : ℕ → ℕ) (gifts : Gifts T) → ((i : ℕ) → at x ≢ In i) → SlotsFit bare clock words at gifts homes
+      → SlotsFit bare clock words elsewhere gifts homes_there
+  slots_keep bare clock words gifts apart fits i above below filled =
       let s = fits i above below filled in
       let ne : value_of (words i) ≢ x = λ e. apart i (ap at (sym e) ∙ s.0) in
       (at_other _ ne ∙ s.0, s.1, home_other _ (above_zero _ filled) ne ∙ s.2)
@@ -116,10 +116,10 @@ module _ {T : Type 0} (at : ℕ → Where) (homes : Homes T) (x : ℕ) (positive
       above_zero zero ne = absurd (ne refl)
       above_zero (suc n) ne = omega arith
 
-  pub other_keeps : (words : ℕ → ℕ) (place : Option Running) (gifts : Gifts T) (u : ℕ) (hand : Hand T) → ((j : ℕ) → at x ≢ Home u j)
-      → at x ≢ Out u → HandFits words place at gifts homes u hand
-      → HandFits words place elsewhere gifts homes_there u hand
-  other_keeps words place gifts u hand apart not_out fits = record {
+  pub other_keeps : (bare : Bool) (words : ℕ → ℕ) (place : Option Running) (gifts : Gifts T) (u : ℕ) (hand : Hand T) → ((j : ℕ) → at x ≢ Home u j)
+      → at x ≢ Out u → HandFits bare words place at gifts homes u hand
+      → HandFits bare words place elsewhere gifts homes_there u hand
+  other_keeps bare words place gifts u hand apart not_out fits = record {
     home = home_keeps u hand.at_home (λ j less. apart j) fits.home;
     out = λ some_out.
         let o = fits.out some_out in
@@ -199,7 +199,7 @@ module _ {T : Type 0} (o : Opening) (s : State (Option T) (View T)) (id thread :
     (reached : world_after o seen ≡ Some here) (within : thread < length here.places) (idle : place_of here thread ≡ None)
     (some_tokens : 0 < o.tokens)
     (kept : OneSchedule o s.words s.homes s.views) (at : get_elem? s.views id ≡ some (view_of o (part thread seen gifts hand ∷ more))) where
-  pub own_hand : HandFits (word_at kept.world) (place_of kept.world thread) kept.at kept.gifts s.homes thread hand
+  pub own_hand : HandFits o.bare (word_at kept.world) (place_of kept.world thread) kept.at kept.gifts s.homes thread hand
   own_hand = (kept.hands some_tokens id (view_of o (part thread seen gifts hand ∷ more)) at).0
 
   pub still_idle : place_of kept.world thread ≡ None
@@ -222,16 +222,16 @@ module _ {T : Type 0} (o : Opening) (s : State (Option T) (View T)) (id thread :
       let at_now = elsewhere {T = T} kept.at s.homes x positive (Out thread) none in
       let tokens : Tokens o s.homes (slice_set s.homes (x - 1) none) s.views s.words kept kept.world kept.gifts thread hand_now = record {
         at_now = at_now;
-        slots = λ p. slots_keep kept.at s.homes x positive (Out thread) none (clock_at o.shape.k o.shape.n) (word_at kept.world) kept.gifts
+        slots = λ p. slots_keep kept.at s.homes x positive (Out thread) none o.bare (clock_at o.shape.k o.shape.n) (word_at kept.world) kept.gifts
             (λ i e. Home-not-In thread (length xs) i (sym home.0.1 ∙ e)) (kept.slots p);
         own = λ p. record {
           home = home_keeps kept.at s.homes x positive (Out thread) none thread xs
               (λ j less e. let same = (Home-injective thread thread (length xs) j (sym home.0.1 ∙ e)).1 in absurd (omega arith)) home.1;
           out = λ some_out. (at_this kept.at s.homes x positive (Out thread) none, (omega (arith, inside, size, positive)));
-          stands = subst (CallFits (word_at kept.world) kept.gifts hand_now) (sym still_idle) tt;
+          stands = subst (CallFits o.bare (word_at kept.world) kept.gifts hand_now) (sym still_idle) tt;
         };
         others = λ p u other ne fits.
-            other_keeps kept.at s.homes x positive (Out thread) none (word_at kept.world) (place_of kept.world u) kept.gifts u other
+            other_keeps kept.at s.homes x positive (Out thread) none o.bare (word_at kept.world) (place_of kept.world u) kept.gifts u other
             (λ j e. ne (sym (Home-injective thread u (length xs) j (sym home.0.1 ∙ e)).0))
             (λ e. Home-not-Out thread (length xs) u (sym home.0.1 ∙ e)) fits;
       } in (
@@ -264,15 +264,15 @@ module _ {T : Type 0} (o : Opening) (s : State (Option T) (View T)) (id thread :
       ) in
       let tokens : Tokens o s.homes homes_now s.views s.words kept kept.world kept.gifts thread hand_now = record {
         at_now = at_now;
-        slots = λ p. slots_keep kept.at s.homes x positive to (some None) (clock_at o.shape.k o.shape.n) (word_at kept.world) kept.gifts
+        slots = λ p. slots_keep kept.at s.homes x positive to (some None) o.bare (clock_at o.shape.k o.shape.n) (word_at kept.world) kept.gifts
             (λ i e. Out-not-In thread i (sym there.0 ∙ e)) (kept.slots p);
         own = λ p. record {
           home = all_home;
           out = λ none_out. absurd (none_out refl);
-          stands = subst (CallFits (word_at kept.world) kept.gifts hand_now) (sym still_idle) tt;
+          stands = subst (CallFits o.bare (word_at kept.world) kept.gifts hand_now) (sym still_idle) tt;
         };
         others = λ p u other ne fits.
-            other_keeps kept.at s.homes x positive to (some None) (word_at kept.world) (place_of kept.world u) kept.gifts u other
+            other_keeps kept.at s.homes x positive to (some None) o.bare (word_at kept.world) (place_of kept.world u) kept.gifts u other
             (λ j e. Home-not-Out u j thread (sym e ∙ there.0)) (λ e. ne (sym (Out-injective thread u (sym there.0 ∙ e)))) fits;
       } in
       let room = home_room at_now homes_now thread (x ∷ hand.at_home) all_home in (

@@ -878,9 +878,9 @@ took_last o thread start turns token old new run =
     ]
 
 -- What a pass took was put with the payload that it hands back
-pub took_what_was_put : {T : Type 0} (token : ℕ) (payload : T) (p : PayPassView T) (start turns : ℕ) (old : List Event)
+pub took_what_was_put : {T : Type 0} (token : ℕ) (payload : Option T) (p : PayPassView T) (start turns : ℕ) (old : List Event)
     → CompleteExecution p.pass.opened.shape p.pass.opened.threads p.pass.thread (B.Dequeue start turns) (Got token) old p.pass.seen
-    → 0 < token → HolderLaw p.pass.opened p.pass.seen → InTurn p.pass.seen p.gifts → beside token p.gifts ≡ Some payload
+    → 0 < token → HolderLaw p.pass.opened p.pass.seen → InTurn p.pass.seen p.gifts → beside token p.gifts ≡ payload
     → TookWhatWasPut token payload p
 took_what_was_put token payload p start turns old run some law in_turn is =
     let o = p.pass.opened in

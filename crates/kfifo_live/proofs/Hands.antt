@@ -27,7 +27,7 @@ use Rattle.kfifo_machine.proofs.RoundsUndisturbed.{words_by}
 use Rattle.kfifo_machine.proofs.Tokens.{EnqueueKnows, value-emptied, value-filled_with}
 use Rattle.kfifo_live.specs.Hands.{FitsOwn, Gifts, Homes, Where, Home, Out, In, Move, Stays, Lays, Lifts, Takes, move, out_in, out_at}
 use Rattle.kfifo_live.specs.Hands.{own_item, out_next, last_gift, beside, AllHome, PutFits, GiftFits, CallFits, HandFits, Leaves, SlotsFit}
-use Rattle.kfifo_live.specs.Hands.{where_after, hand_after, slot_of, act_of}
+use Rattle.kfifo_live.specs.Hands.{where_after, hand_after, slot_of, act_of, IsGift}
 use Rattle.kfifo_live.proofs.Balance.{DequeueKnows, Knows}
 
 -- the last gift of an item, after one more
@@ -176,10 +176,10 @@ Out-not-Home i u j e = cc
 In-injective : (i j : ℕ) → In i ≡ In j → i ≡ j
 In-injective i j e = cc
 
-module _ {T : Type 0} (shape : Shape) (w v : ℕ → ℕ) (at at' : ℕ → Where) (gifts gifts' : Gifts T) (homes homes' : Homes T) (thread : ℕ)
+module _ {T : Type 0} (bare : Bool) (shape : Shape) (w v : ℕ → ℕ) (at at' : ℕ → Where) (gifts gifts' : Gifts T) (homes homes' : Homes T) (thread : ℕ)
     (same_gift : (x : ℕ) → at x ≢ Out thread → beside x gifts' ≡ beside x gifts)
     (rises : (i : ℕ) → (v i ≡ w i) ⊎ (version_of (w i) < version_of (v i)))
-    (slots : SlotsFit (clock_at shape.k shape.n) w at gifts homes)
+    (slots : SlotsFit bare (clock_at shape.k shape.n) w at gifts homes)
     (size : length homes' ≡ length homes)
     (stays_home : (x t j : ℕ) → 0 < x → at x ≡ Home t j → (at' x ≡ at x) × (get_elem? homes' (x - 1) ≡ get_elem? homes (x - 1)))
     (stays_out : (x u : ℕ) → u ≢ thread → at x ≡ Out u → at' x ≡ at x) where
@@ -241,7 +241,7 @@ module _ {T : Type 0} (shape : Shape) (w v : ℕ → ℕ) (at at' : ℕ → Wher
 
   calls_other : (u : ℕ) (place : Option Running) (hand : Hand T) → u ≢ thread → ((r : Running) → place ≡ Some r → IsPlace shape r)
       → ((r : Running) → place ≡ Some r → Knows r) → (hand.out ≢ 0 → at hand.out ≡ Out u)
-      → CallFits w gifts hand place → CallFits v gifts' hand place
+      → CallFits bare w gifts hand place → CallFits bare v gifts' hand place
   calls_other u None hand ne is_place knows out fits = tt
   calls_other u (Some (R.Dequeue start left phase)) hand ne is_place knows out fits = fits
   calls_other u (Some (R.Enqueue item start left phase)) hand ne is_place knows out fits = (
@@ -255,7 +255,7 @@ module _ {T : Type 0} (shape : Shape) (w v : ℕ → ℕ) (at at' : ℕ → Wher
   -- the hand of another thread
   pub other_hand : (u : ℕ) (place : Option Running) (hand : Hand T) → u ≢ thread → ((r : Running) → place ≡ Some r → IsPlace shape r)
       → ((r : Running) → place ≡ Some r → Knows r)
-      → HandFits w place at gifts homes u hand → HandFits v place at' gifts' homes' u hand
+      → HandFits bare w place at gifts homes u hand → HandFits bare v place at' gifts' homes' u hand
   other_hand u place hand ne is_place knows fits = record {
     home = home_on u hand.at_home fits.home;
     out = λ some_out. let o = fits.out some_out in (stays_out hand.out u ne o.0 ∙ o.0, (let le = o.1 in omega arith));
@@ -265,13 +265,13 @@ module _ {T : Type 0} (shape : Shape) (w v : ℕ → ℕ) (at at' : ℕ → Wher
   -- a slot whose word and token stay
   pub slot_on : (i : ℕ) → 0 < i → i < clock_at shape.k shape.n → v i ≡ w i
       → ((x : ℕ) → 0 < x → at x ≡ In i → (at' x ≡ at x) × (get_elem? homes' (x - 1) ≡ get_elem? homes (x - 1)))
-      → value_of (v i) ≢ 0 → (at' (value_of (v i)) ≡ In i) × ((payload : T) × (beside (value_of (v i)) gifts' ≡ Some payload))
+      → value_of (v i) ≢ 0 → (at' (value_of (v i)) ≡ In i) × IsGift bare (beside (value_of (v i)) gifts')
       × (get_elem? homes' (value_of (v i) - 1) ≡ some (some (beside (value_of (v i)) gifts')))
   slot_on i above below same stays filled = subst
-      (λ (x : ℕ). (at' x ≡ In i) × ((payload : T) × (beside x gifts' ≡ Some payload))
+      (λ (x : ℕ). (at' x ≡ In i) × IsGift bare (beside x gifts')
       × (get_elem? homes' (x - 1) ≡ some (some (beside x gifts')))) (ap value_of (sym same)) of_old
     where
-      of_old : (at' (value_of (w i)) ≡ In i) × ((payload : T) × (beside (value_of (w i)) gifts' ≡ Some payload))
+      of_old : (at' (value_of (w i)) ≡ In i) × IsGift bare (beside (value_of (w i)) gifts')
           × (get_elem? homes' (value_of (w i) - 1) ≡ some (some (beside (value_of (w i)) gifts')))
       of_old =
           let x = value_of (w i) in
@@ -279,7 +279,7 @@ module _ {T : Type 0} (shape : Shape) (w v : ℕ → ℕ) (at at' : ℕ → Wher
           let s = slots i above below filled_before in
           let stay = stays x (above_zero x filled_before) s.0 in
           let g = same_gift x (λ e. In-not-Out i thread (sym s.0 ∙ e)) in
-          (stay.0 ∙ s.0, (s.1.0, g ∙ s.1.1), stay.1 ∙ s.2 ∙ ap (λ (p : Option T). some (some p)) (sym g))
+          (stay.0 ∙ s.0, subst (IsGift bare) (sym g) s.1, stay.1 ∙ s.2 ∙ ap (λ (p : Option T). some (some p)) (sym g))
 
 -- where the step of a call leads, its thread has its token
 abbrev NotEnqueue : Next → Type 0
@@ -290,18 +290,18 @@ dequeue_goes : (shape : Shape) (start left : ℕ) (phase : DequeuePhase) (word :
     → NotEnqueue (advance shape (R.Dequeue start left phase) word)
 dequeue_goes shape start left phase word = grind (arith, nat_tests)
 
-next_enqueue : {T : Type 0} (v : ℕ → ℕ) (gifts : Gifts T) (hand : Hand T) (own : ℕ) (next : Next) → out_next own next ≡ hand.out
-    → ((payload : T) × (hand.payload ≡ Some payload)) → NextGift v gifts hand.payload next
-    → CallFits v gifts hand (place_after next)
-next_enqueue v gifts hand own (Goes (R.Enqueue item start left phase)) out payload fits = (sym out, payload, fits)
-next_enqueue v gifts hand own (Goes (R.Dequeue start left phase)) out payload fits = sym out
-next_enqueue v gifts hand own (Answers answer) out payload fits = tt
+next_enqueue : {T : Type 0} (bare : Bool) (v : ℕ → ℕ) (gifts : Gifts T) (hand : Hand T) (own : ℕ) (next : Next) → out_next own next ≡ hand.out
+    → IsGift bare hand.payload → NextGift v gifts hand.payload next
+    → CallFits bare v gifts hand (place_after next)
+next_enqueue bare v gifts hand own (Goes (R.Enqueue item start left phase)) out payload fits = (sym out, payload, fits)
+next_enqueue bare v gifts hand own (Goes (R.Dequeue start left phase)) out payload fits = sym out
+next_enqueue bare v gifts hand own (Answers answer) out payload fits = tt
 
-next_dequeue : {T : Type 0} (v : ℕ → ℕ) (gifts : Gifts T) (hand : Hand T) (own : ℕ) (next : Next) → out_next own next ≡ hand.out
-    → NotEnqueue next → CallFits v gifts hand (place_after next)
-next_dequeue v gifts hand own (Goes (R.Enqueue item start left phase)) out never = absurd never
-next_dequeue v gifts hand own (Goes (R.Dequeue start left phase)) out never = sym out
-next_dequeue v gifts hand own (Answers answer) out never = tt
+next_dequeue : {T : Type 0} (bare : Bool) (v : ℕ → ℕ) (gifts : Gifts T) (hand : Hand T) (own : ℕ) (next : Next) → out_next own next ≡ hand.out
+    → NotEnqueue next → CallFits bare v gifts hand (place_after next)
+next_dequeue bare v gifts hand own (Goes (R.Enqueue item start left phase)) out never = absurd never
+next_dequeue bare v gifts hand own (Goes (R.Dequeue start left phase)) out never = sym out
+next_dequeue bare v gifts hand own (Answers answer) out never = tt
 
 out-hand_after : {T : Type 0} (m : Move) (gifts : Gifts T) (hand : Hand T) → (hand_after m gifts hand).out ≡ out_after hand.out m
 unfolding out_after
@@ -395,66 +395,68 @@ module _ {T : Type 0} (shape : Shape) (w : ℕ → ℕ) (gifts : Gifts T) (paylo
   gift_on item start left (E.MoveTail ends) place fits =
       held_on shape w gifts payload item start left (E.MoveTail ends) _ (w 0) refl refl place.0 fits
 
-pub stands_on : {T : Type 0} (shape : Shape) (w : ℕ → ℕ) (gifts : Gifts T) (hand : Hand T) (r : Running) → IsPlace shape r
-    → CallFits w gifts hand (Some r)
-    → CallFits (words_by (access shape r) w) gifts (hand_after (move r (w (accessed (access shape r)))) gifts hand)
+pub stands_on : {T : Type 0} (bare : Bool) (shape : Shape) (w : ℕ → ℕ) (gifts : Gifts T) (hand : Hand T) (r : Running) → IsPlace shape r
+    → CallFits bare w gifts hand (Some r)
+    → CallFits bare (words_by (access shape r) w) gifts (hand_after (move r (w (accessed (access shape r)))) gifts hand)
     (place_after (advance shape r (w (accessed (access shape r)))))
-stands_on {T} shape w gifts hand (R.Enqueue item start left phase) place fits =
+stands_on {T} bare shape w gifts hand (R.Enqueue item start left phase) place fits =
     let r = R.Enqueue item start left phase in
     let word = w (accessed (access shape r)) in
     let same = enqueue_payload item start left phase word gifts hand in
     let after = hand_after (move r word) gifts hand in
-    next_enqueue (words_by (access shape r) w) gifts after item (enqueue_advance shape item start left phase word)
+    next_enqueue bare (words_by (access shape r) w) gifts after item (enqueue_advance shape item start left phase word)
     (enqueue_out shape item start left phase word ∙ ap (λ out. out_after out (move r word)) (sym fits.0)
     ∙ sym (out-hand_after (move r word) gifts hand))
-    (fits.1.0, same ∙ fits.1.1)
+    (subst (IsGift bare) (sym same) fits.1)
     (subst (λ (p : Option T). NextGift (words_by (access shape r) w) gifts p (enqueue_advance shape item start left phase word)) (sym same)
     (gift_on shape w gifts hand.payload item start left phase place fits.2))
-stands_on {T} shape w gifts hand (R.Dequeue start left phase) place fits =
+stands_on {T} bare shape w gifts hand (R.Dequeue start left phase) place fits =
     let r = R.Dequeue start left phase in
     let word = w (accessed (access shape r)) in
-    next_dequeue (words_by (access shape r) w) gifts (hand_after (move r word) gifts hand) 0 (advance shape r word)
+    next_dequeue bare (words_by (access shape r) w) gifts (hand_after (move r word) gifts hand) 0 (advance shape r word)
     (dequeue_out shape start left phase word ∙ ap (λ out. out_after out (move r word)) (sym fits)
     ∙ sym (out-hand_after (move r word) gifts hand))
     (dequeue_goes shape start left phase word)
 
 -- what the thread has of the token that is out
-pub out_gift : {T : Type 0} (w : ℕ → ℕ) (gifts : Gifts T) (hand : Hand T) (r : Running) → CallFits w gifts hand (Some r) → 0 < own_item r
+pub out_gift : {T : Type 0} (bare : Bool) (w : ℕ → ℕ) (gifts : Gifts T) (hand : Hand T) (r : Running)
+    → CallFits bare w gifts hand (Some r) → 0 < own_item r
     → out_at r ≡ own_item r
-    → (beside (own_item r) gifts ≡ hand.payload) × ((payload : T) × (hand.payload ≡ Some payload))
-out_gift w gifts hand (R.Enqueue item start left E.LoadEnds) fits positive out = (fits.2, fits.1)
-out_gift w gifts hand (R.Enqueue item start left (E.ScanTail ends offset)) fits positive out = (fits.2, fits.1)
-out_gift w gifts hand (R.Enqueue item start left (E.Recheck ends seen)) fits positive out = (fits.2, fits.1)
-out_gift w gifts hand (R.Enqueue item start left (E.Put ends index empty)) fits positive out = (fits.2, fits.1)
-out_gift w gifts hand (R.Enqueue item start left (E.ReloadSlot ends index filled)) fits positive out = absurd (omega arith)
-out_gift w gifts hand (R.Enqueue item start left (E.ReloadEnds ends index filled)) fits positive out = absurd (omega arith)
-out_gift w gifts hand (R.Enqueue item start left (E.HoldHead ends index filled held)) fits positive out = absurd (omega arith)
-out_gift w gifts hand (R.Enqueue item start left (E.Undo index filled worn)) fits positive out = absurd (omega arith)
-out_gift w gifts hand (R.Enqueue item start left (E.ScanHead ends offset)) fits positive out = (fits.2, fits.1)
-out_gift w gifts hand (R.Enqueue item start left (E.ConfirmFull ends)) fits positive out = (fits.2, fits.1)
-out_gift w gifts hand (R.Enqueue item start left (E.MoveHead ends)) fits positive out = (fits.2, fits.1)
-out_gift w gifts hand (R.Enqueue item start left (E.MoveTail ends)) fits positive out = (fits.2, fits.1)
-out_gift w gifts hand (R.Dequeue start left phase) fits positive out = absurd (omega arith)
+    → (beside (own_item r) gifts ≡ hand.payload) × IsGift bare hand.payload
+out_gift bare w gifts hand (R.Enqueue item start left E.LoadEnds) fits positive out = (fits.2, fits.1)
+out_gift bare w gifts hand (R.Enqueue item start left (E.ScanTail ends offset)) fits positive out = (fits.2, fits.1)
+out_gift bare w gifts hand (R.Enqueue item start left (E.Recheck ends seen)) fits positive out = (fits.2, fits.1)
+out_gift bare w gifts hand (R.Enqueue item start left (E.Put ends index empty)) fits positive out = (fits.2, fits.1)
+out_gift bare w gifts hand (R.Enqueue item start left (E.ReloadSlot ends index filled)) fits positive out = absurd (omega arith)
+out_gift bare w gifts hand (R.Enqueue item start left (E.ReloadEnds ends index filled)) fits positive out = absurd (omega arith)
+out_gift bare w gifts hand (R.Enqueue item start left (E.HoldHead ends index filled held)) fits positive out = absurd (omega arith)
+out_gift bare w gifts hand (R.Enqueue item start left (E.Undo index filled worn)) fits positive out = absurd (omega arith)
+out_gift bare w gifts hand (R.Enqueue item start left (E.ScanHead ends offset)) fits positive out = (fits.2, fits.1)
+out_gift bare w gifts hand (R.Enqueue item start left (E.ConfirmFull ends)) fits positive out = (fits.2, fits.1)
+out_gift bare w gifts hand (R.Enqueue item start left (E.MoveHead ends)) fits positive out = (fits.2, fits.1)
+out_gift bare w gifts hand (R.Enqueue item start left (E.MoveTail ends)) fits positive out = (fits.2, fits.1)
+out_gift bare w gifts hand (R.Dequeue start left phase) fits positive out = absurd (omega arith)
 
-pub out_is : {T : Type 0} (w : ℕ → ℕ) (gifts : Gifts T) (hand : Hand T) (r : Running) → CallFits w gifts hand (Some r) → hand.out ≡ out_at r
-out_is w gifts hand (R.Enqueue item start left phase) fits = fits.0
-out_is w gifts hand (R.Dequeue start left phase) fits = fits
+pub out_is : {T : Type 0} (bare : Bool) (w : ℕ → ℕ) (gifts : Gifts T) (hand : Hand T) (r : Running)
+    → CallFits bare w gifts hand (Some r) → hand.out ≡ out_at r
+out_is bare w gifts hand (R.Enqueue item start left phase) fits = fits.0
+out_is bare w gifts hand (R.Dequeue start left phase) fits = fits
 
 -- a won undo finds the thread's own payload
-undo_gift : {T : Type 0} (shape : Shape) (w : ℕ → ℕ) (gifts : Gifts T) (hand : Hand T) (r : Running) (x : ℕ)
-    → CallFits w gifts hand (Some r) → move r (w (accessed (access shape r))) ≡ Lifts x → beside x gifts ≡ hand.payload
-undo_gift shape w gifts hand (R.Enqueue item start left E.LoadEnds) x fits is = absurd (cc)
-undo_gift shape w gifts hand (R.Enqueue item start left (E.ScanTail ends offset)) x fits is = absurd (cc)
-undo_gift shape w gifts hand (R.Enqueue item start left (E.Recheck ends seen)) x fits is = absurd (cc)
-undo_gift shape w gifts hand (R.Enqueue item start left (E.Put ends index empty)) x fits is = absurd (by_test (w index == empty) is)
+undo_gift : {T : Type 0} (bare : Bool) (shape : Shape) (w : ℕ → ℕ) (gifts : Gifts T) (hand : Hand T) (r : Running) (x : ℕ)
+    → CallFits bare w gifts hand (Some r) → move r (w (accessed (access shape r))) ≡ Lifts x → beside x gifts ≡ hand.payload
+undo_gift bare shape w gifts hand (R.Enqueue item start left E.LoadEnds) x fits is = absurd (cc)
+undo_gift bare shape w gifts hand (R.Enqueue item start left (E.ScanTail ends offset)) x fits is = absurd (cc)
+undo_gift bare shape w gifts hand (R.Enqueue item start left (E.Recheck ends seen)) x fits is = absurd (cc)
+undo_gift bare shape w gifts hand (R.Enqueue item start left (E.Put ends index empty)) x fits is = absurd (by_test (w index == empty) is)
   where
     by_test : (b : Bool) → cond b (Lays index) Stays ≡ Lifts x → ⊥
     by_test true e = cc
     by_test false e = cc
-undo_gift shape w gifts hand (R.Enqueue item start left (E.ReloadSlot ends index filled)) x fits is = absurd (cc)
-undo_gift shape w gifts hand (R.Enqueue item start left (E.ReloadEnds ends index filled)) x fits is = absurd (cc)
-undo_gift shape w gifts hand (R.Enqueue item start left (E.HoldHead ends index filled held)) x fits is = absurd (cc)
-undo_gift shape w gifts hand (R.Enqueue item start left (E.Undo index filled worn)) x fits is =
+undo_gift bare shape w gifts hand (R.Enqueue item start left (E.ReloadSlot ends index filled)) x fits is = absurd (cc)
+undo_gift bare shape w gifts hand (R.Enqueue item start left (E.ReloadEnds ends index filled)) x fits is = absurd (cc)
+undo_gift bare shape w gifts hand (R.Enqueue item start left (E.HoldHead ends index filled held)) x fits is = absurd (cc)
+undo_gift bare shape w gifts hand (R.Enqueue item start left (E.Undo index filled worn)) x fits is =
     elim (cases_eq (w index) filled) [
       | inl won ↦
           let same : item ≡ x = Lifts-injective item x (sym (won_move (w index) filled (Lifts item) won) ∙ is) in
@@ -467,26 +469,27 @@ undo_gift shape w gifts hand (R.Enqueue item start left (E.Undo index filled wor
 
     Stays-not-Lifts : (n : ℕ) → Stays ≡ Lifts n → ⊥
     Stays-not-Lifts n e = cc
-undo_gift shape w gifts hand (R.Enqueue item start left (E.ScanHead ends offset)) x fits is = absurd (cc)
-undo_gift shape w gifts hand (R.Enqueue item start left (E.ConfirmFull ends)) x fits is = absurd (cc)
-undo_gift shape w gifts hand (R.Enqueue item start left (E.MoveHead ends)) x fits is = absurd (cc)
-undo_gift shape w gifts hand (R.Enqueue item start left (E.MoveTail ends)) x fits is = absurd (cc)
-undo_gift shape w gifts hand (R.Dequeue start left D.LoadEnds) x fits is = absurd (cc)
-undo_gift shape w gifts hand (R.Dequeue start left (D.ScanHead ends offset)) x fits is = absurd (cc)
-undo_gift shape w gifts hand (R.Dequeue start left (D.Recheck ends seen)) x fits is = absurd (cc)
-undo_gift shape w gifts hand (R.Dequeue start left (D.MoveTail ends index filled)) x fits is = absurd (cc)
-undo_gift shape w gifts hand (R.Dequeue start left (D.Take ends index filled)) x fits is = absurd (by_test (w index == filled) is)
+undo_gift bare shape w gifts hand (R.Enqueue item start left (E.ScanHead ends offset)) x fits is = absurd (cc)
+undo_gift bare shape w gifts hand (R.Enqueue item start left (E.ConfirmFull ends)) x fits is = absurd (cc)
+undo_gift bare shape w gifts hand (R.Enqueue item start left (E.MoveHead ends)) x fits is = absurd (cc)
+undo_gift bare shape w gifts hand (R.Enqueue item start left (E.MoveTail ends)) x fits is = absurd (cc)
+undo_gift bare shape w gifts hand (R.Dequeue start left D.LoadEnds) x fits is = absurd (cc)
+undo_gift bare shape w gifts hand (R.Dequeue start left (D.ScanHead ends offset)) x fits is = absurd (cc)
+undo_gift bare shape w gifts hand (R.Dequeue start left (D.Recheck ends seen)) x fits is = absurd (cc)
+undo_gift bare shape w gifts hand (R.Dequeue start left (D.MoveTail ends index filled)) x fits is = absurd (cc)
+undo_gift bare shape w gifts hand (R.Dequeue start left (D.Take ends index filled)) x fits is = absurd (by_test (w index == filled) is)
   where
     by_test : (b : Bool) → cond b (Takes (value_of filled)) Stays ≡ Lifts x → ⊥
     by_test true e = cc
     by_test false e = cc
-undo_gift shape w gifts hand (R.Dequeue start left (D.MoveHead ends)) x fits is = absurd (cc)
+undo_gift bare shape w gifts hand (R.Dequeue start left (D.MoveHead ends)) x fits is = absurd (cc)
 
 -- what a step of a thread leaves of the tokens, by its move
-pub record After {T : Type 0} (shape : Shape) (w v : ℕ → ℕ) (at : ℕ → Where) (gifts gifts' : Gifts T) (homes : Homes T) (thread : ℕ)
+pub record After {T : Type 0} (bare : Bool) (shape : Shape) (w v : ℕ → ℕ) (at : ℕ → Where) (gifts gifts' : Gifts T)
+    (homes : Homes T) (thread : ℕ)
     (r : Running) (hand : Hand T) (held : List (ℕ × Option T)) (m : Move) : Type 0 where
   pub valid : Valid homes held (act_of 1 m gifts')
-  pub slots : SlotsFit (clock_at shape.k shape.n) v (where_after thread (own_item r) m at) gifts'
+  pub slots : SlotsFit bare (clock_at shape.k shape.n) v (where_after thread (own_item r) m at) gifts'
       (homes_after homes held (act_of 1 m gifts'))
   pub home : AllHome (where_after thread (own_item r) m at) (homes_after homes held (act_of 1 m gifts')) thread
       (hand_after m gifts' hand).at_home
@@ -495,9 +498,9 @@ pub record After {T : Type 0} (shape : Shape) (w v : ℕ → ℕ) (at : ℕ → 
       × ((hand_after m gifts' hand).out ≤ length (homes_after homes held (act_of 1 m gifts')))
   pub others : (u : ℕ) (place : Option Running) (hand : Hand T) → u ≢ thread → ((s : Running) → place ≡ Some s → IsPlace shape s)
       → ((s : Running) → place ≡ Some s → Knows s)
-      → HandFits w place at gifts homes u hand → HandFits v place (where_after thread (own_item r) m at) gifts'
+      → HandFits bare w place at gifts homes u hand → HandFits bare v place (where_after thread (own_item r) m at) gifts'
       (homes_after homes held (act_of 1 m gifts')) u hand
-  pub taken : (x : ℕ) → m ≡ Takes x → (0 < x) × ((payload : T) × (beside x gifts' ≡ Some payload))
+  pub taken : (x : ℕ) → m ≡ Takes x → (0 < x) × IsGift bare (beside x gifts')
   pub carries : carried_after held (act_of 1 m gifts') ≡ slot_of (hand_after m gifts' hand).out (hand_after m gifts' hand).payload
 
 Stays-not-Takes : (x : ℕ) → Stays ≡ Takes x → ⊥
@@ -521,39 +524,40 @@ slot-some : {T : Type 0} (out : ℕ) (payload : Option T) → 0 < out → slot_o
 slot-some zero payload positive = absurd (omega arith)
 slot-some (suc out) payload positive = ap (λ n. (n, payload) ∷ []) (let e : out ≡ suc out - 1 = omega arith in e)
 
-module _ {T : Type 0} (shape : Shape) (w v : ℕ → ℕ) (at : ℕ → Where) (gifts gifts' : Gifts T) (homes : Homes T) (thread : ℕ) (r : Running)
+module _ {T : Type 0} (bare : Bool) (shape : Shape) (w v : ℕ → ℕ) (at : ℕ → Where) (gifts gifts' : Gifts T) (homes : Homes T)
+    (thread : ℕ) (r : Running)
     (hand : Hand T) (held : List (ℕ × Option T))
     (same_gift : (x : ℕ) → at x ≢ Out thread → beside x gifts' ≡ beside x gifts)
     (rises : (i : ℕ) → (v i ≡ w i) ⊎ (version_of (w i) < version_of (v i)))
-    (slots : SlotsFit (clock_at shape.k shape.n) w at gifts homes)
+    (slots : SlotsFit bare (clock_at shape.k shape.n) w at gifts homes)
     (home : AllHome at homes thread hand.at_home)
     (out : hand.out ≢ 0 → (at hand.out ≡ Out thread) × (hand.out ≤ length homes))
-    (stands : CallFits w gifts' hand (Some r))
+    (stands : CallFits bare w gifts' hand (Some r))
     (held_is : held ≡ slot_of hand.out hand.payload) where
-  quiet : ((i : ℕ) → 0 < i → i < clock_at shape.k shape.n → v i ≡ w i) → After shape w v at gifts gifts' homes thread r hand held Stays
+  quiet : ((i : ℕ) → 0 < i → i < clock_at shape.k shape.n → v i ≡ w i) → After bare shape w v at gifts gifts' homes thread r hand held Stays
   quiet same = record {
     valid = tt;
-    slots = λ i above below filled. slot_on shape w v at at gifts gifts' homes homes thread same_gift rises slots refl
+    slots = λ i above below filled. slot_on bare shape w v at at gifts gifts' homes homes thread same_gift rises slots refl
         (λ x t j p e. (refl, refl)) (λ x u ne e. refl) i above below (same i above below) (λ x p e. (refl, refl)) filled;
     home = home;
     out = out;
     others = λ u place other ne is_place knows fits.
-        other_hand shape w v at at gifts gifts' homes homes thread same_gift rises slots refl (λ x t j p e. (refl, refl)) (λ x u ne e. refl)
+        other_hand bare shape w v at at gifts gifts' homes homes thread same_gift rises slots refl (λ x t j p e. (refl, refl)) (λ x u ne e. refl)
         u place other ne is_place knows fits;
     taken = λ x e. absurd (Stays-not-Takes x e);
     carries = held_is;
   }
 
   laid : (index : ℕ) → 0 < own_item r → out_at r ≡ own_item r → value_of (v index) ≡ own_item r → ((i : ℕ) → i ≢ index → v i ≡ w i)
-      → After shape w v at gifts gifts' homes thread r hand held (Lays index)
+      → After bare shape w v at gifts gifts' homes thread r hand held (Lays index)
   laid index positive mine put same = record {
     valid = tt;
     slots = λ i above below filled. slots_laid i above below filled;
-    home = home_on shape w v at at' gifts gifts' homes homes' thread same_gift rises slots size stays_home stays_out thread hand.at_home
+    home = home_on bare shape w v at at' gifts gifts' homes homes' thread same_gift rises slots size stays_home stays_out thread hand.at_home
         home;
     out = λ some_out. absurd (some_out refl);
     others = λ u place other ne is_place knows fits.
-        other_hand shape w v at at' gifts gifts' homes homes' thread same_gift rises slots size stays_home stays_out u place other ne
+        other_hand bare shape w v at at' gifts gifts' homes homes' thread same_gift rises slots size stays_home stays_out u place other ne
         is_place knows fits;
     taken = λ x e. absurd (Lays-not-Takes index x e);
     carries = ap (λ (xs : List (ℕ × Option T)). carried_after xs (act_of 1 (Lays index) gifts')) held_now;
@@ -563,7 +567,7 @@ module _ {T : Type 0} (shape : Shape) (w v : ℕ → ℕ) (at : ℕ → Where) (
       own = own_item r
 
       out_own : hand.out ≡ own
-      out_own = out_is w gifts' hand r stands ∙ mine
+      out_own = out_is bare w gifts' hand r stands ∙ mine
 
       own_out : (at own ≡ Out thread) × (own ≤ length homes)
       own_out = subst (λ (x : ℕ). (at x ≡ Out thread) × (x ≤ length homes)) out_own
@@ -603,42 +607,42 @@ module _ {T : Type 0} (shape : Shape) (w v : ℕ → ℕ) (at : ℕ → Where) (
       stays_in : (i x : ℕ) → 0 < x → at x ≡ In i → (at' x ≡ at x) × (get_elem? homes' (x - 1) ≡ get_elem? homes (x - 1))
       stays_in i x p e = let ne = apart x (In i) e (λ h. In-not-Out i thread h) in (at_other x ne, home_other x p ne)
 
-      slots_laid : SlotsFit (clock_at shape.k shape.n) v at' gifts' homes'
+      slots_laid : SlotsFit bare (clock_at shape.k shape.n) v at' gifts' homes'
       slots_laid i above below filled =
           elim (cases_eq i index) [
             | inl here ↦
                 let is : value_of (v i) ≡ own = ap (λ n. value_of (v n)) here ∙ put in
-                let g = out_gift w gifts' hand r stands positive mine in
+                let g = out_gift bare w gifts' hand r stands positive mine in
                 let there : at' own ≡ In i = ap (λ b. cond b (In index) (at own)) (eq-eqb own own refl) ∙ ap In (sym here) in
                 let le = own_out.1 in
                 let stored : get_elem? homes' (own - 1) ≡ some (some (beside own gifts')) =
                 ap (λ (hs : Homes T). get_elem? hs (own - 1)) homes_are ∙ set_here homes (own - 1) (some hand.payload) (omega arith)
                 ∙ ap (λ (p : Option T). some (some p)) (sym g.0) in
-                subst (λ (x : ℕ). (at' x ≡ In i) × ((payload : T) × (beside x gifts' ≡ Some payload))
-                × (get_elem? homes' (x - 1) ≡ some (some (beside x gifts')))) (sym is) (there, (g.1.0, g.0 ∙ g.1.1), stored)
-            | inr else ↦ slot_on shape w v at at' gifts gifts' homes homes' thread same_gift rises slots size stays_home stays_out i above
+                subst (λ (x : ℕ). (at' x ≡ In i) × IsGift bare (beside x gifts')
+                × (get_elem? homes' (x - 1) ≡ some (some (beside x gifts')))) (sym is) (there, subst (IsGift bare) (sym g.0) g.1, stored)
+            | inr else ↦ slot_on bare shape w v at at' gifts gifts' homes homes' thread same_gift rises slots size stays_home stays_out i above
                 below (same i else) (stays_in i) filled
           ]
 
   lifted : (m : Move) (index x : ℕ) → (m ≡ Lifts x) ⊎ (m ≡ Takes x) → 0 < index → index < clock_at shape.k shape.n → value_of (w index) ≡ x
       → 0 < x → value_of (v index) ≡ 0 → ((i : ℕ) → i ≢ index → v i ≡ w i)
-      → out_at r ≡ 0 → ((m ≡ Lifts x) → beside x gifts' ≡ hand.payload) → After shape w v at gifts gifts' homes thread r hand held m
+      → out_at r ≡ 0 → ((m ≡ Lifts x) → beside x gifts' ≡ hand.payload) → After bare shape w v at gifts gifts' homes thread r hand held m
   lifted m index x kind above below value positive gone same none_out own_gift =
       elim kind [
-        | inl e ↦ subst (After shape w v at gifts gifts' homes thread r hand held) (sym e) (of_lift (own_gift e))
-        | inr e ↦ subst (After shape w v at gifts gifts' homes thread r hand held) (sym e) of_take
+        | inl e ↦ subst (After bare shape w v at gifts gifts' homes thread r hand held) (sym e) (of_lift (own_gift e))
+        | inr e ↦ subst (After bare shape w v at gifts gifts' homes thread r hand held) (sym e) of_take
       ]
     where
-      there : (at x ≡ In index) × ((payload : T) × (beside x gifts ≡ Some payload))
+      there : (at x ≡ In index) × IsGift bare (beside x gifts)
           × (get_elem? homes (x - 1) ≡ some (some (beside x gifts)))
-      there = subst (λ (y : ℕ). (at y ≡ In index) × ((payload : T) × (beside y gifts ≡ Some payload))
+      there = subst (λ (y : ℕ). (at y ≡ In index) × IsGift bare (beside y gifts)
           × (get_elem? homes (y - 1) ≡ some (some (beside y gifts)))) value (slots index above below (λ none_there. absurd (omega arith)))
 
       now_gift : beside x gifts' ≡ beside x gifts
       now_gift = same_gift x (λ e. In-not-Out index thread (sym there.0 ∙ e))
 
       held_now : held ≡ []
-      held_now = held_is ∙ ap (λ n. slot_of n hand.payload) (out_is w gifts' hand r stands ∙ none_out)
+      held_now = held_is ∙ ap (λ n. slot_of n hand.payload) (out_is bare w gifts' hand r stands ∙ none_out)
 
       at' : ℕ → Where
       at' y = cond (y == x) (Out thread) (at y)
@@ -664,11 +668,11 @@ module _ {T : Type 0} (shape : Shape) (w v : ℕ → ℕ) (at : ℕ → Where) (
       stays_out : (y u : ℕ) → u ≢ thread → at y ≡ Out u → at' y ≡ at y
       stays_out y u ne e = at_other y (apart y (Out u) e (λ h. In-not-Out index u (sym h)))
 
-      slots_lifted : SlotsFit (clock_at shape.k shape.n) v at' gifts' homes'
+      slots_lifted : SlotsFit bare (clock_at shape.k shape.n) v at' gifts' homes'
       slots_lifted i low high filled =
           elim (cases_eq i index) [
             | inl here ↦ absurd (filled (ap (λ n. value_of (v n)) here ∙ gone))
-            | inr else ↦ slot_on shape w v at at' gifts gifts' homes homes' thread same_gift rises slots size stays_home stays_out i low
+            | inr else ↦ slot_on bare shape w v at at' gifts gifts' homes homes' thread same_gift rises slots size stays_home stays_out i low
                 high (same i else)
                 (λ y p e. let ne = apart y (In i) e (λ h. else (In-injective i index h)) in (at_other y ne, home_other y p ne)) filled
           ]
@@ -685,57 +689,58 @@ module _ {T : Type 0} (shape : Shape) (w v : ℕ → ℕ) (at : ℕ → Where) (
       valid_now : get_elem? homes (x - 1) ≡ some (some (beside x gifts'))
       valid_now = there.2 ∙ ap (λ (p : Option T). some (some p)) (sym now_gift)
 
-      of_take : After shape w v at gifts gifts' homes thread r hand held (Takes x)
+      of_take : After bare shape w v at gifts gifts' homes thread r hand held (Takes x)
       of_take = record {
         valid = valid_now;
         slots = slots_lifted;
-        home = home_on shape w v at at' gifts gifts' homes homes' thread same_gift rises slots size stays_home stays_out thread hand.at_home
+        home = home_on bare shape w v at at' gifts gifts' homes homes' thread same_gift rises slots size stays_home stays_out thread hand.at_home
             home;
         out = λ some_out. out_now;
         others = λ u place other ne is_place knows fits.
-            other_hand shape w v at at' gifts gifts' homes homes' thread same_gift rises slots size stays_home stays_out u place other ne
+            other_hand bare shape w v at at' gifts gifts' homes homes' thread same_gift rises slots size stays_home stays_out u place other ne
             is_place knows fits;
-        taken = λ y e. subst (λ (z : ℕ). (0 < z) × ((payload : T) × (beside z gifts' ≡ Some payload))) (Takes-injective x y e)
-            (positive, (there.1.0, now_gift ∙ there.1.1));
+        taken = λ y e. subst (λ (z : ℕ). (0 < z) × IsGift bare (beside z gifts')) (Takes-injective x y e)
+            (positive, subst (IsGift bare) (sym now_gift) there.1);
         carries = slot_now (beside x gifts') refl;
       }
 
-      of_lift : beside x gifts' ≡ hand.payload → After shape w v at gifts gifts' homes thread r hand held (Lifts x)
+      of_lift : beside x gifts' ≡ hand.payload → After bare shape w v at gifts gifts' homes thread r hand held (Lifts x)
       of_lift own = record {
         valid = valid_now;
         slots = slots_lifted;
-        home = home_on shape w v at at' gifts gifts' homes homes' thread same_gift rises slots size stays_home stays_out thread hand.at_home
+        home = home_on bare shape w v at at' gifts gifts' homes homes' thread same_gift rises slots size stays_home stays_out thread hand.at_home
             home;
         out = λ some_out. out_now;
         others = λ u place other ne is_place knows fits.
-            other_hand shape w v at at' gifts gifts' homes homes' thread same_gift rises slots size stays_home stays_out u place other ne
+            other_hand bare shape w v at at' gifts gifts' homes homes' thread same_gift rises slots size stays_home stays_out u place other ne
             is_place knows fits;
         taken = λ y e. absurd (Lifts-not-Takes x y e);
         carries = slot_now hand.payload own;
       }
 
 -- The step of a thread leaves each token in one place, with its payload
-pub after_step : {T : Type 0} (shape : Shape) (w : ℕ → ℕ) (at : ℕ → Where) (gifts gifts' : Gifts T) (homes : Homes T) (thread : ℕ)
+pub after_step : {T : Type 0} (bare : Bool) (shape : Shape) (w : ℕ → ℕ) (at : ℕ → Where) (gifts gifts' : Gifts T)
+    (homes : Homes T) (thread : ℕ)
     (r : Running) (hand : Hand T) (held : List (ℕ × Option T))
     → ((x : ℕ) → at x ≢ Out thread → beside x gifts' ≡ beside x gifts)
     → ((i : ℕ) → (words_by (access shape r) w i ≡ w i) ⊎ (version_of (w i) < version_of (words_by (access shape r) w i)))
-    → SlotsFit (clock_at shape.k shape.n) w at gifts homes → AllHome at homes thread hand.at_home
-    → (hand.out ≢ 0 → (at hand.out ≡ Out thread) × (hand.out ≤ length homes)) → CallFits w gifts' hand (Some r)
+    → SlotsFit bare (clock_at shape.k shape.n) w at gifts homes → AllHome at homes thread hand.at_home
+    → (hand.out ≢ 0 → (at hand.out ≡ Out thread) × (hand.out ≤ length homes)) → CallFits bare w gifts' hand (Some r)
     → held ≡ slot_of hand.out hand.payload
-    → IsPlace shape r → Knows r → After shape w (words_by (access shape r) w) at gifts gifts' homes thread r hand held
+    → IsPlace shape r → Knows r → After bare shape w (words_by (access shape r) w) at gifts gifts' homes thread r hand held
     (move r (w (accessed (access shape r))))
-after_step shape w at gifts gifts' homes thread r hand held same_gift rises slots home out stands held_is place knows =
+after_step bare shape w at gifts gifts' homes thread r hand held same_gift rises slots home out stands held_is place knows =
     let v = words_by (access shape r) w in
     elim (turns shape w r place knows) [
-      | Quiet e same ↦ subst (After shape w v at gifts gifts' homes thread r hand held) (sym e)
-          (quiet shape w v at gifts gifts' homes thread r hand held same_gift rises slots home out stands held_is same)
-      | Laid index e positive mine put same ↦ subst (After shape w v at gifts gifts' homes thread r hand held) (sym e)
-          (laid shape w v at gifts gifts' homes thread r hand held same_gift rises slots home out stands held_is index positive mine put
+      | Quiet e same ↦ subst (After bare shape w v at gifts gifts' homes thread r hand held) (sym e)
+          (quiet bare shape w v at gifts gifts' homes thread r hand held same_gift rises slots home out stands held_is same)
+      | Laid index e positive mine put same ↦ subst (After bare shape w v at gifts gifts' homes thread r hand held) (sym e)
+          (laid bare shape w v at gifts gifts' homes thread r hand held same_gift rises slots home out stands held_is index positive mine put
           same)
       | Lifted index x kind above below value positive none_out gone same ↦
-          lifted shape w v at gifts gifts' homes thread r hand held same_gift rises slots home out stands held_is
+          lifted bare shape w v at gifts gifts' homes thread r hand held same_gift rises slots home out stands held_is
           (move r (w (accessed (access shape r)))) index x kind above below value positive gone same none_out
-          (λ e. undo_gift shape w gifts' hand r x stands e)
+          (λ e. undo_gift bare shape w gifts' hand r x stands e)
     ]
 
 -- where one step leaves its thread's token
@@ -775,11 +780,11 @@ dequeue_got : (shape : Shape) (start left : ℕ) (phase : DequeuePhase) (word : 
     → GotMove (move (R.Dequeue start left phase) word) (advance shape (R.Dequeue start left phase) word)
 dequeue_got shape start left phase word = grind (arith, nat_tests)
 
-pub leaves_step : {T : Type 0} (shape : Shape) (r : Running) (word : ℕ) (gifts : Gifts T) (hand : Hand T) (payload : Option T)
+pub leaves_step : {T : Type 0} (bare : Bool) (shape : Shape) (r : Running) (word : ℕ) (gifts : Gifts T) (hand : Hand T) (payload : Option T)
     → IsPlace shape r → hand.out ≡ out_at r → (0 < own_item r → hand.payload ≡ payload)
-    → ((x : ℕ) → move r word ≡ Takes x → (0 < x) × ((found : T) × (beside x gifts ≡ Some found)))
-    → Leaves (own_item r) payload gifts (hand_after (move r word) gifts hand) (advance shape r word)
-leaves_step shape (R.Enqueue item start left phase) word gifts hand payload place out is takes_some =
+    → ((x : ℕ) → move r word ≡ Takes x → (0 < x) × IsGift bare (beside x gifts))
+    → Leaves bare (own_item r) payload gifts (hand_after (move r word) gifts hand) (advance shape r word)
+leaves_step bare shape (R.Enqueue item start left phase) word gifts hand payload place out is takes_some =
     let r = R.Enqueue item start left phase in
     record {
       out = out-hand_after (move r word) gifts hand ∙ ap (λ o. out_after o (move r word)) out
@@ -789,7 +794,7 @@ leaves_step shape (R.Enqueue item start left phase) word gifts hand payload plac
       fits = enqueue_fits shape item start left phase word place.0;
       same_own = λ place e. subst (SameOwn item) e (enqueue_own shape item start left phase word);
     }
-leaves_step shape (R.Dequeue start left phase) word gifts hand payload place out is takes_some =
+leaves_step bare shape (R.Dequeue start left phase) word gifts hand payload place out is takes_some =
     let r = R.Dequeue start left phase in
     record {
       out = out-hand_after (move r word) gifts hand ∙ ap (λ o. out_after o (move r word)) out

@@ -1,5 +1,5 @@
 -- A token that an enqueue begins with is in no slot, and no other enqueue holds it: the holder law, a step at a time.
-use Rattle.std.proofs.Common.{◌≡◌, ◌≢◌, ℕ, ◌<◌, List, [], ◌∷◌, ◌++◌, Option, Some, None, refl, sym, ap, ◌∙◌, subst, arith}
+use Rattle.std.proofs.Common.{◌≡◌, ◌≢◌, ℕ, ◌<◌, List, [], ◌∷◌, ◌++◌, Option, Some, None, Bool, refl, sym, ap, ◌∙◌, subst, arith}
 use Rattle.std.proofs.lemmas.Bool.Decides.{nat_tests}
 use Rattle.kfifo_live.proofs.Types.{Begin, EnqueuePhase, Event, Hand, Opening, Running, Shape}
 use Rattle.kfifo_words.specs.Words.{value_of}
@@ -25,27 +25,27 @@ held_out_in : (item x : ℕ) (phase : EnqueuePhase) → held_in item phase ≡ S
 held_out_in item x phase holds = grind (arith, nat_tests)
 
 -- a hand that fits a place at which the thread holds a token has it out
-held_out : {T : Type 0} (words : ℕ → ℕ) (gifts : Gifts T) (hand : Hand T) (r : Running) (x : ℕ) → held_at r ≡ Some x
-    → CallFits words gifts hand (Some r) → hand.out ≡ x
-held_out words gifts hand (R.Enqueue item start left phase) x holds fits = fits.0 ∙ held_out_in item x phase holds
-held_out words gifts hand (R.Dequeue start left phase) x holds fits = absurd (cc)
+held_out : {T : Type 0} (bare : Bool) (words : ℕ → ℕ) (gifts : Gifts T) (hand : Hand T) (r : Running) (x : ℕ) → held_at r ≡ Some x
+    → CallFits bare words gifts hand (Some r) → hand.out ≡ x
+held_out bare words gifts hand (R.Enqueue item start left phase) x holds fits = fits.0 ∙ held_out_in item x phase holds
+held_out bare words gifts hand (R.Dequeue start left phase) x holds fits = absurd (cc)
 
 module _ {T : Type 0} (o : Opening) (all : List Event) (world : World) (at : ℕ → Where) (gifts : Gifts T) (homes : Homes T)
     (thread : ℕ) where
   -- what a thread holds is out with it
-  held_is_out : ((u : ℕ) → (hand : Hand T) × HandFits (word_at world) (place_of world u) at gifts homes u hand)
+  held_is_out : ((u : ℕ) → (hand : Hand T) × HandFits o.bare (word_at world) (place_of world u) at gifts homes u hand)
       → (u : ℕ) (r : Running) (x : ℕ) → 0 < x → place_of world u ≡ Some r → held_at r ≡ Some x → at x ≡ Out u
   held_is_out holders u r x some there holds =
       let h = holders u in
-      let out : h.0.out ≡ x = held_out (word_at world) gifts h.0 r x holds (subst (CallFits (word_at world) gifts h.0) there h.1.stands) in
+      let out : h.0.out ≡ x = held_out o.bare (word_at world) gifts h.0 r x holds (subst (CallFits o.bare (word_at world) gifts h.0) there h.1.stands) in
       ap at (sym out) ∙ (h.1.out (λ none. absurd (let e = out in let p = some in omega arith))).0
 
   -- The call of a thread begins with a free item
   pub begins_free : (begin : Option Begin) (r : Running) (hand : Hand T) (held : List (ℕ × Option T)) → world_after o all ≡ Some world
       → going o.shape (place_of world thread) begin ≡ Some r
-      → SlotsFit (clock_at o.shape.k o.shape.n) (word_at world) at gifts homes → HandFits (word_at world)
-      (place_of world thread) at gifts homes thread hand → BeginsWith begin hand held
-      → ((u : ℕ) → (hand : Hand T) × HandFits (word_at world) (place_of world u) at gifts homes u hand) → BeginsFree o.shape world begin
+      → SlotsFit o.bare (clock_at o.shape.k o.shape.n) (word_at world) at gifts homes → HandFits o.bare (word_at world)
+      (place_of world thread) at gifts homes thread hand → BeginsWith o.bare begin hand held
+      → ((u : ℕ) → (hand : Hand T) × HandFits o.bare (word_at world) (place_of world u) at gifts homes u hand) → BeginsFree o.shape world begin
   begins_free None r hand held reached goes slots fits begins holders = tt
   begins_free (Some (B.Dequeue start turns)) r hand held reached goes slots fits begins holders = tt
   begins_free (Some B.Tick) r hand held reached goes slots fits begins holders = tt

@@ -25,7 +25,7 @@ use Rattle.kfifo_machine.proofs.Schedules.{run_on, own-append, same_place, still
 use Rattle.kfifo_live.specs.Schedule.{part, view_of, world_after, AllBegin, AllGiven, GiftsFit, AllHands, Owns, IsResting, Fits}
 use Rattle.kfifo_live.specs.Schedule.{OneSchedule, FewTicks, IsSmall, ticks, thread_of, seen_of, gifts_of, hand_of, more_in, with_seen}
 use Rattle.kfifo_live.specs.Step.{IsAt, Steps, DrawsStamp}
-use Rattle.kfifo_live.specs.Hands.{Gifts, Homes, Where, beside, gift, move, hand_after, begun_hand, Carries, BeginsWith, HandFits, SlotsFit}
+use Rattle.kfifo_live.specs.Hands.{Gifts, Homes, IsGift, Where, beside, gift, move, hand_after, begun_hand, Carries, BeginsWith, HandFits, SlotsFit}
 use Rattle.kfifo_live.proofs.Hands.{home_step}
 use Rattle.kfifo_live.proofs.Holders.{begin_free_on, begins_free}
 use Rattle.kfifo_live.proofs.TokensAfterStep.{same_home, turned}
@@ -74,13 +74,13 @@ fits_set {T} o all gifts owner views id w others mine j u e =
     (at_set views id j w u e)
 
 -- the hands of the parts whose threads are not the one that made the step
-module _ {T : Type 0} (w v : ℕ → ℕ) (place later : ℕ → Option Running) (at at_now : ℕ → Where) (gifts gifts_now : Gifts T)
+module _ {T : Type 0} (bare : Bool) (w v : ℕ → ℕ) (place later : ℕ → Option Running) (at at_now : ℕ → Where) (gifts gifts_now : Gifts T)
     (homes homes_now : Homes T) (thread : ℕ)
-    (others : (u : ℕ) (hand : Hand T) → u ≢ thread → HandFits w (place u) at gifts homes u hand
-    → HandFits v (later u) at_now gifts_now homes_now u hand) where
+    (others : (u : ℕ) (hand : Hand T) → u ≢ thread → HandFits bare w (place u) at gifts homes u hand
+    → HandFits bare v (later u) at_now gifts_now homes_now u hand) where
   pub all_hands_on : (owner : ℕ → ℕ × ℕ) (seat first : ℕ) (parts : List (Part T)) → ((k : ℕ) → first ≤ k → owner thread ≢ (seat, k))
       → Owns owner seat first parts
-      → AllHands w place at gifts homes parts → AllHands v later at_now gifts_now homes_now parts
+      → AllHands bare w place at gifts homes parts → AllHands bare v later at_now gifts_now homes_now parts
   all_hands_on owner seat first [] apart owns hands = tt
   all_hands_on owner seat first (p ∷ ps) apart owns hands = (
     others p.thread p.hand (λ same. apart first (omega arith) (ap owner (sym same) ∙ owns.0)) hands.0,
@@ -88,12 +88,12 @@ module _ {T : Type 0} (w v : ℕ → ℕ) (place later : ℕ → Option Running)
   )
 
   -- each thread still has a hand that fits
-  pub held_on : (own : Hand T) → HandFits v (later thread) at_now gifts_now homes_now thread own
-      → ((u : ℕ) → (hand : Hand T) × HandFits w (place u) at gifts homes u hand)
-      → (u : ℕ) → (hand : Hand T) × HandFits v (later u) at_now gifts_now homes_now u hand
+  pub held_on : (own : Hand T) → HandFits bare v (later thread) at_now gifts_now homes_now thread own
+      → ((u : ℕ) → (hand : Hand T) × HandFits bare w (place u) at gifts homes u hand)
+      → (u : ℕ) → (hand : Hand T) × HandFits bare v (later u) at_now gifts_now homes_now u hand
   held_on own mine all u =
       elim (cases_eq u thread) [
-        | inl same ↦ (own, subst (λ (t : ℕ). HandFits v (later t) at_now gifts_now homes_now t own) (sym same) mine)
+        | inl same ↦ (own, subst (λ (t : ℕ). HandFits bare v (later t) at_now gifts_now homes_now t own) (sym same) mine)
         | inr other ↦ let h = all u in (h.0, others u h.0 other h.1)
       ]
 
@@ -101,11 +101,11 @@ module _ {T : Type 0} (w v : ℕ → ℕ) (place later : ℕ → Option Running)
 pub record Tokens {T : Type 0} (o : Opening) (homes homes_now : Homes T) (views : List (View T)) (words : List ℕ)
     (kept : OneSchedule o words homes views) (end : World) (gifts : Gifts T) (thread : ℕ) (hand : Hand T) : Type 0 where
   pub at_now : ℕ → Where
-  pub slots : 0 < o.tokens → SlotsFit (clock_at o.shape.k o.shape.n) (word_at end) at_now gifts homes_now
-  pub own : 0 < o.tokens → HandFits (word_at end) (place_of end thread) at_now gifts homes_now thread hand
+  pub slots : 0 < o.tokens → SlotsFit o.bare (clock_at o.shape.k o.shape.n) (word_at end) at_now gifts homes_now
+  pub own : 0 < o.tokens → HandFits o.bare (word_at end) (place_of end thread) at_now gifts homes_now thread hand
   pub others : 0 < o.tokens → (u : ℕ) (other : Hand T) → u ≢ thread
-      → HandFits (word_at kept.world) (place_of kept.world u) kept.at kept.gifts homes u other
-      → HandFits (word_at end) (place_of end u) at_now gifts homes_now u other
+      → HandFits o.bare (word_at kept.world) (place_of kept.world u) kept.at kept.gifts homes u other
+      → HandFits o.bare (word_at end) (place_of end u) at_now gifts homes_now u other
 
 -- The one lemma of all steps: the seat's first thread has seen the schedule so far, and then adds what is its own
 pub adds : {T : Type 0} (o : Opening) (words after_words : List ℕ) (homes homes_now : Homes T) (views : List (View T)) (id : ℕ) (thread : ℕ)
@@ -157,12 +157,12 @@ adds {T} o words after_words homes homes_now views id thread seen gifts hand han
       slots = tokens.slots;
       hands = λ some_tokens j u e.
           let on = λ (seat first : ℕ) (parts : List (Part T)).
-          all_hands_on (word_at kept.world) (word_at end) (place_of kept.world) (place_of end) kept.at tokens.at_now kept.gifts
+          all_hands_on o.bare (word_at kept.world) (word_at end) (place_of kept.world) (place_of end) kept.at tokens.at_now kept.gifts
           (kept.gifts ++ given) homes homes_now thread (tokens.others some_tokens) kept.owner seat first parts in
           let all_mine = kept.hands some_tokens id (view_of o (part thread seen gifts hand ∷ more)) at in
           ⊎_elim
           (λ (x : (j ≡ id) × (view_of o (part thread (kept.all ++ tail) (kept.gifts ++ given) hand_now ∷ more) ≡ u)).
-          subst (λ (y : View T). AllHands (word_at end) (place_of end) tokens.at_now (kept.gifts ++ given) homes_now y.parts) x.1 (
+          subst (λ (y : View T). AllHands o.bare (word_at end) (place_of end) tokens.at_now (kept.gifts ++ given) homes_now y.parts) x.1 (
             tokens.own some_tokens,
             on id 1 more (λ k le same. let e : k
                 ≡ 0 = ap (λ (x : ℕ × ℕ). x.1) (sym same ∙ owned) in absurd (omega arith)) mine.owns.1 all_mine.1,
@@ -171,7 +171,7 @@ adds {T} o words after_words homes homes_now views id thread seen gifts hand han
           on j 0 u.parts (λ k le same. x.0 (ap (λ (z : ℕ × ℕ). z.0) (sym same ∙ owned))) (kept.fit j u x.1).owns
           (kept.hands some_tokens j u x.1))
           (at_set views id j (view_of o (part thread (kept.all ++ tail) (kept.gifts ++ given) hand_now ∷ more)) u e);
-      holders = λ some_tokens. held_on (word_at kept.world) (word_at end) (place_of kept.world) (place_of end) kept.at tokens.at_now
+      holders = λ some_tokens. held_on o.bare (word_at kept.world) (word_at end) (place_of kept.world) (place_of end) kept.at tokens.at_now
           kept.gifts (kept.gifts ++ given) homes homes_now thread (tokens.others some_tokens)
           hand_now (tokens.own some_tokens) (kept.holders some_tokens);
     }
@@ -213,7 +213,7 @@ goes_at : {T : Type 0} (o : Opening) (s : State (Option T) (View T)) (id : ℕ) 
     → world_after o seen ≡ Some here → thread < length here.places → place_of here thread ≡ place
     → (begin : Option Begin) (running : Running) → going o.shape place begin ≡ Some running
     → (i : ℕ) → accessed (access o.shape running) ≡ i → (f : ℕ → ℕ) → ((n : ℕ) → f n ≡ written (access o.shape running) n)
-    → Carries place o.tokens hand held → (0 < o.tokens → BeginsWith begin hand held)
+    → Carries place o.tokens hand held → (0 < o.tokens → BeginsWith o.bare begin hand held)
     → OneSchedule o s.words s.homes s.views → get_elem? s.views id ≡ some (view_of o (part thread seen gifts hand ∷ more))
     → (w : View T) × (a : Act (Option T)) × Valid s.homes held a
     × OneSchedule o (slice_set s.words i (f (slice_index s.words i))) (homes_after s.homes held a) (set s.views id w)
@@ -241,7 +241,7 @@ goes_at {T} o s id thread seen gifts hand more held place here reached within st
     let hand_at = λ (all_gifts : Gifts T) (n : ℕ). hand_after (move running n) (all_gifts ++ new) (begun_hand begin held hand) in
     let t = turned o kept.all kept.world kept.at kept.gifts s.homes thread place begin running hand held kept.runs inside still_there from
     kept.slots
-    (λ some_tokens. subst (λ (p : Option Running). HandFits (word_at kept.world) p kept.at kept.gifts s.homes thread hand) still_there
+    (λ some_tokens. subst (λ (p : Option Running). HandFits o.bare (word_at kept.world) p kept.at kept.gifts s.homes thread hand) still_there
     (kept.hands some_tokens id (view_of o (part thread seen gifts hand ∷ more)) at).0) carries begins o.tokens refl in
     let hand_now = hand_at kept.gifts (found o.shape kept.world running) in
     let same_hand : hand_now ≡ hand_at (gifts ++ g.0) (slice_index s.words i) = λ j. hand_at (g.1 j) (sym found_is j) in
@@ -255,7 +255,7 @@ goes_at {T} o s id thread seen gifts hand more held place here reached within st
     home_step (move running (found o.shape kept.world running)) (kept.gifts ++ new) (begun_hand begin held hand)
     ∙ (same_home begin held hand).0 in
     let rests : IsResting o.threads thread hand_now = λ beyond. let p = mine.resting.0 beyond in (p.0, home ∙ p.1) in
-    let own_fits : 0 < o.tokens → HandFits (word_at kept.world) (place_of kept.world thread) kept.at kept.gifts s.homes thread hand =
+    let own_fits : 0 < o.tokens → HandFits o.bare (word_at kept.world) (place_of kept.world thread) kept.at kept.gifts s.homes thread hand =
     λ some_tokens. (kept.hands some_tokens id (view_of o (part thread seen gifts hand ∷ more)) at).0 in
     let turns : GiftsFit o (kept.all ++ e ∷ []) (kept.gifts ++ new) = record {
       in_turn = in_turn_on kept.all kept.gifts thread begin held kept.in_turn.in_turn;
@@ -282,7 +282,7 @@ goes_at {T} o s id thread seen gifts hand more held place here reached within st
         within = inside;
         goes = now;
         word_is = found_is;
-        taken = λ some_tokens x e. subst (λ (gs : Gifts T). (0 < x) × ((payload : T) × (beside x (gs ++ new) ≡ Some payload))) g.1
+        taken = λ some_tokens x e. subst (λ (gs : Gifts T). (0 < x) × IsGift o.bare (beside x (gs ++ new))) g.1
             (t.taken some_tokens x (ap (move running) (sym found_is) ∙ e));
         out = t.out;
         in_turn = subst (λ (x : List Event × Gifts T). GiftsFit o (x.0 ++ e ∷ []) (x.1 ++ new)) (λ j. (b.goes_on j, g.1 j)) turns;
@@ -297,7 +297,7 @@ goes_at {T} o s id thread seen gifts hand more held place here reached within st
 pub goes : {T : Type 0} (o : Opening) (slots id : ℕ) (me : Me (Option T) (View T)) (place : Option Running) → IsAt place me
     → (begin : Option Begin) (running : Running) (shape : Shape) → me.0.opened.shape ≡ shape → going shape place begin ≡ Some running
     → (a : Access) → access shape running ≡ a → (f : ℕ → ℕ) → ((n : ℕ) → f n ≡ written a n)
-    → (0 < me.0.opened.tokens → BeginsWith begin (hand_of me.0) me.1)
+    → (0 < me.0.opened.tokens → BeginsWith me.0.opened.bare begin (hand_of me.0) me.1)
     → Allows (λ (s : State (Option T) (View T)). OneSchedule o s.words s.homes s.views) slots id me (accessed a) f
     (λ found w. Steps begin me found w)
 goes {T} o slots id me place stood begin running shape sizes from a is f writes begins s kept homes at fits =

@@ -2,7 +2,7 @@
 use Rattle.std.proofs.Common.{◌≡◌, ◌≢◌, ◌⊎◌, ℕ, zero, suc, ◌+◌, ◌-◌, ◌*◌, ◌<◌, ◌≤◌, List, [], ◌∷◌, ◌++◌, append_assoc, drop, length, map}
 use Rattle.std.proofs.Common.{get_or, set, Option, Some, None, refl, sym, ap, ◌∙◌, subst, inl, inr, arith, cond, eq-eqb, ne_eqb}
 use Rattle.std.proofs.Common.{mul-le-mul_right, suc-mul}
-use Rattle.std.specs.Prelude.{◌==◌}
+use Rattle.std.specs.Prelude.{◌==◌, false}
 use Rattle.std.proofs.lemmas.List.{append-nil, drop_more, length-replicate, map-append}
 use Rattle.std.proofs.lemmas.Bool.{cases_eq}
 use Rattle.std.proofs.lemmas.Bool.Decides.{nat_tests}
@@ -18,7 +18,7 @@ use Rattle.kfifo_machine.specs.Machine.{World, opening, run, word_at}
 use Rattle.kfifo_machine.specs.Runs.{Begins, own}
 use Rattle.kfifo_machine.proofs.Schedules.{first_made, made_within, own_none, run_on, still_threads}
 use Rattle.kfifo_live.specs.Balance.{times, undos, takes}
-use Rattle.kfifo_live.specs.Hands.{Gifts, In, beside}
+use Rattle.kfifo_live.specs.Hands.{Gifts, In, IsGift, beside}
 use Rattle.kfifo_live.specs.Left.{item_in, slots_left, segments_left, items_left}
 use Rattle.kfifo_live.specs.Pass.{OpenQueue}
 use Rattle.kfifo_live.specs.Payloads.{HavePayloads, IsPayPass, PayCloses, PayJoins, PayPassView, in_slot, pay_pass_view}
@@ -246,6 +246,9 @@ module _ {T : Type 0} (q : OpenQueue) (table : TableId) {thread room id : ℕ} {
   some_tokens : 0 < q.opened.tokens
   some_tokens = subst (λ (o : Opening). 0 < o.tokens) same p.some_tokens
 
+  with_payloads : q.opened.bare ≡ false
+  with_payloads = ap (λ (o : Opening). o.bare) (sym same) ∙ p.kind
+
   tokens : List ℕ
   tokens = items_left q.opened.shape words
 
@@ -261,7 +264,10 @@ module _ {T : Type 0} (q : OpenQueue) (table : TableId) {thread room id : ℕ} {
       let x = value_of (get_or words i 0) in
       let P : ℕ → Type 0 = λ w. value_of w ≢ 0 → ((payload : T) × (beside (value_of w) kept.gifts ≡ Some payload))
       × (get_elem? f.0.homes (value_of w - 1) ≡ some (some (beside (value_of w) kept.gifts))) in
-      let fits = subst P (sym at) (λ full. let all = kept.slots some_tokens i above below full in (all.1, all.2)) filled in
+      let fits = subst P (sym at) (λ full. let all = kept.slots some_tokens i above below full in (
+        subst (λ b. IsGift b (beside (value_of (word_at kept.world i)) kept.gifts)) with_payloads all.1,
+        all.2,
+      )) filled in
       let there = f.4 (x - 1) (beside x kept.gifts) fits.1 in
       let inside = within_list slots (x - 1) (beside x kept.gifts) there in
       let is = get_or_at None slots (x - 1) (beside x kept.gifts) there in (

@@ -1,5 +1,6 @@
 -- What a call with a payload leaves of its pass, and what it did.
-use Rattle.std.proofs.Common.{◌≡◌, ℕ, zero, suc, ◌+◌, ◌-◌, ◌*◌, ◌^◌, ◌<◌, ◌≤◌, List, [], ◌∷◌, ◌++◌, reverse, Option, Some, None, refl, sym}
+use Rattle.std.proofs.Common.{◌≡◌, ℕ, zero, suc, ◌+◌, ◌-◌, ◌*◌, ◌<◌, ◌≤◌, List, [], ◌∷◌, ◌++◌, reverse, Option, Some, None, refl, sym}
+use Rattle.std.proofs.Common.{Bool, true}
 use Rattle.std.proofs.Common.{ap, ◌∙◌, subst, arith, mul-le-mul_right}
 use Rattle.std.proofs.lemmas.List.{append_assoc, reverse-append}
 use Rattle.atomic_table.specs.Table.{Me}
@@ -9,16 +10,16 @@ use Rattle.kfifo_model.specs.declared.calls.Answer.TheVariants as A
 use Rattle.kfifo_machine.specs.declared.event.Begin.TheVariants as B
 use Rattle.kfifo_machine.specs.declared.place.Next.TheVariants.{Answers}
 use Rattle.kfifo_machine.specs.Runs.{CompleteExecution, event, own}
-use Rattle.kfifo_live.specs.declared.payload.Given.TheVariants as G
 use Rattle.kfifo_live.specs.declared.payload.Taken.TheVariants as K
-use Rattle.kfifo_live.specs.Hands.{FitsOwn, Gifts, InTurn, Leaves, BeginsWith, beside, carried, carrying, gift, out_next}
+use Rattle.kfifo_live.specs.Hands.{FitsOwn, Gifts, InTurn, IsGift, Leaves, BeginsWith, beside, carried, carrying, gift, out_next}
 use Rattle.kfifo_live.specs.Schedule.{AllGiven, GiftsFit, IsSmall, count_up, part, thread_in, more_in, hand_in, both_parts, first_part}
-use Rattle.kfifo_live.specs.Schedule.{thread_of, seen_of, gifts_of, hand_of, with_seen}
+use Rattle.kfifo_live.specs.Schedule.{thread_of, seen_of, gifts_of, hand_of, with_seen, with_home, with_resting, resting_view}
 use Rattle.kfifo_live.specs.Step.{IsAt, DrawsToken, Leads, Looks}
 use Rattle.kfifo_live.specs.Pass.{PassView, OpenQueue, pass_view}
 use Rattle.kfifo_live.specs.Calls.{MakesCall}
-use Rattle.kfifo_live.specs.Payloads.{new_pay_passes, pay_pass_view, IsPayPass, GivesOn, EnqueuesWith, DequeuesWith, Refuses}
-use Rattle.kfifo_live.specs.Payloads.{Gives, TakesOut}
+use Rattle.kfifo_live.specs.Payloads.{new_pay_passes, pay_pass_view, HasTokens, GivesOn, EnqueuesWith, DequeuesWith, Refuses}
+use Rattle.kfifo_live.specs.Payloads.{PayPassView, TakesOut, TookWhatWasPut}
+use Rattle.kfifo_live.specs.Tokens.{IsTokenPass}
 use Rattle.kfifo_live.proofs.Givers.{took_what_was_put}
 use Rattle.kfifo_live.proofs.Made.{makes_call}
 use Rattle.kfifo_live.proofs.NewPasses.{no_slot}
@@ -75,8 +76,8 @@ module _ {T : Type 0} where
   one_payload k x y e f = Some-injective x y (sym (ap carried e) ∙ ap carried f)
 
   -- a pass between two calls has no token out
-  pub pass_out : {thread room : ℕ} {me : Me (Option T) (View T)} {items : List ℕ} → IsPayPass thread me items room → (hand_of me.0).out ≡ 0
-  pass_out {thread} {room} {me} {items} p = none_out me.0.opened.tokens (hand_of me.0).out p.pass.idle.carries.0 p.some_tokens
+  pub pass_out : {bare : Bool} {thread room : ℕ} {me : Me (Option T) (View T)} {items : List ℕ} → HasTokens bare thread me items room → (hand_of me.0).out ≡ 0
+  pass_out {bare} {thread} {room} {me} {items} p = none_out me.0.opened.tokens (hand_of me.0).out p.pass.idle.carries.0 p.some_tokens
       (sym p.pass.held ∙ p.pass.idle.carries.1)
 
   -- gifts of a view that has seen this schedule
@@ -87,21 +88,51 @@ module _ {T : Type 0} where
   in_turn_as is turns = subst Fit (sym is) turns
 
   -- the pass after moves of its own
-  pub again : {thread room room_now : ℕ} {old new : Me (Option T) (View T)} {items now : List ℕ} → IsPayPass thread old items room
+  pub again : {bare : Bool} {thread room room_now : ℕ} {old new : Me (Option T) (View T)} {items now : List ℕ} → HasTokens bare thread old items room
       → IsAlone thread new.0 → new.1 ≡ [] → IsAt None new → new.0.opened ≡ old.0.opened
-      → (hand_of new.0).at_home ≡ reverse now → room_now ≡ room → Fit new.0 → IsPayPass thread new now room_now
-  again {thread} {room} {room_now} {old} {new} p alone held idle same stacked roomy turns = record {
+      → (hand_of new.0).at_home ≡ reverse now → room_now ≡ room → Fit new.0 → HasTokens bare thread new now room_now
+  again {bare} {thread} {room} {room_now} {old} {new} p alone held idle same stacked roomy turns = record {
     pass = record { alone = alone; held = held; idle = idle; few = subst IsSmall (sym same) p.pass.few };
     stacked = stacked;
     some_tokens = subst (λ o. 0 < o) (sym (ap (λ o. o.tokens) same)) p.some_tokens;
-    few_tokens = subst (λ o. o ≤ 1024) (sym (ap (λ o. o.tokens) same)) p.few_tokens;
+    few_tokens = subst (λ n. n ≤ 65536) (sym (ap (λ o. o.threads * o.tokens) same)) p.few_tokens;
     has_room = subst (λ (x : ℕ × ℕ). x.0 ≤ x.1) (λ i. (sym (ap (λ o. o.threads * o.tokens) same) i, sym roomy i)) p.has_room;
+    kind = ap (λ o. o.bare) same ∙ p.kind;
     in_turn = turns;
   }
 
+  -- the pass with other tokens at home
+  pub rehomed : {bare : Bool} {thread room room_now : ℕ} {old new : Me (Option T) (View T)} {items : List ℕ} (tokens now : List ℕ)
+      → HasTokens bare thread old items room → new.0 ≡ with_home old.0 tokens → new.1 ≡ old.1 → tokens ≡ reverse now → room_now ≡ room
+      → HasTokens bare thread new now room_now
+  rehomed {bare} {thread} {room} {room_now} {old} {new} tokens now p view slots are roomy =
+      again p (alone_on thread old.0 new.0 p.pass.alone view) (slots ∙ p.pass.held)
+      (idle_with old new (record { at_home = tokens; out = (hand_of old.0).out; payload = (hand_of old.0).payload })
+      p.pass.idle.carries.0 p.pass.idle view (slots ∙ p.pass.idle.carries.1))
+      (ap (λ (v : View T). v.opened) view) (ap (λ (v : View T). (hand_of v).at_home) view ∙ are) roomy (in_turn_as view p.in_turn)
+
+  -- a pass with no token takes one in
+  pub holds_one : {bare : Bool} {thread room : ℕ} {old new : Me (Option T) (View T)} (token : ℕ) → HasTokens bare thread old [] room
+      → new ≡ (with_resting old.0 (resting_view old.0.opened token), old.1) → HasTokens bare thread new (token ∷ []) room
+  holds_one {bare} {thread} {room} {old} token p is =
+      rehomed (token ∷ (hand_of old.0).at_home) (token ∷ []) p (ap (λ m. m.0) is) (ap (λ m. m.1) is)
+      (ap (λ xs. token ∷ xs) p.stacked) refl
+
+  -- a pass with no token needs no room
+  pub token_pass : {thread room : ℕ} {me : Me (Option T) (View T)} → HasTokens true thread me [] room → IsTokenPass thread me
+  token_pass p = record {
+    pass = p.pass;
+    stacked = p.stacked;
+    some_tokens = p.some_tokens;
+    few_tokens = p.few_tokens;
+    has_room = omega arith;
+    kind = p.kind;
+    in_turn = p.in_turn;
+  }
+
   -- after a look with another's parts beside its own, a pass has its tokens
-  module _ {thread room word found : ℕ} {items : List ℕ} {old new : Me (Option T) (View T)} (other : View T) {both seen : View T}
-      (p : IsPayPass thread old items room) (slots : new.1 ≡ old.1)
+  module _ {bare : Bool} {thread room word found : ℕ} {items : List ℕ} {old new : Me (Option T) (View T)} (other : View T) {both seen : View T}
+      (p : HasTokens bare thread old items room) (slots : new.1 ≡ old.1)
       (is : both ≡ both_parts old.0 other) (l : Looks word found both seen) (kept : new.0 ≡ first_part seen) where
     pub met_hand : hand_of new.0 ≡ hand_of old.0
     met_hand =
@@ -121,7 +152,7 @@ module _ {T : Type 0} where
     met_some : 0 < new.0.opened.tokens
     met_some = subst (λ o. 0 < o) (sym (ap (λ o. o.tokens) met_opened)) p.some_tokens
 
-    pub met_pass : IsPayPass thread new items room
+    pub met_pass : HasTokens bare thread new items room
     met_pass =
         let pass = met thread word found old new other both seen p.pass slots is l kept in
         again p pass.alone pass.held pass.idle met_opened (ap (λ (h : Hand T). h.at_home) met_hand ∙ p.stacked) refl met_fit
@@ -166,39 +197,43 @@ module _ {T : Type 0} where
       subst (λ (x : PassView × Gifts T). GiftsFit x.0.opened x.0.seen x.1) (λ i. (sym same i, sym gifts_same i)) fit
 
   -- a pass whose next token is out, its payload in the slot
-  pub record IsReady (thread token : ℕ) (others : List ℕ) (payload : T) (slots : ℕ) (old start : Me (Option T) (View T)) : Type 0 where
+  pub record IsReady (thread token : ℕ) (others : List ℕ) (payload : Option T) (slots : ℕ) (old start : Me (Option T) (View T))
+      : Type 0 where
     pub view : start.0 ≡ with_seen old.0 (seen_of old.0) (gifts_of old.0) (record { at_home = reverse others; out = token; payload = None })
-    pub held : start.1 ≡ (token - 1, Some payload) ∷ []
+    pub held : start.1 ≡ (token - 1, payload) ∷ []
+    pub carries : IsGift old.0.opened.bare payload
     pub first : (hand_of old.0).at_home ≡ token ∷ reverse others
     pub some : 0 < token
     pub within : token ≤ slots
 
-  pub first_is : {thread token room : ℕ} {items : List ℕ} (others : List ℕ) {old : Me (Option T) (View T)} → IsPayPass thread old items room
+  pub first_is : {bare : Bool} {thread token room : ℕ} {items : List ℕ} (others : List ℕ) {old : Me (Option T) (View T)} → HasTokens bare thread old items room
       → items ≡ others ++ token ∷ [] → (hand_of old.0).at_home ≡ token ∷ reverse others
-  first_is {thread} {token} {room} {items} others p popped = p.stacked ∙ ap reverse popped ∙ reverse-append others (token ∷ [])
+  first_is {bare} {thread} {token} {room} {items} others p popped = p.stacked ∙ ap reverse popped ∙ reverse-append others (token ∷ [])
 
   -- the token that was drawn is the one that the list gave
-  drawn_is : {thread token slots room : ℕ} {items : List ℕ} (others : List ℕ) {held : Option T} {old start : Me (Option T) (View T)}
-      → IsPayPass thread old items room → items ≡ others ++ token ∷ []
+  drawn_is : {bare : Bool} {thread token slots room : ℕ} {items : List ℕ} (others : List ℕ) {held : Option T} {old start : Me (Option T) (View T)}
+      → HasTokens bare thread old items room → items ≡ others ++ token ∷ []
       → (d : DrawsToken slots held old start) → (d.token ≡ token) × (d.others ≡ reverse others)
   drawn_is others p popped d = drawn_same _ _ _ _ (sym d.was ∙ first_is others p popped)
 
-  pub ready : {thread token slots room : ℕ} {items : List ℕ} (others : List ℕ) {old start : Me (Option T) (View T)} {payload : T}
-      → IsPayPass thread old items room → items ≡ others ++ token ∷ []
-      → DrawsToken slots (Some payload) old start → IsReady thread token others payload slots old start
-  ready {thread} {token} {slots} {room} {items} others {old} {start} {payload} p popped d =
+  pub ready : {bare : Bool} {thread token slots room : ℕ} {items : List ℕ} (others : List ℕ) {old start : Me (Option T) (View T)}
+      {payload : Option T}
+      → HasTokens bare thread old items room → items ≡ others ++ token ∷ []
+      → IsGift bare payload → DrawsToken slots payload old start → IsReady thread token others payload slots old start
+  ready {bare} {thread} {token} {slots} {room} {items} others {old} {start} {payload} p popped carries d =
       let same = drawn_is others p popped d in
       record {
         view = d.afterwards ∙ (λ i. with_seen old.0 (seen_of old.0) (gifts_of old.0)
             (record { at_home = same.1 i; out = same.0 i; payload = None }));
-        held = d.holds ∙ ap (λ x. (x - 1, Some payload) ∷ []) same.0;
+        held = d.holds ∙ ap (λ x. (x - 1, payload) ∷ []) same.0;
+        carries = subst (λ b. IsGift b payload) (sym p.kind) carries;
         first = first_is others p popped;
         some = subst (λ x. 0 < x) same.0 d.some;
         within = subst (λ x. x ≤ slots) same.0 d.within;
       }
 
-  module _ {thread token slots room : ℕ} {items others : List ℕ} {old start : Me (Option T) (View T)} {payload : T}
-      (p : IsPayPass thread old items room) (r : IsReady thread token others payload slots old start) where
+  module _ {bare : Bool} {thread token slots room : ℕ} {items others : List ℕ} {old start : Me (Option T) (View T)} {payload : Option T}
+      (p : HasTokens bare thread old items room) (r : IsReady thread token others payload slots old start) where
     pub opened_ready : start.0.opened ≡ old.0.opened
     opened_ready = ap (λ (v : View T). v.opened) r.view
 
@@ -212,16 +247,20 @@ module _ {T : Type 0} where
     alone_ready = alone_on thread old.0 start.0 p.pass.alone r.view
 
     pub idle_ready : IsAt None start
-    idle_ready = idle_with old start (record { at_home = reverse others; out = token; payload = None }) (Some payload) p.pass.idle r.view
-        (r.held ∙ sym (one_slot old.0.opened.tokens token (Some payload) p.some_tokens r.some))
+    idle_ready = idle_with old start (record { at_home = reverse others; out = token; payload = None }) payload p.pass.idle r.view
+        (r.held ∙ sym (one_slot old.0.opened.tokens token payload p.some_tokens r.some))
 
-    pub begins_ready : (s t : ℕ) → BeginsWith (Some (B.Enqueue token s t)) (hand_of start.0) start.1
-    begins_ready s t = (ap (λ (h : Hand T). h.out) hand_ready, (payload, ap carried r.held))
+    carries_ready : IsGift start.0.opened.bare (carried start.1)
+    carries_ready = subst (λ (x : Bool × Option T). IsGift x.0 x.1) (λ i. (sym (ap (λ o. o.bare) opened_ready) i, sym (ap carried r.held) i))
+        r.carries
+
+    pub begins_ready : (s t : ℕ) → BeginsWith start.0.opened.bare (Some (B.Enqueue token s t)) (hand_of start.0) start.1
+    begins_ready s t = (ap (λ (h : Hand T). h.out) hand_ready, carries_ready)
 
     module _ {s t : ℕ} {answer : Answer} {fin : Me (Option T) (View T)}
         (l : Leads (Some (B.Enqueue token s t)) start (Answers answer) fin) where
-      left : Leaves token (Some payload) (gifts_of start.0 ++ l.given) l.hand (Answers answer)
-      left = l.leaves some_ready token (Some payload) (refl, sym (ap carried r.held))
+      left : Leaves start.0.opened.bare token payload (gifts_of start.0 ++ l.given) l.hand (Answers answer)
+      left = l.leaves some_ready token payload (refl, sym (ap carried r.held))
 
       alone_given : IsAlone thread fin.0
       alone_given = alone_on thread start.0 fin.0 alone_ready l.now
@@ -244,7 +283,7 @@ module _ {T : Type 0} where
       turns_given : Fit fin.0
       turns_given = in_turn_as l.now l.in_turn
 
-      enqueued : (table table_now : TableId) (now : View T) → (pass_view table_now thread now ≡ pass_view table_now thread fin.0)
+      pub enqueued : (table table_now : TableId) (now : View T) → (pass_view table_now thread now ≡ pass_view table_now thread fin.0)
           → gifts_of now ≡ gifts_of fin.0
           → EnqueuesWith token s t answer payload (pay_pass_view table thread old.0) (pay_pass_view table_now thread now)
       enqueued table table_now now same gifts_same =
@@ -255,7 +294,7 @@ module _ {T : Type 0} where
           let made : Begin = B.Enqueue token s t in
           let of_thread : thread_of start.0 ≡ thread = ap thread_in alone_ready in
           let was : seen_of start.0 ≡ seen_of old.0 = ap seen_of r.view in
-          let beside_it : gift (Some made) start.1 ≡ (token, Some payload) ∷ [] =
+          let beside_it : gift (Some made) start.1 ≡ (token, payload) ∷ [] =
           ap (λ (v : Option T). (token, v) ∷ []) (ap carried r.held) in
           record {
             call = subst (λ (x : PassView × PassView). MakesCall made answer x.0 x.1) (λ i. (started i, sym same i)) call;
@@ -286,14 +325,15 @@ module _ {T : Type 0} where
           }
 
       -- Done: the token is gone
-      pub done_pass : answer ≡ A.Done → {room_now : ℕ} → room_now ≡ room → IsPayPass thread fin others room_now
+      pub done_pass : answer ≡ A.Done → {room_now : ℕ} → room_now ≡ room → HasTokens bare thread fin others room_now
       done_pass done roomy =
           let gone : l.hand.out ≡ 0 = left.out ∙ ap (λ a. out_next token (Answers a)) done in
           again p alone_given (l.carries ∙ ap (λ n. carrying start.0.opened.tokens n l.hand.payload) gone
           ∙ no_slot start.0.opened.tokens l.hand.payload) idle_given opened_given home_given roomy turns_given
 
       pub done_gives : answer ≡ A.Done → (table table_now : TableId)
-          → Gives s t payload G.Done (pay_pass_view table thread old.0) (pay_pass_view table_now thread fin.0)
+          → (first : ℕ) × ((hand_of old.0).at_home ≡ first ∷ (hand_of fin.0).at_home)
+          × EnqueuesWith first s t A.Done payload (pay_pass_view table thread old.0) (pay_pass_view table_now thread fin.0)
       done_gives done table table_now = (
         token,
         r.first ∙ ap (λ xs. token ∷ xs) (sym home_given),
@@ -316,42 +356,58 @@ module _ {T : Type 0} where
       pub refused_out_is : (answer ≡ A.Done → ⊥) → (hand_of fin.0).out ≡ token
       refused_out_is not_done = ap (λ (v : View T). (hand_of v).out) l.now ∙ left.out ∙ refused_out answer left.fits not_done
 
-      pub refused_held : (answer ≡ A.Done → ⊥) → fin.1 ≡ (token - 1, Some payload) ∷ []
+      pub refused_held : (answer ≡ A.Done → ⊥) → fin.1 ≡ (token - 1, payload) ∷ []
       refused_held not_done =
           l.carries
           ∙ (λ i. carrying start.0.opened.tokens ((left.out ∙ refused_out answer left.fits not_done) i) (left.kept r.some i))
-          ∙ one_slot start.0.opened.tokens token (Some payload) some_ready r.some
+          ∙ one_slot start.0.opened.tokens token payload some_ready r.some
+
+      -- the pass between two calls, with these tokens at home
+      pub refused_home : {laid : Me (Option T) (View T)} {room_now : ℕ} (tokens now : List ℕ)
+          → laid.0 ≡ with_seen fin.0 (seen_of fin.0) (gifts_of fin.0) (record { at_home = tokens; out = 0; payload = None })
+          → laid.1 ≡ [] → tokens ≡ reverse now → room_now ≡ room → HasTokens bare thread laid now room_now
+      refused_home {laid} tokens now view held are roomy =
+          again p (alone_on thread fin.0 laid.0 alone_given view) held
+          (idle_with fin laid (record { at_home = tokens; out = 0; payload = None }) None idle_given view
+          (held ∙ sym (no_slot fin.0.opened.tokens None)))
+          (ap (λ (v : View T). v.opened) view ∙ opened_given) (ap (λ (v : View T). (hand_of v).at_home) view ∙ are) roomy
+          (in_turn_as view turns_given)
 
       module _ {laid : Me (Option T) (View T)} (view : laid.0
           ≡ with_seen fin.0 (seen_of fin.0) (gifts_of fin.0)
           (record { at_home = token ∷ (hand_of fin.0).at_home; out = 0; payload = None })) (held : laid.1 ≡ []) where
-        pub refused_pass : {now : List ℕ} {room_now : ℕ} → now ≡ others ++ token ∷ [] → room_now ≡ room → IsPayPass thread laid now room_now
-        refused_pass {now} now_is roomy =
-            again p (alone_on thread fin.0 laid.0 alone_given view) held
-            (idle_with fin laid (record { at_home = token ∷ (hand_of fin.0).at_home; out = 0; payload = None }) None idle_given view
-            (held ∙ sym (no_slot fin.0.opened.tokens None)))
-            (ap (λ (v : View T). v.opened) view ∙ opened_given)
-            (ap (λ (v : View T). (hand_of v).at_home) view ∙ ap (λ xs. token ∷ xs) home_given
-            ∙ sym (ap reverse now_is ∙ reverse-append others (token ∷ []))) roomy (in_turn_as view turns_given)
+        pub refused_pass : {now : List ℕ} {room_now : ℕ} → now ≡ others ++ token ∷ [] → room_now ≡ room → HasTokens bare thread laid now room_now
+        refused_pass {now} now_is roomy = refused_home (token ∷ (hand_of fin.0).at_home) now view held
+            (ap (λ xs. token ∷ xs) home_given ∙ sym (ap reverse now_is ∙ reverse-append others (token ∷ []))) roomy
 
-        pub refused : (answer ≡ A.Done → ⊥) → (a : Answer) → answer ≡ a → (back : T) → fin.1 ≡ (token - 1, Some back) ∷ []
-            → (table table_now : TableId) → Refuses s t a payload back (pay_pass_view table thread old.0)
+        pub refused_enqueue : (a : Answer) → answer ≡ a → (table table_now : TableId)
+            → EnqueuesWith token s t a payload (pay_pass_view table thread old.0) (pay_pass_view table_now thread laid.0)
+        refused_enqueue a is table table_now =
+            subst (λ a. EnqueuesWith token s t a payload (pay_pass_view table thread old.0) (pay_pass_view table_now thread laid.0)) is
+            (enqueued table table_now laid.0 (ap (pass_view table_now thread) view) (ap gifts_of view))
+
+        pub refused_kept : (hand_of laid.0).at_home ≡ (hand_of old.0).at_home
+        refused_kept = ap (λ (v : View T). (hand_of v).at_home) view ∙ ap (λ xs. token ∷ xs) home_given ∙ sym r.first
+
+        pub refused : (answer ≡ A.Done → ⊥) → (a : Answer) → answer ≡ a → (given back : T) → payload ≡ Some given
+            → fin.1 ≡ (token - 1, Some back) ∷ []
+            → (table table_now : TableId) → Refuses s t a given back (pay_pass_view table thread old.0)
             (pay_pass_view table_now thread laid.0)
-        refused not_done a is back back_is table table_now = record {
-          same = one_payload (token - 1) back payload back_is (refused_held not_done);
+        refused not_done a is given back given_is back_is table table_now = record {
+          same = one_payload (token - 1) back given back_is (refused_held not_done ∙ ap (λ x. (token - 1, x) ∷ []) given_is);
           token = token;
           others = reverse others;
           first = r.first;
-          kept = ap (λ (v : View T). (hand_of v).at_home) view ∙ ap (λ xs. token ∷ xs) home_given ∙ sym r.first;
-          enqueue = subst (λ a. EnqueuesWith token s t a payload (pay_pass_view table thread old.0) (pay_pass_view table_now thread laid.0))
-              is
-              (enqueued table table_now laid.0 (ap (pass_view table_now thread) view) (ap gifts_of view));
+          kept = refused_kept;
+          enqueue = subst (λ x. EnqueuesWith token s t a x (pay_pass_view table thread old.0) (pay_pass_view table_now thread laid.0))
+              given_is (refused_enqueue a is table table_now);
         }
 
   -- a dequeue of a pass
-  module _ {thread room s t : ℕ} {items : List ℕ} {old fin : Me (Option T) (View T)} {answer : Answer} (p : IsPayPass thread old items room)
+  module _ {bare : Bool} {thread room s t : ℕ} {items : List ℕ} {old fin : Me (Option T) (View T)} {answer : Answer}
+      (p : HasTokens bare thread old items room)
       (l : Leads (Some (B.Dequeue s t)) old (Answers answer) fin) where
-    took : Leaves 0 None (gifts_of old.0 ++ l.given) l.hand (Answers answer)
+    took : Leaves old.0.opened.bare 0 None (gifts_of old.0 ++ l.given) l.hand (Answers answer)
     took = l.leaves p.some_tokens 0 None refl
 
     alone_took : IsAlone thread fin.0
@@ -360,7 +416,7 @@ module _ {T : Type 0} where
     home_took : (hand_of fin.0).at_home ≡ (hand_of old.0).at_home
     home_took = ap (λ (v : View T). (hand_of v).at_home) l.now ∙ l.at_home
 
-    opened_took : fin.0.opened ≡ old.0.opened
+    pub opened_took : fin.0.opened ≡ old.0.opened
     opened_took = ap (λ (v : View T). v.opened) l.now
 
     pub idle_took : IsAt None fin
@@ -395,7 +451,7 @@ module _ {T : Type 0} where
         }
 
     -- nothing was taken
-    pub none_pass : out_next 0 (Answers answer) ≡ 0 → IsPayPass thread fin items room
+    pub none_pass : out_next 0 (Answers answer) ≡ 0 → HasTokens bare thread fin items room
     none_pass none =
         again p alone_took (l.carries ∙ ap (λ n. carrying old.0.opened.tokens n l.hand.payload) (took.out ∙ none)
         ∙ no_slot old.0.opened.tokens l.hand.payload) idle_took opened_took stacked_took refl turns_took
@@ -407,56 +463,107 @@ module _ {T : Type 0} where
     -- a token was taken
     module _ {token : ℕ} (is : answer ≡ A.Got token) where
       got : (0 < token) × (l.hand.payload ≡ beside token (gifts_of old.0 ++ l.given))
-          × ((found : T) × (beside token (gifts_of old.0 ++ l.given) ≡ Some found))
-      got = took.taken token (ap Answers is)
+          × IsGift bare (beside token (gifts_of old.0 ++ l.given))
+      got =
+          let taken = took.taken token (ap Answers is) in
+          (taken.0, taken.1, subst (λ b. IsGift b (beside token (gifts_of old.0 ++ l.given))) p.kind taken.2)
 
       pub got_out : (0 < token) × ((hand_of fin.0).out ≡ token)
       got_out = (got.0, ap (λ (v : View T). (hand_of v).out) l.now ∙ took.out ∙ ap (λ a. out_next 0 (Answers a)) is)
 
-      pub got_held : (payload : T) × (fin.1 ≡ (token - 1, Some payload) ∷ [])
+      pub got_held : (payload : Option T) × IsGift bare payload × (fin.1 ≡ (token - 1, payload) ∷ [])
+          × (payload ≡ beside token (gifts_of old.0 ++ l.given))
       got_held = (
-        got.2.0,
-        l.carries ∙ (λ i. carrying old.0.opened.tokens ((took.out ∙ ap (λ a. out_next 0 (Answers a)) is) i) ((got.1 ∙ got.2.1) i))
-            ∙ one_slot old.0.opened.tokens token (Some got.2.0) p.some_tokens got.0,
+        beside token (gifts_of old.0 ++ l.given),
+        got.2,
+        l.carries ∙ (λ i. carrying old.0.opened.tokens ((took.out ∙ ap (λ a. out_next 0 (Answers a)) is) i) (got.1 i))
+            ∙ one_slot old.0.opened.tokens token (beside token (gifts_of old.0 ++ l.given)) p.some_tokens got.0,
+        refl,
       )
 
-      module _ {laid : Me (Option T) (View T)} (view : laid.0
-          ≡ with_seen fin.0 (seen_of fin.0) (gifts_of fin.0)
-          (record { at_home = token ∷ (hand_of fin.0).at_home; out = 0; payload = None })) (held : laid.1 ≡ []) where
-        pub got_pass : {now : List ℕ} {room_now : ℕ} → now ≡ items ++ token ∷ [] → room_now ≡ room → IsPayPass thread laid now room_now
-        got_pass {now} now_is roomy =
+      module _ (laid : Me (Option T) (View T)) (home : List ℕ) (view : laid.0
+          ≡ with_seen fin.0 (seen_of fin.0) (gifts_of fin.0) (record { at_home = home; out = 0; payload = None })) where
+        -- the pass between two calls, with these tokens at home
+        pub got_home : {now : List ℕ} {room_now : ℕ} → laid.1 ≡ [] → home ≡ reverse now → room_now ≡ room
+            → HasTokens bare thread laid now room_now
+        got_home held are roomy =
             again p (alone_on thread fin.0 laid.0 alone_took view) held
-            (idle_with fin laid (record { at_home = token ∷ (hand_of fin.0).at_home; out = 0; payload = None }) None idle_took view
+            (idle_with fin laid (record { at_home = home; out = 0; payload = None }) None idle_took view
             (held ∙ sym (no_slot fin.0.opened.tokens None)))
-            (ap (λ (v : View T). v.opened) view ∙ opened_took)
-            (ap (λ (v : View T). (hand_of v).at_home) view ∙ ap (λ xs. token ∷ xs) stacked_took
-            ∙ sym (ap reverse now_is ∙ reverse-append items (token ∷ []))) roomy (in_turn_as view turns_took)
+            (ap (λ (v : View T). v.opened) view ∙ opened_took) (ap (λ (v : View T). (hand_of v).at_home) view ∙ are) roomy
+            (in_turn_as view turns_took)
 
-        pub got_takes : (payload : T) → fin.1 ≡ (token - 1, Some payload) ∷ [] → (table table_now : TableId)
-            → TakesOut s t (K.Got payload) (pay_pass_view table thread old.0) (pay_pass_view table_now thread laid.0)
+        -- the token that was taken, with what was put beside it
+        pub got_takes : (table table_now : TableId)
+            → (beside token (gifts_of laid.0) ≡ got_held.0) × TookWhatWasPut token got_held.0 (pay_pass_view table_now thread laid.0)
+            × DequeuesWith s t (A.Got token) (pay_pass_view table thread old.0) (pay_pass_view table_now thread laid.0)
         unfolding got got_held
-        got_takes payload payload_is table table_now =
+        got_takes table table_now =
             let gifts : gifts_of laid.0 ≡ gifts_of old.0 ++ l.given = ap gifts_of view ∙ ap gifts_of l.now in
-            let same = one_payload (token - 1) got_held.0 payload got_held.1 payload_is in
-            let last : beside token (gifts_of laid.0) ≡ Some payload = ap (beside token) gifts ∙ got.2.1 ∙ ap Some same in
+            let last : beside token (gifts_of laid.0) ≡ got_held.0 = ap (beside token) gifts in
             let dequeue = subst (λ a. DequeuesWith s t a (pay_pass_view table thread old.0) (pay_pass_view table_now thread laid.0)) is
             (dequeued table table_now laid.0 (ap (pass_view table_now thread) view) (ap gifts_of view)) in
             let opened : laid.0.opened ≡ old.0.opened = ap (λ (v : View T). v.opened) view ∙ opened_took in
             let run = subst (λ (o : Opening). CompleteExecution o.shape o.threads thread (B.Dequeue s t) (A.Got token) (seen_of old.0)
             (seen_of laid.0)) (sym opened) dequeue.call.run in (
-              token,
-              ap (λ (v : View T). (hand_of v).at_home) view ∙ ap (λ xs. token ∷ xs) home_took,
               last,
-              took_what_was_put token payload (pay_pass_view table_now thread laid.0) s t (seen_of old.0) run got.0 dequeue.gifts.holder_law
-                  dequeue.gifts.in_turn last,
+              took_what_was_put token got_held.0 (pay_pass_view table_now thread laid.0) s t (seen_of old.0) run got.0
+                  dequeue.gifts.holder_law dequeue.gifts.in_turn last,
               dequeue,
             )
 
--- so few tokens are items
-pub few_items : (threads tokens token : ℕ) → threads ≤ 64 → tokens ≤ 1024 → token ≤ threads * tokens → token < 2 ^ 24
-few_items threads tokens token few small le =
+      module _ {laid : Me (Option T) (View T)} (view : laid.0
+          ≡ with_seen fin.0 (seen_of fin.0) (gifts_of fin.0)
+          (record { at_home = token ∷ (hand_of fin.0).at_home; out = 0; payload = None })) (held : laid.1 ≡ []) where
+        pub got_pass : {now : List ℕ} {room_now : ℕ} → now ≡ items ++ token ∷ [] → room_now ≡ room → HasTokens bare thread laid now room_now
+        got_pass {now} now_is roomy = got_home laid (token ∷ (hand_of fin.0).at_home) view held
+            (ap (λ xs. token ∷ xs) stacked_took ∙ sym (ap reverse now_is ∙ reverse-append items (token ∷ []))) roomy
+
+        -- of a payload that was found
+        pub got_payload : (payload : T) → fin.1 ≡ (token - 1, Some payload) ∷ [] → (table table_now : TableId)
+            → TakesOut s t (K.Got payload) (pay_pass_view table thread old.0) (pay_pass_view table_now thread laid.0)
+        got_payload payload is_payload table table_now =
+            let found : got_held.0 ≡ Some payload = ap carried (sym got_held.2 ∙ is_payload) in
+            let takes = got_takes laid (token ∷ (hand_of fin.0).at_home) view table table_now in (
+              token,
+              ap (λ (v : View T). (hand_of v).at_home) view ∙ ap (λ xs. token ∷ xs) home_took,
+              takes.0 ∙ found,
+              subst (λ x. TookWhatWasPut token x (pay_pass_view table_now thread laid.0)) found takes.1,
+              takes.2,
+            )
+
+-- what a call did, of views that differ in their tokens alone
+abbrev with_tokens : {T : Type 0} → PassView × Gifts T → List ℕ → PayPassView T
+with_tokens x tokens = record { pass = x.0; tokens = tokens; gifts = x.1 }
+
+module _ {T : Type 0} {old new was now : PayPassView T} (passes : (was.pass ≡ old.pass) × (now.pass ≡ new.pass))
+    (gifts : (was.gifts ≡ old.gifts) × (now.gifts ≡ new.gifts)) where
+  pub enqueues_as : {token start turns : ℕ} {answer : Answer} {payload : Option T} → EnqueuesWith token start turns answer payload old new
+      → EnqueuesWith token start turns answer payload was now
+  enqueues_as {token} {start} {turns} {answer} {payload} e =
+      let theirs : EnqueuesWith token start turns answer payload (with_tokens (old.pass, old.gifts) was.tokens)
+      (with_tokens (new.pass, new.gifts) now.tokens) = record {
+        call = e.call;
+        in_turn = e.in_turn;
+        holder_law = e.holder_law;
+        before = e.before;
+        after = e.after;
+        seen = e.seen;
+        others = e.others;
+        earlier = e.earlier;
+        later = e.later;
+        gifts = e.gifts;
+        before_it = e.before_it;
+      } in
+      subst (λ (x : (PassView × Gifts T) × (PassView × Gifts T)). EnqueuesWith token start turns answer payload
+      (with_tokens x.0 was.tokens) (with_tokens x.1 now.tokens))
+      (λ i. ((sym passes.0 i, sym gifts.0 i), (sym passes.1 i, sym gifts.1 i))) theirs
+
+-- a queue of few threads with few tokens each has few tokens
+pub few_in_all : (threads tokens : ℕ) → threads ≤ 64 → tokens ≤ 1024 → threads * tokens ≤ 65536
+few_in_all threads tokens few small =
     let up : threads * tokens ≤ 64 * tokens = mul-le-mul_right tokens few in
-    omega (arith, up, small, le)
+    omega (arith, up, small)
 
 pub new_pay_passes-snoc : {T : Type 0} (q : OpenQueue) (first n at : ℕ) → at ≡ first + n
     → new_pay_passes {T = T} q first (n + 1) ≡ new_pay_passes q first n

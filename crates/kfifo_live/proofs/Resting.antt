@@ -1,6 +1,6 @@
 -- A token goes from a thread into the pool and back, and the rule is kept.
 use Rattle.std.proofs.Common.{◌≡◌, ◌≢◌, ℕ, zero, suc, ◌+◌, ◌-◌, ◌<◌, ◌≤◌, List, [], ◌∷◌, ◌++◌, length, set, get_or, drop, Option, Some}
-use Rattle.std.proofs.Common.{None, refl, sym, ap, ◌∙◌, subst, inl, inr, ⊎_elim, arith, cond, eq-eqb, ne_eqb}
+use Rattle.std.proofs.Common.{None, Bool, refl, sym, ap, ◌∙◌, subst, inl, inr, ⊎_elim, arith, cond, eq-eqb, ne_eqb}
 use Rattle.std.specs.Prelude.{◌==◌, slice_set}
 use Rattle.std.specs.List.{AllByRecursion}
 use Rattle.std.proofs.lemmas.Bool.{cases_eq}
@@ -59,17 +59,17 @@ not_owned owner seat first n (p ∷ ps) apart owns =
     (λ same. apart first (ap owner (sym same) ∙ owns.0), not_owned owner seat (suc first) n ps apart owns.1)
 
 -- no part is the resting token of a token that is elsewhere
-no_resting : {T : Type 0} (words : ℕ → ℕ) (place : ℕ → Option Running) (at : ℕ → Where) (gifts : Gifts T) (homes : Homes T) (threads x : ℕ)
+no_resting : {T : Type 0} (bare : Bool) (words : ℕ → ℕ) (place : ℕ → Option Running) (at : ℕ → Where) (gifts : Gifts T) (homes : Homes T) (threads x : ℕ)
     (parts : List (Part T)) → ((j : ℕ) → at x ≢ Home (threads + x) j)
-    → AreResting threads parts → AllHands words place at gifts homes parts → NoPart (threads + x) parts
-no_resting words place at gifts homes threads x [] apart resting hands = tt
-no_resting words place at gifts homes threads x (p ∷ ps) apart resting hands = (
+    → AreResting threads parts → AllHands bare words place at gifts homes parts → NoPart (threads + x) parts
+no_resting bare words place at gifts homes threads x [] apart resting hands = tt
+no_resting bare words place at gifts homes threads x (p ∷ ps) apart resting hands = (
   λ same.
       let b = resting.0 (let le : threads ≤ p.thread = omega (arith, same) in le) in
       let first : p.hand.at_home ≡ x ∷ b.0 = b.1 ∙ ap (λ n. n ∷ b.0) (let e : p.thread - threads ≡ x = omega (arith, same) in e) in
       let home = subst (AllHome at homes p.thread) first hands.0.home in
       apart (length b.0) (home.0.1 ∙ ap (λ n. Home n (length b.0)) same),
-  no_resting words place at gifts homes threads x ps apart resting.1 hands.1,
+  no_resting bare words place at gifts homes threads x ps apart resting.1 hands.1,
 )
 
 -- a new number is owned
@@ -80,15 +80,15 @@ owns_too owner to n seat first (p ∷ ps) free owns =
     (ap (λ b. cond b to (owner p.thread)) (ne_eqb p.thread n free.0) ∙ owns.0, owns_too owner to n seat (suc first) ps free.1 owns.1)
 
 -- the hands of parts that are neither of two
-hands_to : {T : Type 0} (words : ℕ → ℕ) (place : ℕ → Option Running) (at at_now : ℕ → Where) (gifts : Gifts T) (homes homes_now : Homes T)
+hands_to : {T : Type 0} (bare : Bool) (words : ℕ → ℕ) (place : ℕ → Option Running) (at at_now : ℕ → Where) (gifts : Gifts T) (homes homes_now : Homes T)
     (a b : ℕ)
-    → ((u : ℕ) (hand : Hand T) → u ≢ a → u ≢ b → HandFits words (place u) at gifts homes u hand
-    → HandFits words (place u) at_now gifts homes_now u hand)
-    → (parts : List (Part T)) → NoPart a parts → NoPart b parts → AllHands words place at gifts homes parts
-    → AllHands words place at_now gifts homes_now parts
-hands_to words place at at_now gifts homes homes_now a b on [] not_a not_b hands = tt
-hands_to words place at at_now gifts homes homes_now a b on (p ∷ ps) not_a not_b hands =
-    (on p.thread p.hand not_a.0 not_b.0 hands.0, hands_to words place at at_now gifts homes homes_now a b on ps not_a.1 not_b.1 hands.1)
+    → ((u : ℕ) (hand : Hand T) → u ≢ a → u ≢ b → HandFits bare words (place u) at gifts homes u hand
+    → HandFits bare words (place u) at_now gifts homes_now u hand)
+    → (parts : List (Part T)) → NoPart a parts → NoPart b parts → AllHands bare words place at gifts homes parts
+    → AllHands bare words place at_now gifts homes_now parts
+hands_to bare words place at at_now gifts homes homes_now a b on [] not_a not_b hands = tt
+hands_to bare words place at at_now gifts homes homes_now a b on (p ∷ ps) not_a not_b hands =
+    (on p.thread p.hand not_a.0 not_b.0 hands.0, hands_to bare words place at at_now gifts homes homes_now a b on ps not_a.1 not_b.1 hands.1)
 
 module _ {T : Type 0} (o : Opening) (s : State (Option T) (View T)) (id thread : ℕ) (seen : List Event) (gifts : Gifts T) (hand : Hand T)
     (more : List (Part T)) (here : World)
@@ -101,7 +101,7 @@ module _ {T : Type 0} (o : Opening) (s : State (Option T) (View T)) (id thread :
   below : thread < o.threads
   below = let n = threads_are o seen here reached in omega (arith, within, n)
 
-  mine : HandFits (word_at kept.world) (place_of kept.world thread) kept.at kept.gifts s.homes thread hand
+  mine : HandFits o.bare (word_at kept.world) (place_of kept.world thread) kept.at kept.gifts s.homes thread hand
   mine = own_hand o s id thread seen gifts hand more here reached within idle some_tokens kept at
 
   now_idle : place_of kept.world thread ≡ None
@@ -110,7 +110,7 @@ module _ {T : Type 0} (o : Opening) (s : State (Option T) (View T)) (id thread :
   -- the thread's own hand, but for its tokens at home
   own_with : (x : ℕ) (positive : 0 < x) (to : Where) (xs : List ℕ) → kept.at x ≢ Out thread
       → AllHome (elsewhere {T = T} kept.at s.homes x positive to (some None)) (slice_set s.homes (x - 1) (some None)) thread xs
-      → HandFits (word_at kept.world) (place_of kept.world thread) (elsewhere {T = T} kept.at s.homes x positive to (some None)) kept.gifts
+      → HandFits o.bare (word_at kept.world) (place_of kept.world thread) (elsewhere {T = T} kept.at s.homes x positive to (some None)) kept.gifts
       (slice_set s.homes (x - 1) (some None)) thread (with_tokens xs)
   own_with x positive to xs apart home = record {
     home = home;
@@ -121,7 +121,7 @@ module _ {T : Type 0} (o : Opening) (s : State (Option T) (View T)) (id thread :
           at_other {T = T} kept.at s.homes x positive to (some None) hand.out (λ e. apart (ap kept.at (sym e) ∙ f.0)) ∙ f.0,
           (omega (arith, le, size)),
         );
-    stands = subst (CallFits (word_at kept.world) kept.gifts (with_tokens xs)) (sym now_idle) tt;
+    stands = subst (CallFits o.bare (word_at kept.world) kept.gifts (with_tokens xs)) (sym now_idle) tt;
   }
 
   -- the first token is cut off
@@ -141,28 +141,28 @@ module _ {T : Type 0} (o : Opening) (s : State (Option T) (View T)) (id thread :
       let fits_mine = kept.fit id (view_of o (part thread seen gifts hand ∷ more)) at in
       let owned : kept.owner thread ≡ (id, 0) = fits_mine.owns.0 in
       let free = λ (j : ℕ) (u : View T) (e : get_elem? s.views j ≡ some u).
-      no_resting (word_at kept.world) (place_of kept.world) kept.at kept.gifts s.homes o.threads x u.parts
+      no_resting o.bare (word_at kept.world) (place_of kept.world) kept.at kept.gifts s.homes o.threads x u.parts
       (λ j e. let same = (Home-injective thread n (length xs) j (sym home.0.1 ∙ e)).0 in let less = below in
       absurd (omega (arith, same, less)))
       (kept.fit j u e).resting (kept.hands some_tokens j u e) in
       let others = λ (u : ℕ) (other : Hand T) (ne : u ≢ thread)
-      (fits : HandFits (word_at kept.world) (place_of kept.world u) kept.at kept.gifts s.homes u other).
-      other_keeps kept.at s.homes x positive (Home n 0) (some None) (word_at kept.world) (place_of kept.world u) kept.gifts u other
+      (fits : HandFits o.bare (word_at kept.world) (place_of kept.world u) kept.at kept.gifts s.homes u other).
+      other_keeps kept.at s.homes x positive (Home n 0) (some None) o.bare (word_at kept.world) (place_of kept.world u) kept.gifts u other
       (λ j e. ne (sym (Home-injective thread u (length xs) j (sym home.0.1 ∙ e)).0))
       (λ e. Home-not-Out thread (length xs) u (sym home.0.1 ∙ e)) fits in
       let on = λ (seat first : ℕ) (parts : List (Part T)).
-      all_hands_on (word_at kept.world) (word_at kept.world) (place_of kept.world) (place_of kept.world) kept.at at_now kept.gifts
+      all_hands_on o.bare (word_at kept.world) (word_at kept.world) (place_of kept.world) (place_of kept.world) kept.at at_now kept.gifts
       kept.gifts s.homes homes_now thread others kept.owner seat first parts in
       let own_now = own_with x positive (Home n 0) xs (λ e. Home-not-Out thread (length xs) thread (sym home.0.1 ∙ e))
       (home_keeps kept.at s.homes x positive (Home n 0) (some None) thread xs
       (λ j less e. let same = (Home-injective thread thread (length xs) j (sym home.0.1 ∙ e)).1 in absurd (omega arith)) home.1) in
-      let resting_fits : HandFits (word_at kept.world) (place_of kept.world n) at_now kept.gifts homes_now n (resting_hand x) = record {
+      let resting_fits : HandFits o.bare (word_at kept.world) (place_of kept.world n) at_now kept.gifts homes_now n (resting_hand x) = record {
         home = (
           (positive, at_this {T = T} kept.at s.homes x positive (Home n 0) (some None), set_here s.homes (x - 1) (some None) inside),
           tt,
         );
         out = λ some_out. absurd (some_out refl);
-        stands = subst (CallFits (word_at kept.world) kept.gifts (resting_hand x))
+        stands = subst (CallFits o.bare (word_at kept.world) kept.gifts (resting_hand x))
             (sym (idle_beyond kept.world n (let t = threads_are o kept.all kept.world kept.runs in omega (arith, t)))) tt;
       } in
       let at_left : Fits o kept.all kept.gifts owner id left = record {
@@ -215,13 +215,13 @@ module _ {T : Type 0} (o : Opening) (s : State (Option T) (View T)) (id thread :
             at_right)
             (at_end (set s.views id left) right u j e);
         at = at_now;
-        holders = λ p. held_on (word_at kept.world) (word_at kept.world) (place_of kept.world) (place_of kept.world) kept.at at_now
+        holders = λ p. held_on o.bare (word_at kept.world) (word_at kept.world) (place_of kept.world) (place_of kept.world) kept.at at_now
             kept.gifts kept.gifts s.homes homes_now thread others (with_tokens xs) own_now (kept.holders p);
-        slots = λ p. slots_keep kept.at s.homes x positive (Home n 0) (some None) (clock_at o.shape.k o.shape.n) (word_at kept.world)
+        slots = λ p. slots_keep kept.at s.homes x positive (Home n 0) (some None) o.bare (clock_at o.shape.k o.shape.n) (word_at kept.world)
             kept.gifts (λ i e. Home-not-In thread (length xs) i (sym home.0.1 ∙ e)) (kept.slots p);
         hands = λ p j u e.
             let all = kept.hands p id (view_of o (part thread seen gifts hand ∷ more)) at in
-            let P : View T → Type 0 = λ x. AllHands (word_at kept.world) (place_of kept.world) at_now kept.gifts homes_now x.parts in
+            let P : View T → Type 0 = λ x. AllHands o.bare (word_at kept.world) (place_of kept.world) at_now kept.gifts homes_now x.parts in
             ⊎_elim
             (λ (x : get_elem? (set s.views id left) j ≡ some u).
             ⊎_elim
@@ -264,8 +264,8 @@ module _ {T : Type 0} (o : Opening) (s : State (Option T) (View T)) (id thread :
             absurd (omega (arith, same, less))) mine.home,
       ) in
       let on = λ (u : ℕ) (hand : Hand T) (not_own : u ≢ thread) (not_resting : u ≢ n)
-      (fits : HandFits (word_at kept.world) (place_of kept.world u) kept.at kept.gifts s.homes u hand).
-      other_keeps kept.at s.homes x positive to (some None) (word_at kept.world) (place_of kept.world u) kept.gifts u hand
+      (fits : HandFits o.bare (word_at kept.world) (place_of kept.world u) kept.at kept.gifts s.homes u hand).
+      other_keeps kept.at s.homes x positive to (some None) o.bare (word_at kept.world) (place_of kept.world u) kept.gifts u hand
       (λ j e. not_resting (sym (Home-injective n u 0 j (sym lies.1 ∙ e)).0)) (λ e. Home-not-Out n 0 u (sym lies.1 ∙ e)) fits in
       let made : OneSchedule o s.words homes_now (set (set s.views id both) other (view_of o [])) = record {
         all = kept.all;
@@ -291,7 +291,7 @@ module _ {T : Type 0} (o : Opening) (s : State (Option T) (View T)) (id thread :
         holders = λ p u. elim (cases_eq u thread) [
           | inl same ↦ (
             with_tokens (x ∷ hand.at_home),
-            subst (λ (t : ℕ). HandFits (word_at kept.world) (place_of kept.world t) at_now kept.gifts homes_now t
+            subst (λ (t : ℕ). HandFits o.bare (word_at kept.world) (place_of kept.world t) at_now kept.gifts homes_now t
                 (with_tokens (x ∷ hand.at_home))) (sym same) own_now,
           )
           | inr not_own ↦ elim (cases_eq u n) [
@@ -301,7 +301,7 @@ module _ {T : Type 0} (o : Opening) (s : State (Option T) (View T)) (id thread :
                 home = tt;
                 out = λ some_out. absurd (some_out refl);
                 stands =
-                    subst (CallFits (word_at kept.world) kept.gifts no_hand)
+                    subst (CallFits o.bare (word_at kept.world) kept.gifts no_hand)
                     (sym (ap (place_of kept.world) rests
                     ∙ idle_beyond kept.world n (let t = threads_are o kept.all kept.world kept.runs in omega (arith, t)))) tt;
               },
@@ -309,17 +309,17 @@ module _ {T : Type 0} (o : Opening) (s : State (Option T) (View T)) (id thread :
             | inr not_resting ↦ let h = kept.holders p u in (h.0, on u h.0 not_own not_resting h.1)
           ]
         ];
-        slots = λ p. slots_keep kept.at s.homes x positive to (some None) (clock_at o.shape.k o.shape.n) (word_at kept.world) kept.gifts
+        slots = λ p. slots_keep kept.at s.homes x positive to (some None) o.bare (clock_at o.shape.k o.shape.n) (word_at kept.world) kept.gifts
             (λ i e. Home-not-In n 0 i (sym lies.1 ∙ e)) (kept.slots p);
         hands = λ p j u e.
-            let P : View T → Type 0 = λ x. AllHands (word_at kept.world) (place_of kept.world) at_now kept.gifts homes_now x.parts in
+            let P : View T → Type 0 = λ x. AllHands o.bare (word_at kept.world) (place_of kept.world) at_now kept.gifts homes_now x.parts in
             ⊎_elim
             (λ (x : (j ≡ other) × (view_of o [] ≡ u)). subst P x.1 tt)
             (λ (x : (j ≢ other) × (get_elem? (set s.views id both) j ≡ some u)).
             ⊎_elim
             (λ (y : (j ≡ id) × (both ≡ u)). subst P y.1 (own_now, tt))
             (λ (y : (j ≢ id) × (get_elem? s.views j ≡ some u)).
-            hands_to (word_at kept.world) (place_of kept.world) kept.at at_now kept.gifts s.homes homes_now thread n on u.parts
+            hands_to o.bare (word_at kept.world) (place_of kept.world) kept.at at_now kept.gifts s.homes homes_now thread n on u.parts
             (not_owned kept.owner j 0 thread u.parts (λ k same. y.0 (ap (λ (z : ℕ × ℕ). z.0) (sym same ∙ owned))) (kept.fit j u y.1).owns)
             (not_owned kept.owner j 0 n u.parts (λ k same. x.0 (ap (λ (z : ℕ × ℕ). z.0) (sym same ∙ owned_resting)))
             (kept.fit j u y.1).owns)

@@ -20,7 +20,7 @@ use Rattle.kfifo_machine.specs.declared.place.Running.TheVariants as R
 use Rattle.kfifo_machine.specs.declared.place.EnqueuePhase.TheVariants as E
 use Rattle.kfifo_machine.specs.declared.place.DequeuePhase.TheVariants as D
 use Rattle.kfifo_machine.specs.Machine.{begun as begun_place, may_begin}
-use Rattle.kfifo_live.specs.Hands.{FitsOwn, Gifts, Leaves, gift, move, begun_hand, own_item, out_next, beside, Carries}
+use Rattle.kfifo_live.specs.Hands.{FitsOwn, Gifts, IsGift, Leaves, gift, move, begun_hand, own_item, out_next, beside, Carries}
 use Rattle.kfifo_live.specs.Schedule.{GiftsFit, world_after, thread_of, seen_of, gifts_of, hand_of, with_seen}
 use Rattle.kfifo_live.specs.declared.ring.Ring.{Ring}
 use Rattle.kfifo_live.specs.Step.{IsAt, Steps, HasOwn, IsOwnRun, Leads, IsSeatOf, Rests, Stands, Awaits, Runs, Comes, Stepped, Onward}
@@ -143,10 +143,10 @@ one_step {T} begin place running me word new next stood s from is =
       leaves = λ some_tokens own payload has.
           let mine = own_from shape begin place running me own payload stood from has in
           let own_is : own_item s.from ≡ own = ap own_item same ∙ mine.0 in
-          let left = leaves_step shape s.from word ((gifts_of v ++ s.given) ++ gift begin me.1) (begun_hand begin me.1 (hand_of v)) payload
+          let left = leaves_step v.opened.bare shape s.from word ((gifts_of v ++ s.given) ++ gift begin me.1) (begun_hand begin me.1 (hand_of v)) payload
           is_from (s.out some_tokens) (λ positive. mine.1 (subst (λ n. 0 < n) (ap own_item same) positive)) (s.taken some_tokens) in
           let goes_next : advance shape s.from word ≡ next = ap (λ (r : Running). advance shape r word) same ∙ is in
-          subst (λ (x : ℕ × Gifts T × Hand T × Next). Leaves x.0 payload x.1 x.2 x.3)
+          subst (λ (x : ℕ × Gifts T × Hand T × Next). Leaves v.opened.bare x.0 payload x.1 x.2 x.3)
           (λ i. (own_is i, append_assoc (gifts_of v) s.given (gift begin me.1) i, sym s.hand_is i, goes_next i)) left;
       last_own = refl;
       own_run = subst (λ (es : List Event). IsOwnRun t begin es) (sym own_are) (one_own t begin);
@@ -236,7 +236,7 @@ more_steps {T} begin old mid new running next a b = from_there (subst (λ (y : V
                 taken = λ item e.
                     (let some = then.taken item e in
                     let all = append_assoc (gifts_of v) a.given b.given in
-                    (some.0, some.1 ∙ ap (beside item) all, (some.2.0, sym (ap (beside item) all) ∙ some.2.1)));
+                    (some.0, some.1 ∙ ap (beside item) all, subst (IsGift v.opened.bare) (ap (beside item) all) some.2));
                 fits = subst (λ n. FitsOwn n next) same then.fits;
                 same_own = λ place e. then.same_own place e ∙ same;
               };

@@ -1,7 +1,7 @@
 -- Tokens of a payload queue: where each of them is, what its slot holds, and what a step of a thread does to it. A
 -- token is an item, and x names the slot x - 1.
 use Rattle.std.specs.Prelude.{◌≡◌, ◌≢◌, ℕ, zero, suc, ◌-◌, ◌<◌, ◌≤◌, ◌==◌, if◌then◌else◌, List, [], ◌∷◌, ◌++◌, length}
-use Rattle.std.specs.Prelude.{map, Option, Some, None}
+use Rattle.std.specs.Prelude.{map, Option, Some, None, Bool, true, false}
 use mathlib.Core.Option.{Option as Maybe, some}
 use lib.ListN.{get_elem?}
 use Rattle.atomic_table.specs.Table.{Act, keeps, takes, gives}
@@ -22,6 +22,11 @@ use Rattle.kfifo_live.specs.declared.view.Hand.{Hand}
 -- for each enqueue that begins in a schedule, in turn, its item beside what it carries
 abbrev pub Gifts : Type 0 → Type 0
 Gifts T = List (ℕ × Option T)
+
+-- what an enqueue carries: a payload, and in a queue of bare tokens nothing
+abbrev pub IsGift : {T : Type 0} → Bool → Option T → Type 0
+IsGift {T} false gift = (payload : T) × (gift ≡ Some payload)
+IsGift true gift = gift ≡ None
 
 -- the items of the enqueues that begin in a schedule, in turn
 abbrev pub item_begun : Option Begin → List ℕ
@@ -176,39 +181,39 @@ module _ {T : Type 0} where
   GiftFits words gifts payload item (E.Undo index filled worn) = PutFits words gifts payload item index filled
   GiftFits words gifts payload item phase = beside item gifts ≡ payload
 
-  abbrev pub CallFits : (ℕ → ℕ) → Gifts T → Hand T → Option Running → Type 0
-  CallFits words gifts hand None = Unit {0}
-  CallFits words gifts hand (Some (R.Enqueue item start left phase)) =
-      (hand.out ≡ out_in item phase) × ((payload : T) × (hand.payload ≡ Some payload))
-      × GiftFits words gifts hand.payload item phase
-  CallFits words gifts hand (Some (R.Dequeue start left phase)) = hand.out ≡ 0
+  abbrev pub CallFits : Bool → (ℕ → ℕ) → Gifts T → Hand T → Option Running → Type 0
+  CallFits bare words gifts hand None = Unit {0}
+  CallFits bare words gifts hand (Some (R.Enqueue item start left phase)) =
+      (hand.out ≡ out_in item phase) × IsGift bare hand.payload × GiftFits words gifts hand.payload item phase
+  CallFits bare words gifts hand (Some (R.Dequeue start left phase)) = hand.out ≡ 0
 
   -- a thread's hand
-  pub record HandFits (words : ℕ → ℕ) (place : Option Running) (at : ℕ → Where) (gifts : Gifts T) (homes : Homes T)
-      (thread : ℕ) (hand : Hand T) : Type 0 where
+  pub record HandFits (bare : Bool) (words : ℕ → ℕ) (place : Option Running) (at : ℕ → Where) (gifts : Gifts T)
+      (homes : Homes T) (thread : ℕ) (hand : Hand T) : Type 0 where
     pub home : AllHome at homes thread hand.at_home
     pub out : hand.out ≢ 0 → (at hand.out ≡ Out thread) × (hand.out ≤ length homes)
-    pub stands : CallFits words gifts hand place
+    pub stands : CallFits bare words gifts hand place
 
   -- each token that a slot's word names is there, and its slot is at home and holds the token's last gift
-  abbrev pub SlotsFit : ℕ → (ℕ → ℕ) → (ℕ → Where) → Gifts T → Homes T → Type 0
-  SlotsFit clock words at gifts homes = (i : ℕ) → 0 < i → i < clock → value_of (words i) ≢ 0
-      → (at (value_of (words i)) ≡ In i) × ((payload : T) × (beside (value_of (words i)) gifts ≡ Some payload))
+  abbrev pub SlotsFit : Bool → ℕ → (ℕ → ℕ) → (ℕ → Where) → Gifts T → Homes T → Type 0
+  SlotsFit bare clock words at gifts homes = (i : ℕ) → 0 < i → i < clock → value_of (words i) ≢ 0
+      → (at (value_of (words i)) ≡ In i) × IsGift bare (beside (value_of (words i)) gifts)
       × (get_elem? homes (value_of (words i) - 1) ≡ some (some (beside (value_of (words i)) gifts)))
 
   -- where steps of a call with this item and payload of its own leave its thread: the token that is out, and what its
   -- slot holds
-  pub record Leaves (own : ℕ) (payload : Option T) (gifts : Gifts T) (hand : Hand T) (next : Next) : Type 0 where
+  pub record Leaves (bare : Bool) (own : ℕ) (payload : Option T) (gifts : Gifts T) (hand : Hand T) (next : Next)
+      : Type 0 where
     pub out : hand.out ≡ out_next own next
     pub kept : 0 < own → hand.payload ≡ payload
     pub taken : (item : ℕ) → next ≡ Answers (Got item) → (0 < item) × (hand.payload ≡ beside item gifts)
-        × ((found : T) × (beside item gifts ≡ Some found))
+        × IsGift bare (beside item gifts)
     pub fits : FitsOwn own next
     pub same_own : (place : Running) → next ≡ Goes place → own_item place ≡ own
 
-  -- what a call that begins asks of the hand: an enqueue's item is the token that is out, and its slot has a payload
-  abbrev pub BeginsWith : Option Begin → Hand T → List (ℕ × Option T) → Type 0
-  BeginsWith (Some (B.Enqueue item start turns)) hand held = (hand.out ≡ item)
-      × ((payload : T) × (carried held ≡ Some payload))
-  BeginsWith (Some (B.Dequeue start turns)) hand held = hand.out ≡ 0
-  BeginsWith begin hand held = Unit {0}
+  -- what a call that begins asks of the hand: an enqueue's item is the token that is out, and its slot has what it
+  -- carries
+  abbrev pub BeginsWith : Bool → Option Begin → Hand T → List (ℕ × Option T) → Type 0
+  BeginsWith bare (Some (B.Enqueue item start turns)) hand held = (hand.out ≡ item) × IsGift bare (carried held)
+  BeginsWith bare (Some (B.Dequeue start turns)) hand held = hand.out ≡ 0
+  BeginsWith bare begin hand held = Unit {0}

@@ -1,7 +1,7 @@
 -- A queue of owned payloads and its passes, as callers see them, and what a call with a payload does.
 use Rattle.std.specs.Prelude.{Bool, true, false, ◌<◌, ◌≤◌, ◌≡◌, ◌≢◌, ℕ, zero, suc, ◌+◌, ◌-◌, ◌*◌, List, [], ◌∷◌, ◌++◌}
 use Rattle.std.specs.Prelude.{All, Option, Some, None, get_or, length, map, reverse}
-use Rattle.kfifo_live.specs.declared.payload.opening.TheConstants.{MAX_TOKENS}
+use Rattle.kfifo_live.specs.declared.payload.opening.TheConstants.{MOST_TOKENS}
 use Rattle.std.specs.List.{AllByRecursion}
 use Rattle.atomic_table.specs.Table.{Me}
 use Rattle.atomic_table.specs.Perched.{Roost}
@@ -35,7 +35,8 @@ use Rattle.kfifo_live.specs.Calls.{MakesCall}
 
 -- the opening of a payload queue with so many tokens a pass
 abbrev pub pay_opening : Shape → ℕ → ℕ → Opening
-pay_opening shape threads tokens = record { shape = shape; threads = threads; calls = 0; tokens = tokens }
+pay_opening shape threads tokens =
+    record { shape = shape; threads = threads; calls = 0; tokens = tokens; bare = false }
 
 -- A pass: what is known of its schedule, the tokens that it has, that which it uses next first, and the gifts: for each
 -- enqueue that began in the schedule, in turn, its token beside its payload
@@ -51,15 +52,21 @@ pay_pass_view table thread v = record {
   gifts = gifts_of v;
 }
 
--- what is always so of a payload pass: it has its tokens in a list, the next one last, which has room for all tokens of
--- the queue
-pub record IsPayPass {T : Type 0} (thread : ℕ) (me : Me (Option T) (View T)) (items : List ℕ) (room : ℕ) : Type 0 where
+-- what is always so of a pass of a queue of tokens, with payloads or bare: it has its tokens in a list, the next one
+-- last, which has room for all tokens of the queue
+pub record HasTokens {T : Type 0} (bare : Bool) (thread : ℕ) (me : Me (Option T) (View T)) (items : List ℕ) (room : ℕ)
+    : Type 0 where
   pub pass : IsPass thread me
   pub stacked : (hand_of me.0).at_home ≡ reverse items
   pub some_tokens : 0 < me.0.opened.tokens
-  pub few_tokens : me.0.opened.tokens ≤ MAX_TOKENS
+  pub few_tokens : me.0.opened.threads * me.0.opened.tokens ≤ MOST_TOKENS
   pub has_room : me.0.opened.threads * me.0.opened.tokens ≤ room
+  pub kind : me.0.opened.bare ≡ bare
   pub in_turn : GiftsFit me.0.opened (seen_of me.0) (gifts_of me.0)
+
+-- of a payload pass
+abbrev pub IsPayPass : {T : Type 0} → ℕ → Me (Option T) (View T) → List ℕ → ℕ → Type 0
+IsPayPass thread me items room = HasTokens false thread me items room
 
 -- a token that is with no pass: its queue, and its number
 pub record TokenView : Type 0 where
@@ -118,12 +125,12 @@ module _ {T : Type 0} where
     pub gifts_are : gifts ≡ earlier ++ (token, payload) ∷ later
     pub before_it : InTurn before earlier
 
-  -- what a pass took with the last event that it has seen: a word that was put with this payload
-  pub record TookWhatWasPut (token : ℕ) (payload : T) (p : PayPassView T) : Type 0 where
+  -- what a pass took with the last event that it has seen: a word that was put with this payload, or with none
+  pub record TookWhatWasPut (token : ℕ) (payload : Option T) (p : PayPassView T) : Type 0 where
     pub index : ℕ
     pub word : ℕ
     pub taken : TakesAtLast p.pass.opened p.pass.thread index word p.pass.seen
-    pub put : WasPutWith p.pass.opened p.pass.seen p.gifts index word token (Some payload)
+    pub put : WasPutWith p.pass.opened p.pass.seen p.gifts index word token payload
 
   -- the gifts of a longer schedule, of whose enqueues they are in turn, and which keeps the holder law
   pub record GivesOn (old new : PayPassView T) : Type 0 where
@@ -132,9 +139,9 @@ module _ {T : Type 0} where
     pub later : Gifts T
     pub goes_on : new.gifts ≡ old.gifts ++ later
 
-  -- An enqueue of a token with this payload beside it. Its first event follows others' events, and its gift follows
-  -- those of the enqueues that began before that event
-  pub record EnqueuesWith (token start turns : ℕ) (answer : Answer) (payload : T)
+  -- An enqueue of a token with this payload beside it, or with none. Its first event follows others' events, and its
+  -- gift follows those of the enqueues that began before that event
+  pub record EnqueuesWith (token start turns : ℕ) (answer : Answer) (payload : Option T)
       (old new : PayPassView T) : Type 0 where
     pub call : MakesCall (B.Enqueue token start turns) answer old.pass new.pass
     pub in_turn : InTurn new.pass.seen new.gifts
@@ -146,7 +153,7 @@ module _ {T : Type 0} where
     pub others : own old.pass.thread before ≡ []
     pub earlier : Gifts T
     pub later : Gifts T
-    pub gifts : new.gifts ≡ (old.gifts ++ earlier) ++ (token, Some payload) ∷ later
+    pub gifts : new.gifts ≡ (old.gifts ++ earlier) ++ (token, payload) ∷ later
     pub before_it : InTurn (old.pass.seen ++ before) (old.gifts ++ earlier)
 
   -- a dequeue
@@ -161,13 +168,13 @@ module _ {T : Type 0} where
     pub others : List ℕ
     pub first : old.tokens ≡ token ∷ others
     pub kept : new.tokens ≡ old.tokens
-    pub enqueue : EnqueuesWith token start turns answer payload old new
+    pub enqueue : EnqueuesWith token start turns answer (Some payload) old new
 
   -- What `give` did, by what it returns: Done gives up the first token. NoToken comes where the pass has none, and
   -- nothing is done
   abbrev pub Gives : ℕ → ℕ → T → Given T → PayPassView T → PayPassView T → Type 0
   Gives start turns payload G.Done old new = (token : ℕ) × (old.tokens ≡ token ∷ new.tokens)
-      × EnqueuesWith token start turns A.Done payload old new
+      × EnqueuesWith token start turns A.Done (Some payload) old new
   Gives start turns payload (G.Full back) old new = Refuses start turns A.Full payload back old new
   Gives start turns payload (G.Busy back) old new = Refuses start turns A.Busy payload back old new
   Gives start turns payload (G.Worn back) old new = Refuses start turns A.Worn payload back old new
@@ -177,7 +184,7 @@ module _ {T : Type 0} where
   -- that of the enqueue that put it
   abbrev pub TakesOut : ℕ → ℕ → Taken T → PayPassView T → PayPassView T → Type 0
   TakesOut start turns (K.Got payload) old new = (token : ℕ) × (new.tokens ≡ token ∷ old.tokens)
-      × (beside token new.gifts ≡ Some payload) × TookWhatWasPut token payload new
+      × (beside token new.gifts ≡ Some payload) × TookWhatWasPut token (Some payload) new
       × DequeuesWith start turns (A.Got token) old new
   TakesOut start turns K.Empty old new = (new.tokens ≡ old.tokens) × DequeuesWith start turns A.Empty old new
   TakesOut start turns K.Busy old new = (new.tokens ≡ old.tokens) × DequeuesWith start turns A.Busy old new

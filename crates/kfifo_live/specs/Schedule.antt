@@ -23,7 +23,8 @@ use Rattle.kfifo_live.specs.Hands.{Gifts, Homes, InTurn, Where, HandFits, SlotsF
 
 -- the opening of a stamped queue, and of a plain one, in which no call is stamped
 abbrev pub stamped_opening : Shape → ℕ → ℕ → Opening
-stamped_opening shape threads calls = record { shape = shape; threads = threads; calls = calls; tokens = 0 }
+stamped_opening shape threads calls =
+    record { shape = shape; threads = threads; calls = calls; tokens = 0; bare = false }
 
 abbrev pub opening : Shape → ℕ → Opening
 opening shape threads = stamped_opening shape threads 0
@@ -95,10 +96,11 @@ module _ {T : Type 0} where
   AllGiven (p ∷ ps) gifts = ((more : Gifts T) × (gifts ≡ p.gifts ++ more)) × AllGiven ps gifts
 
   -- each thread has its tokens
-  abbrev pub AllHands : (ℕ → ℕ) → (ℕ → Option Running) → (ℕ → Where) → Gifts T → Homes T → List (Part T) → Type 0
-  AllHands words place at gifts homes [] = Unit {0}
-  AllHands words place at gifts homes (p ∷ ps) = HandFits words (place p.thread) at gifts homes p.thread p.hand
-      × AllHands words place at gifts homes ps
+  abbrev pub AllHands : Bool → (ℕ → ℕ) → (ℕ → Option Running) → (ℕ → Where) → Gifts T → Homes T → List (Part T)
+      → Type 0
+  AllHands bare words place at gifts homes [] = Unit {0}
+  AllHands bare words place at gifts homes (p ∷ ps) =
+      HandFits bare words (place p.thread) at gifts homes p.thread p.hand × AllHands bare words place at gifts homes ps
 
   -- each thread is acted for by one seat, at one place of its parts
   abbrev pub Owns : (ℕ → ℕ × ℕ) → ℕ → ℕ → List (Part T) → Type 0
@@ -136,11 +138,11 @@ module _ {T : Type 0} where
     pub few_ticks : FewTicks o all
     pub fit : (seat : ℕ) (v : View T) → get_elem? views seat ≡ some v → Fits o all gifts owner seat v
     pub at : ℕ → Where
-    pub slots : 0 < o.tokens → SlotsFit (clock_at o.shape.k o.shape.n) (word_at world) at gifts homes
+    pub slots : 0 < o.tokens → SlotsFit o.bare (clock_at o.shape.k o.shape.n) (word_at world) at gifts homes
     pub hands : 0 < o.tokens → (seat : ℕ) (v : View T) → get_elem? views seat ≡ some v
-        → AllHands (word_at world) (place_of world) at gifts homes v.parts
+        → AllHands o.bare (word_at world) (place_of world) at gifts homes v.parts
     pub holders : 0 < o.tokens → (thread : ℕ)
-        → (hand : Hand T) × HandFits (word_at world) (place_of world thread) at gifts homes thread hand
+        → (hand : Hand T) × HandFits o.bare (word_at world) (place_of world thread) at gifts homes thread hand
 
   -- the first part's thread, what was seen by it, and the other parts
   abbrev pub thread_in : List (Part T) → ℕ

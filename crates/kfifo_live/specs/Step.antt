@@ -25,7 +25,7 @@ use Rattle.kfifo_live.specs.Schedule.{world_after, AllBegin, AllGiven, GiftsFit,
 use Rattle.kfifo_live.specs.Schedule.{with_seen, IsSeated}
 use Rattle.kfifo_live.specs.declared.view.Hand.{Hand}
 use Rattle.kfifo_live.specs.Hands.{Gifts, InTurn, Takes, beside, gift, move, hand_after, begun_hand, carried, carrying}
-use Rattle.kfifo_live.specs.Hands.{own_item, out_at, Carries, BeginsWith, Leaves}
+use Rattle.kfifo_live.specs.Hands.{own_item, out_at, Carries, BeginsWith, IsGift, Leaves}
 
 -- the own events of a call in progress begin nothing; the events of a call from its first step on begin it once
 abbrev pub IsOwnRun : ℕ → Option Begin → List Event → Type 0
@@ -57,7 +57,7 @@ module _ {T : Type 0} where
     pub word_is : word ≡ found v.0.opened.shape here from
     pub out : 0 < v.0.opened.tokens → (begun_hand begin v.1 (hand_of v.0)).out ≡ out_at from
     pub taken : 0 < v.0.opened.tokens → (x : ℕ) → move from word ≡ Takes x → (0 < x)
-        × ((payload : T) × (beside x ((gifts_of v.0 ++ given) ++ gift begin v.1) ≡ Some payload))
+        × IsGift v.0.opened.bare (beside x ((gifts_of v.0 ++ given) ++ gift begin v.1))
     pub in_turn : GiftsFit v.0.opened ((seen_of v.0 ++ between) ++ event (thread_of v.0) begin ∷ [])
         ((gifts_of v.0 ++ given) ++ gift begin v.1)
     pub hand : Hand T
@@ -153,7 +153,7 @@ module _ {T : Type 0} where
     pub first : HasFirst begin v (between ++ last ∷ []) given
     pub at_home : hand.at_home ≡ (hand_of v.0).at_home
     pub leaves : 0 < v.0.opened.tokens → (own : ℕ) (payload : Option T) → HasOwn begin v own payload
-        → Leaves own payload (gifts_of v.0 ++ given) hand next
+        → Leaves v.0.opened.bare own payload (gifts_of v.0 ++ given) hand next
     pub last_own : last.thread ≡ thread_of v.0
     pub own_run : IsOwnRun (thread_of v.0) begin (own (thread_of v.0) (between ++ last ∷ []))
     pub reached : world_after v.0.opened (seen_of v.0 ++ between) ≡ Some before
@@ -178,7 +178,8 @@ module _ {T : Type 0} where
   pub record Rests (ring : Ring T) (begin : Option Begin) (seat : Seat (Option T) (View T)) : Type 0 where
     pub of : IsSeatOf ring seat
     pub idle : IsAt None seat.me
-    pub begins : 0 < seat.me.0.opened.tokens → BeginsWith begin (hand_of seat.me.0) seat.me.1
+    pub begins : 0 < seat.me.0.opened.tokens
+        → BeginsWith seat.me.0.opened.bare begin (hand_of seat.me.0) seat.me.1
 
   -- its thread is at this place in its call
   pub record Stands (ring : Ring T) (seat : Seat (Option T) (View T)) (place : Running) : Type 0 where

@@ -10,9 +10,10 @@ ghost use Rattle.kfifo_live.specs.declared.fault.CloseFault.TheVariants.{Missing
 
 use crate::fault::CloseFault;
 use crate::queue::{Pass, Queue};
+use crate::rule::QueueRule;
 use crate::seats::join_seats;
-use crate::view::{ThreadSeat, Words};
-use atomic_table::Closed;
+use crate::view::{Opening, ThreadSeat, View, Words};
+use atomic_table::{Closed, Table};
 use kfifo_words::{Ends, Shape, Word};
 use std::alloc::{AllocError, Global};
 use std::marker::Brand;
@@ -99,6 +100,45 @@ fn join_all(shared: &Words<()>, mut seat: ThreadSeat<()>, mut passes: Vec<Pass>)
     seat
 }
 
+/// Gives the memory of a closed table back. Its slots hold nothing that has to be dropped.
+fn free_slots(mut closed: Closed<Option<()>, Global>)
+    requires { IsFull closed.slots }
+{
+    for index in 0..closed.slot_count() {
+        closed.take(index);
+    }
+    closed.free();
+}
+
+/// Closes a table by all passes of its queue, and returns the items that are left in its words, as `close` does.
+pub(crate) fn close_table(
+    alloc: Global,
+    table: Table<Option<()>, View<()>, Opening, QueueRule, Global>,
+    shape: Shape,
+    threads: u32,
+    mut passes: Vec<Pass>,
+) -> Result<Vec<u32>, CloseFault>
+    requires key { (shape ≡ table.shared.key.shape) × (threads ≡ table.shared.key.threads) × (0 < threads) }
+    requires words { table.shared.table_id.words ≡ 2 + shape.n * shape.k }
+    requires of { All (IsPassOf (queue_of table.shared.table_id table.shared.key)) passes.items }
+    ensures ok { IfOk result (λ items. Closes (queue_of table.shared.table_id table.shared.key) passes.items items.items) }
+    ensures missing { IsErrOf result MissingPass ↔ ¬ IsComplete threads passes.items }
+{
+    if !is_complete(passes.as_slice(), threads) {
+        return Err(CloseFault::MissingPass);
+    }
+    let Some(last) = passes.pop() else {
+        unreachable!()
+    };
+    let Pass { thread: _, seat } = last;
+    let seat = join_all(&table.shared, seat, passes);
+    let closed = table.close_with(seat);
+    let words = read_words(alloc, &closed, 2 + shape.n() as usize * shape.k() as usize);
+    free_slots(closed);
+    let items = read_items(alloc, &shape, words?.as_slice())?;
+    Ok(items)
+}
+
 /// Closes a queue and returns the items that are left, if each pass of the opening is given back: segment by segment
 /// from the head's round the ring, within a segment by slot number. Each item is among them as often as it was put,
 /// less how often it was undone and taken. The one schedule of all calls of the queue keeps its promise: a legal order
@@ -110,28 +150,16 @@ fn join_all(shared: &Words<()>, mut seat: ThreadSeat<()>, mut passes: Vec<Pass>)
 ///
 /// Refuses: MissingPass where not each pass of the opening is there once, which is tested first; Memory where an
 /// allocation failed. The items are then lost to the caller.
-pub fn close(alloc: Global, queue: Queue, mut passes: Vec<Pass>) -> Result<Vec<u32>, CloseFault>
+pub fn close(alloc: Global, queue: Queue, passes: Vec<Pass>) -> Result<Vec<u32>, CloseFault>
     requires { All (IsPassOf queue) passes.items }
     ensures ok { IfOk result (λ items. Closes queue passes.items items.items) }
     ensures missing { IsErrOf result MissingPass ↔ ¬ IsComplete queue.opened.threads passes.items }
 {
-    if !is_complete(passes.as_slice(), queue.threads) {
-        return Err(CloseFault::MissingPass);
-    }
-    let Some(last) = passes.pop() else {
-        unreachable!()
-    };
     let Queue {
         table,
         shape,
-        threads: _,
+        threads,
         calls: _,
     } = queue;
-    let Pass { thread: _, seat } = last;
-    let seat = join_all(&table.shared, seat, passes);
-    let closed = table.close_with(seat);
-    let words = read_words(alloc, &closed, 2 + shape.n() as usize * shape.k() as usize);
-    closed.free();
-    let items = read_items(alloc, &shape, words?.as_slice())?;
-    Ok(items)
+    close_table(alloc, table, shape, threads, passes)
 }

@@ -57,6 +57,7 @@ impl Queue {
             threads,
             calls,
             tokens: 0,
+            bare: false,
         };
         let (table, seat) = Table::of_words(alloc, words.as_slice(), &about)?;
         let passes = deal(alloc, &table.shared, seat, threads)?;

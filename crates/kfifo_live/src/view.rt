@@ -24,6 +24,8 @@ pub struct Opening {
     pub calls: u32,
     /// How many tokens each of them begins with; each names a slot. A plain queue has none.
     pub tokens: u32,
+    /// Whether its tokens go through it with nothing in their slots.
+    pub bare: bool,
 }
 
 /// The tokens of a thread.

@@ -1,6 +1,6 @@
 //! Opening a queue of payloads.
 ghost use Rattle.std.specs.Prelude.{◌≡◌, ◌<◌, ◌≤◌, ◌+◌, ◌*◌, ◌⊎◌, [], length, IfOk, IsErrOf, reverse};
-ghost use Rattle.std.specs.Prelude.{vec_capacity, All};
+ghost use Rattle.std.specs.Prelude.{vec_capacity, All, false};
 ghost use Rattle.kfifo_live.specs.Schedule.{IsSmall, count_up, fresh, view_of};
 ghost use Rattle.kfifo_live.specs.Pass.{IsZeroed, queue_of, IsPassOf};
 ghost use Rattle.kfifo_live.specs.Payloads.{IsPool, new_pay_passes, pay_opening};
@@ -21,6 +21,9 @@ use std::marker::Brand;
 
 /// The greatest number of tokens of a pass.
 pub const MAX_TOKENS: u32 = 1_024;
+
+/// The greatest number of tokens of a queue: as many as a ring has slots at most.
+pub const MOST_TOKENS: u32 = 65_536;
 
 /// The tokens of a thread, the first of them last, with room for so many.
 fn own_tokens(alloc: Global, thread: u32, tokens: u32, room: usize) -> Result<Vec<u32>, AllocError>
@@ -52,6 +55,7 @@ fn deal_tokens<T: Drop>(
     requires seat { (seat.me.1 ≡ []) × (seat.me.0
         ≡ view_of seat.me.0.opened (fresh seat.me.0.opened.tokens 0 threads)) }
     requires opened { (seat.me.0.opened.threads ≡ threads) × (seat.me.0.opened.tokens ≡ tokens) }
+    requires bare { seat.me.0.opened.bare ≡ false }
     ensures passes { IfOk result (λ r. r.0.items ≡ new_pay_passes (queue_of seat.table_id seat.me.0.opened) 0 threads) }
     ensures pool { IfOk result (λ r. IsPool seat.table_id seat.me.0.opened 1 r.1.items
         × (length r.1.items ≡ threads * pooled)) }
@@ -96,6 +100,7 @@ impl<T: Drop> PayQueue<T> {
             threads,
             calls: 0,
             tokens,
+            bare: false,
         };
         let slots = threads as usize * tokens as usize;
         let (table, seat) = Table::vacant(alloc, words.as_slice(), slots, &about)?;

@@ -19,7 +19,7 @@ returns-in_default-clause-promise g c = promised _ c.self.inside.seat.me c.self.
 
 pub enqueue-answer-requires-clause-rests : goal.enqueue-answer-requires-clause-rests
 enqueue-answer-requires-clause-rests g c =
-    let r = ready c.pop.new.self.items c.self.invariant c.in-Some.ensures.items c.put_in.ensures.puts in
+    let r = ready c.pop.new.self.items c.self.invariant c.in-Some.ensures.items (c.args.payload, refl) c.put_in.ensures.puts in
     let opened : c.self.inside.seat.me.0.opened ≡ pay_opening c.queue.inside.shape c.queue.inside.threads c.queue.inside.tokens =
     ap (λ (k : PayPassView g.row.T.Denot). k.pass.opened) c.self.view_is ∙ c.requires.of.1
     ∙ sym (ap (λ (q : OpenQueue). q.opened) c.queue.view_is) in
@@ -38,7 +38,7 @@ enqueue-answer-requires-clause-rests g c =
 
 pub invariant_of-self-in-Done : goal.invariant_of-self-in-Done
 invariant_of-self-in-Done g c = done_pass c.self.invariant
-    (ready c.pop.new.self.items c.self.invariant c.in-Some.ensures.items c.put_in.ensures.puts) c.enqueue-answer.ensures.leads c.in-Done.is
+    (ready c.pop.new.self.items c.self.invariant c.in-Some.ensures.items (c.args.payload, refl) c.put_in.ensures.puts) c.enqueue-answer.ensures.leads c.in-Done.is
     c.pop.ensures.capacity
 
 pub returns-in-Done-clause-gives : goal.returns-in-Done-clause-gives
@@ -46,7 +46,7 @@ returns-in-Done-clause-gives g c =
     subst (λ (x : PayPassView g.row.T.Denot).
     Gives c.args.start c.args.turns c.args.payload G.Done x
     (pay_pass_view c.enqueue-answer.new.seat.table_id c.self.inside.thread c.enqueue-answer.new.seat.me.0)) c.self.view_is
-    (done_gives c.self.invariant (ready c.pop.new.self.items c.self.invariant c.in-Some.ensures.items c.put_in.ensures.puts)
+    (done_gives c.self.invariant (ready c.pop.new.self.items c.self.invariant c.in-Some.ensures.items (c.args.payload, refl) c.put_in.ensures.puts)
     c.enqueue-answer.ensures.leads c.in-Done.is _ _)
 
 pub returns-in-Done-clause-promise : goal.returns-in-Done-clause-promise
@@ -54,7 +54,7 @@ returns-in-Done-clause-promise g c = promised _ c.enqueue-answer.new.seat.me (in
 
 pub take_back-back-requires : goal.take_back-back-requires
 take_back-back-requires g c =
-    let r = ready c.pop.new.self.items c.self.invariant c.in-Some.ensures.items c.put_in.ensures.puts in
+    let r = ready c.pop.new.self.items c.self.invariant c.in-Some.ensures.items (c.args.payload, refl) c.put_in.ensures.puts in
     let p = c.self.invariant in
     let l = c.enqueue-answer.ensures.leads in
     let not_done = c.in_default-answer.not-Done in
@@ -81,7 +81,7 @@ take_back-back-requires g c =
 
 pub unreachable-requires : goal.unreachable-requires
 unreachable-requires g c =
-    let r = ready c.pop.new.self.items c.self.invariant c.in-Some.ensures.items c.put_in.ensures.puts in
+    let r = ready c.pop.new.self.items c.self.invariant c.in-Some.ensures.items (c.args.payload, refl) c.put_in.ensures.puts in
     none_of c.in-Some.token r.some c.enqueue-answer.result
     (not_taken c.self.invariant r c.enqueue-answer.ensures.leads c.enqueue-answer.result refl) c.in_default-answer.not-Done
     c.in_default-answer-2.not-Full c.in_default-answer-2.not-Busy
@@ -98,13 +98,13 @@ unreachable-requires g c =
 
 pub invariant_of-self-2 : goal.invariant_of-self-2
 invariant_of-self-2 g c =
-    let r = ready c.pop.new.self.items c.self.invariant c.in-Some.ensures.items c.put_in.ensures.puts in
+    let r = ready c.pop.new.self.items c.self.invariant c.in-Some.ensures.items (c.args.payload, refl) c.put_in.ensures.puts in
     let t = c.take_back-back.ensures in
     refused_pass c.self.invariant r c.enqueue-answer.ensures.leads t.laid.0 t.laid.1 (t.stacked) (t.same.1 ∙ c.pop.ensures.capacity)
 
 pub returns : goal.returns
 returns g c =
-    let r = ready c.pop.new.self.items c.self.invariant c.in-Some.ensures.items c.put_in.ensures.puts in
+    let r = ready c.pop.new.self.items c.self.invariant c.in-Some.ensures.items (c.args.payload, refl) c.put_in.ensures.puts in
     let t = c.take_back-back.ensures in
     let l = c.enqueue-answer.ensures.leads in
     let now = pay_pass_view c.take_back-back.new.seat.table_id c.self.inside.thread c.take_back-back.new.seat.me.0 in
@@ -112,7 +112,7 @@ returns g c =
     let pass = invariant_of-self-2 g c in
     let opened = ap (λ (v : View g.row.T.Denot). v.opened) t.laid.0 ∙ opened_given c.self.invariant r l in
     let refuses = λ (a : Answer) (is : c.enqueue-answer.result ≡ a).
-    refused c.self.invariant r l t.laid.0 t.laid.1 c.in_default-answer.not-Done a is c.take_back-back.result t.payload
+    refused c.self.invariant r l t.laid.0 t.laid.1 c.in_default-answer.not-Done a is c.args.payload c.take_back-back.result refl t.payload
     c.self.inside.seat.table_id c.take_back-back.new.seat.table_id in
     let P : Given g.row.T.Denot → PayPassView g.row.T.Denot → Type 0 = λ x k. Gives c.args.start c.args.turns c.args.payload x k now in
     record {

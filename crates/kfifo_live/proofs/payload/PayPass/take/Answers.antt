@@ -1,5 +1,5 @@
 -- A dequeue, and the payload of the token that was taken.
-use Rattle.std.proofs.Common.{◌≡◌, ℕ, ap, subst, refl, arith}
+use Rattle.std.proofs.Common.{◌≡◌, ℕ, ◌-◌, [], ◌∷◌, ap, subst, refl, ◌∙◌, arith}
 use Rattle.kfifo_live.proofs.Types.{Answer}
 use Rattle.kfifo_model.specs.declared.calls.Answer.TheVariants as A
 use Rattle.kfifo_machine.specs.declared.place.Next.TheVariants.{Answers}
@@ -7,7 +7,7 @@ use Rattle.kfifo_live.specs.declared.payload.Taken.TheVariants as K
 use Rattle.kfifo_live.specs.Hands.{FitsOwn, out_next}
 use Rattle.kfifo_live.specs.Payloads.{PayPassView, TakesOut, pay_pass_view}
 use Rattle.kfifo_live.proofs.Passes.{promised}
-use Rattle.kfifo_live.proofs.Pays.{idle_took, some_took, fits_took, none_pass, none_dequeued, got_out, got_held, got_pass, got_takes}
+use Rattle.kfifo_live.proofs.Pays.{idle_took, some_took, fits_took, none_pass, none_dequeued, got_out, got_held, got_pass, got_payload}
 use Rattle.kfifo_live.proofs.payload.PayPass.take.Goals as goal
 
 pub take_back-requires-clause-idle : goal.take_back-requires-clause-idle
@@ -20,7 +20,9 @@ pub take_back-requires-clause-token : goal.take_back-requires-clause-token
 take_back-requires-clause-token g c = got_out c.self.invariant c.dequeue.ensures.leads c.in-Got.is
 
 pub take_back-requires-clause-holds : goal.take_back-requires-clause-holds
-take_back-requires-clause-holds g c = got_held c.self.invariant c.dequeue.ensures.leads c.in-Got.is
+take_back-requires-clause-holds g c =
+    let held = got_held c.self.invariant c.dequeue.ensures.leads c.in-Got.is in
+    (held.1.0, held.2 ∙ ap (λ x. (c.in-Got.token - 1, x) ∷ []) held.1.1)
 
 pub invariant_of-self : goal.invariant_of-self
 invariant_of-self g c =
@@ -58,7 +60,7 @@ returns-in-Got-clause-takes g c =
     subst (λ (x : PayPassView g.row.T.Denot).
     TakesOut c.args.start c.args.turns (K.Got c.take_back.result) x
     (pay_pass_view c.take_back.new.seat.table_id c.self.inside.thread c.take_back.new.seat.me.0)) c.self.view_is
-    (got_takes c.self.invariant c.dequeue.ensures.leads c.in-Got.is t.laid.0 t.laid.1 c.take_back.result t.payload _ _)
+    (got_payload c.self.invariant c.dequeue.ensures.leads c.in-Got.is t.laid.0 t.laid.1 c.take_back.result t.payload _ _)
 
 pub returns-in-Got-clause-promise : goal.returns-in-Got-clause-promise
 returns-in-Got-clause-promise g c = promised _ c.take_back.new.seat.me (invariant_of-self g c).pass

@@ -5,7 +5,7 @@ use Rattle.kfifo_live.specs.Schedule.{GiftsFit, seen_of, gifts_of, hand_of, more
 use Rattle.kfifo_live.specs.Pass.{queue_of}
 use Rattle.kfifo_live.specs.Payloads.{IsPool, IsPayPass, pay_pass_view, pool_for}
 use Rattle.kfifo_live.proofs.NewPasses.{new_pass, cut_first}
-use Rattle.kfifo_live.proofs.Pays.{new_pay_passes-snoc}
+use Rattle.kfifo_live.proofs.Pays.{few_in_all, new_pay_passes-snoc}
 use Rattle.kfifo_live.proofs.Pools.{pool_is, pool_goes_on, pooled_few, pooled_home, length-pool_for}
 use Rattle.kfifo_live.proofs.payload.opening.deal_tokens.Goals as goal
 
@@ -60,14 +60,16 @@ invariant_of-push g c =
     let tokens : c.give_rest-rest.new.seat.me.0.opened.tokens ≡ c.args.tokens =
     ap (λ (x : Opening). x.tokens) opened ∙ c.requires.opened.1 in
     let room = mine.1 in
+    let few_threads : c.args.threads ≤ 64 = subst (λ n. n ≤ 64) c.requires.opened.0 c.requires.few.0.0 in
     let before : IsPayPass c.loop-thread.thread c.give_rest-rest.new.seat.me c.in_ok-at_home.at_home.items
     (vec_capacity c.in_ok-at_home.at_home) = record {
       pass = new_pass _ _ _ below c.requires.few.0 cut.0 (r.same.1 ∙ i.held);
       stacked = ap (λ (v : View g.row.T.Denot). (hand_of v).at_home) cut.0
           ∙ ap (λ n. count_up (c.loop-thread.thread * n + 1) n) c.requires.opened.1 ∙ sym mine.0;
       some_tokens = subst (λ n. 0 < n) (sym tokens) c.requires.few.1;
-      few_tokens = subst (λ n. n ≤ 1024) (sym tokens) c.requires.few.2;
+      few_tokens = subst (λ n. n ≤ 65536) (sym all) (few_in_all c.args.threads c.args.tokens few_threads c.requires.few.2);
       has_room = omega (arith, all, room);
+      kind = ap (λ (x : Opening). x.bare) opened ∙ c.requires.bare;
       in_turn = subst (λ (v : View g.row.T.Denot). GiftsFit v.opened (seen_of v) (gifts_of v)) (sym cut.0)
           record { in_turn = refl; holder_law = λ some. tt };
     } in

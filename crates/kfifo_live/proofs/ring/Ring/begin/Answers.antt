@@ -15,7 +15,7 @@ load-requires g c =
       (let size = of.size in omega arith),
       goes _ _ _ c.args.seat.now.me None c.requires.rests.idle (Some g.C.BegunCall.begin) first.place _ of.sizes
           (ap (λ b. going c.args.self.shape.now None (Some b)) c.requires.picked ∙ first.goes) _ first.next_is (λ n. n) (λ n. refl)
-          (λ some_tokens. subst (λ (b : Begin). BeginsWith (Some b) (hand_of c.args.seat.now.me.0) c.args.seat.now.me.1)
+          (λ some_tokens. subst (λ (b : Begin). BeginsWith c.args.seat.now.me.0.opened.bare (Some b) (hand_of c.args.seat.now.me.0) c.args.seat.now.me.1)
           (sym c.requires.picked) (c.requires.rests.begins some_tokens)),
     )
 

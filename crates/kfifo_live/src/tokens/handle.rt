@@ -1,0 +1,118 @@
+//! Calls of a queue of tokens with nothing to choose.
+ghost use Rattle.std.specs.Prelude.{◌≡◌, ◌+◌};
+ghost use Rattle.kfifo_live.specs.Calls.{IsDisturbed};
+ghost use Rattle.kfifo_live.specs.Handles.{cycle_at, enough_turns, first_of, further};
+ghost use Rattle.kfifo_live.specs.Pass.{IsPassOf, IsSamePass, PassKeepsPromise};
+ghost use Rattle.kfifo_live.specs.Payloads.{TokenView};
+ghost use Rattle.kfifo_live.specs.Tokens.{Puts, TakesToken, TokenHeld};
+
+use crate::payload::Taken;
+use crate::payload::token::Token;
+use crate::round_robin::RoundRobin;
+use crate::tokens::{Put, TokenPass, TokenQueue};
+use std::marker::Model;
+
+/// A pass of a queue of tokens that chooses the starts and the rounds of its calls, as `Handle` does.
+///
+/// ```rust
+/// let put = handle.put(&queue, token); // Done
+/// if let Taken::Got(token) = handle.take(&queue) {
+///     spare = token;
+/// }
+/// ```
+///
+/// Clauses see it as its pass, and the slots at which its next `put` and its next `take` begin.
+#[derive(Drop)]
+pub struct TokenHandle {
+    pass: TokenPass,
+    puts: RoundRobin,
+    takes: RoundRobin,
+    turns: u16,
+}
+
+impl Model for TokenHandle {
+    ghost Value = { TokenHeld (Unit {0}) };
+
+    ghost view = { λ h. record { pass = h.pass; put_start = h.puts.start; take_start = h.takes.start } };
+
+    ghost invariant = { λ h. (h.puts ≡ cycle_at h.pass.pass h.puts.start)
+        × (h.takes ≡ cycle_at h.pass.pass h.takes.start) × (h.turns ≡ h.pass.pass.opened.shape.n + 2) };
+}
+
+/// The starts of the calls of a pass, as `Handle` has them.
+fn starts_of(queue: &TokenQueue, pass: &TokenPass) -> RoundRobin
+    requires { IsPassOf queue.now pass.now.pass }
+    ensures { result ≡ cycle_at pass.now.pass (first_of pass.now.pass) }
+{
+    RoundRobin::spread(pass.thread, queue.threads, queue.shape.k)
+}
+
+impl TokenHandle {
+    /// The handle of a pass. Its first `put` and its first `take` begin at slot `thread * k / threads`, rounded down.
+    pub fn new(queue: &TokenQueue, pass: TokenPass) -> TokenHandle
+        requires { IsPassOf queue.now pass.pass }
+        ensures { result ≡ record { pass = pass; put_start = first_of pass.pass; take_start = first_of pass.pass } }
+    {
+        let puts = starts_of(queue, &pass);
+        let takes = starts_of(queue, &pass);
+        TokenHandle {
+            pass,
+            puts,
+            takes,
+            turns: queue.shape.n as u16 + 2,
+        }
+    }
+
+    /// The pass.
+    pub fn pass(&self) -> &TokenPass
+        ensures { result.now ≡ self.now.pass }
+    {
+        &self.pass
+    }
+
+    /// Gives the pass back, for `TokenQueue::close`.
+    pub fn into_pass(self) -> TokenPass
+        ensures { result ≡ self.pass }
+    {
+        self.pass
+    }
+
+    /// Puts a token into the queue, as `TokenPass::put` does.
+    ///
+    /// Returns Done; or Full, Worn or Busy with the token. Busy comes only where another thread won an exchange during
+    /// the call. It never allocates, waits or locks.
+    #[inline(always)]
+    pub fn put(&mut self, queue: &TokenQueue, token: Token<()>) -> Put
+        requires of { IsPassOf queue.now self.old.pass.pass }
+        requires token { token.queue ≡ queue.now }
+        ensures same { IsSamePass self.old.pass.pass self.new.pass.pass }
+        ensures puts { Puts token self.old.put_start (enough_turns self.old.pass.pass) result self.old.pass
+            self.new.pass }
+        ensures busy { (back : TokenView) → result ≡ Put.Busy back → IsDisturbed self.old.pass.pass self.new.pass.pass }
+        ensures starts { (self.new.put_start ≡ further self.old.pass.pass self.old.put_start)
+            × (self.new.take_start ≡ self.old.take_start) }
+        ensures promise { PassKeepsPromise self.new.pass.pass }
+    {
+        let start = self.puts.next();
+        self.pass.put(queue, token, start, self.turns)
+    }
+
+    /// Takes one of the k oldest tokens out of the queue, as `TokenPass::take` does.
+    ///
+    /// Returns Got with the token, Empty, Worn or Busy. Busy comes only where another thread won an exchange during the
+    /// call. It never allocates, waits or locks.
+    #[inline(always)]
+    pub fn take(&mut self, queue: &TokenQueue) -> Taken<Token<()>>
+        requires of { IsPassOf queue.now self.old.pass.pass }
+        ensures same { IsSamePass self.old.pass.pass self.new.pass.pass }
+        ensures takes { TakesToken self.old.take_start (enough_turns self.old.pass.pass) result self.old.pass
+            self.new.pass }
+        ensures busy { result ≡ Taken.Busy → IsDisturbed self.old.pass.pass self.new.pass.pass }
+        ensures starts { (self.new.take_start ≡ further self.old.pass.pass self.old.take_start)
+            × (self.new.put_start ≡ self.old.put_start) }
+        ensures promise { PassKeepsPromise self.new.pass.pass }
+    {
+        let start = self.takes.next();
+        self.pass.take(queue, start, self.turns)
+    }
+}
