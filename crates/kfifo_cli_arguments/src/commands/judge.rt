@@ -94,6 +94,7 @@ The answer is one of these:
                               more of them may find an order
   nothing is left to try      the search saw nothing that it could do otherwise;
                               more tries do not help
+  after <N> tries             behind either: so many choices were undone
   ; items repeat              behind either: an item is put or got more than
                               once. Give each its own number
 
