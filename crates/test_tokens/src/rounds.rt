@@ -1,5 +1,5 @@
 //! Tokens that go round, by one thread.
-use crate::plain::{Answer, close, open_one, put, take};
+use crate::plain::{Answer, Round};
 use kfifo_live::Taken;
 use kfifo_words::{MAX_VERSION, Shape};
 use std::test::Fail;
@@ -8,20 +8,20 @@ use std::test::Fail;
 #[test]
 fn come_out_in_order(rt: HostRuntime) -> Result<(), Fail> {
     let shape = Shape::new(1, 4, MAX_VERSION)?;
-    let (queue, mut handle, mut spare) = open_one(rt.alloc(), shape, 3)?;
+    let mut round = Round::open(rt.alloc(), shape, 3)?;
     for _ in 0..100 {
-        let mut wanted: Vec<u32> = Vec::new(rt.alloc());
-        while let Some(token) = spare.last() {
-            wanted.push(token.number())?;
-            assert_eq!(rt; put(&queue, &mut handle, &mut spare), Answer::Done);
-        }
+        let mut wanted = round.spare(rt.alloc())?;
         assert_eq!(rt; wanted.len(), 3);
-        for number in wanted {
-            assert_eq!(rt; take(&queue, &mut handle, &mut spare), Taken::Got(number));
+        wanted.reverse();
+        for _ in 0..3 {
+            assert_eq!(rt; round.put(), Answer::Done);
         }
-        assert_eq!(rt; take(&queue, &mut handle, &mut spare), Taken::Empty);
+        for number in wanted {
+            assert_eq!(rt; round.take(), Taken::Got(number));
+        }
+        assert_eq!(rt; round.take(), Taken::Empty);
     }
-    assert_eq!(rt; close(rt.alloc(), queue, handle)?.len(), 0);
+    assert_eq!(rt; round.close(rt.alloc())?.len(), 0);
     Ok(())
 }
 
@@ -29,15 +29,15 @@ fn come_out_in_order(rt: HostRuntime) -> Result<(), Fail> {
 #[test]
 fn come_back_from_a_full_ring(rt: HostRuntime) -> Result<(), Fail> {
     let shape = Shape::new(1, 2, MAX_VERSION)?;
-    let (queue, mut handle, mut spare) = open_one(rt.alloc(), shape, 4)?;
-    assert_eq!(rt; put(&queue, &mut handle, &mut spare), Answer::Done);
-    assert_eq!(rt; put(&queue, &mut handle, &mut spare), Answer::Done);
-    assert_eq!(rt; put(&queue, &mut handle, &mut spare), Answer::Full);
-    assert_eq!(rt; spare.len(), 2);
-    assert_eq!(rt; take(&queue, &mut handle, &mut spare), Taken::Got(4));
-    assert_eq!(rt; put(&queue, &mut handle, &mut spare), Answer::Done);
-    assert_eq!(rt; spare.len(), 2);
-    let left = close(rt.alloc(), queue, handle)?;
+    let mut round = Round::open(rt.alloc(), shape, 4)?;
+    assert_eq!(rt; round.put(), Answer::Done);
+    assert_eq!(rt; round.put(), Answer::Done);
+    assert_eq!(rt; round.put(), Answer::Full);
+    assert_eq!(rt; round.spare(rt.alloc())?.as_slice(), [1, 2].as_slice());
+    assert_eq!(rt; round.take(), Taken::Got(4));
+    assert_eq!(rt; round.put(), Answer::Done);
+    assert_eq!(rt; round.spare(rt.alloc())?.as_slice(), [1, 2].as_slice());
+    let left = round.close(rt.alloc())?;
     assert_eq!(rt; left.as_slice(), [3, 4].as_slice());
     Ok(())
 }
@@ -46,14 +46,14 @@ fn come_back_from_a_full_ring(rt: HostRuntime) -> Result<(), Fail> {
 #[test]
 fn come_out_once_each(rt: HostRuntime) -> Result<(), Fail> {
     let shape = Shape::new(4, 8, MAX_VERSION)?;
-    let (queue, mut handle, mut spare) = open_one(rt.alloc(), shape, 20)?;
+    let mut round = Round::open(rt.alloc(), shape, 20)?;
     for _ in 0..20 {
-        assert_eq!(rt; put(&queue, &mut handle, &mut spare), Answer::Done);
+        assert_eq!(rt; round.put(), Answer::Done);
     }
-    assert_eq!(rt; put(&queue, &mut handle, &mut spare), Answer::NoToken);
-    let mut seen = [false; 20];
+    assert_eq!(rt; round.put(), Answer::NoToken);
+    let mut seen = vec![in rt.alloc(); false; 20]?;
     for turn in 0..20_u32 {
-        let Taken::Got(number) = take(&queue, &mut handle, &mut spare) else {
+        let Taken::Got(number) = round.take() else {
             return Err(Fail::new("a take found no token"));
         };
         // Token 20 went in first.
@@ -72,14 +72,12 @@ fn come_out_once_each(rt: HostRuntime) -> Result<(), Fail> {
 #[test]
 fn come_back_from_a_worn_queue(rt: HostRuntime) -> Result<(), Fail> {
     let shape = Shape::new(1, 2, 2)?;
-    let (queue, mut handle, mut spare) = open_one(rt.alloc(), shape, 2)?;
-    let mut rounds = 0;
-    while rounds < 100 && put(&queue, &mut handle, &mut spare) == Answer::Done {
-        let _ = take(&queue, &mut handle, &mut spare);
-        rounds += 1;
+    let mut round = Round::open(rt.alloc(), shape, 2)?;
+    for _ in 0..100 {
+        let _ = round.put();
+        let _ = round.take();
     }
-    assert!(rt; rounds < 100);
-    assert_eq!(rt; put(&queue, &mut handle, &mut spare), Answer::Worn);
-    assert_eq!(rt; queue.versions_left(), 0);
+    assert_eq!(rt; round.put(), Answer::Worn);
+    assert_eq!(rt; round.versions_left(), 0);
     Ok(())
 }
