@@ -12,10 +12,6 @@ use kfifo_model::RecordFault;
 use std::alloc::{AllocError, Global};
 use std::fmt::Write;
 
-/// What is said of a text that is taken for a record by its first byte, and is no JSON.
-const NOT_JSON: &str =
-    "the input begins with [, as a record does, but is no JSON text or not UTF-8\n";
-
 /// The number of a fault of a record, and the call that has it, 0 where there is none.
 fn record_place(fault: StreamFault) -> (u32, u64)
     ensures { result ≡ record_place fault }
@@ -34,11 +30,7 @@ fn record_report(alloc: Global, fault: StreamFault) -> Result<Report, AllocError
         return Err(AllocError);
     }
     let mut text = String::new(alloc);
-    if let StreamFault::NotJson = fault {
-        text.push_str(NOT_JSON)?;
-    } else {
-        writeln!(text, "{fault}")?;
-    }
+    writeln!(text, "{fault}")?;
     let (number, place) = record_place(fault);
     let mut report = Report::plain(alloc, FAULT, text);
     report.fault = number;
