@@ -1,6 +1,7 @@
 //! A queue of tokens for one thread, with its handle and its tokens. No test says more of a call: proofs are faster so.
 ghost use Rattle.std.specs.Prelude.{◌≡◌, ◌<◌, ◌≤◌, All};
-ghost use Rattle.kfifo_live.specs.Pass.{IsPassOf};
+ghost use Rattle.kfifo_live.specs.Pass.{IsPassOf, IsSamePass};
+ghost use Rattle.kfifo_live.specs.Payloads.{TokenView};
 
 use kfifo_live::{CloseFault, Put, Taken, Token, TokenHandle, TokenQueue};
 use kfifo_words::Shape;
@@ -32,6 +33,24 @@ impl Model for Round {
     ghost view = { λ _. tt };
 
     ghost invariant = { λ r. IsPassOf r.queue r.handle.pass.pass × All (λ t. t.queue ≡ r.queue) r.spare.items };
+}
+
+/// Adds a token of the queue to these.
+fn add(queue: &TokenQueue, spare: &mut Vec<Token<()>>, token: Token<()>)
+    requires tokens { All (λ t. t.queue ≡ queue.now) spare.old.items }
+    requires token { token.queue ≡ queue.now }
+    ensures { All (λ t. t.queue ≡ queue.now) spare.new.items }
+{
+    let _ = spare.push(token);
+}
+
+/// Takes a token of the queue.
+fn take_token(queue: &TokenQueue, handle: &mut TokenHandle) -> Taken<Token<()>>
+    requires { IsPassOf queue.now handle.old.pass.pass }
+    ensures same { IsSamePass handle.old.pass.pass handle.new.pass.pass }
+    ensures of { (token : TokenView) → result ≡ Taken.Got token → token.queue ≡ queue.now }
+{
+    handle.take(queue)
 }
 
 impl Round {
@@ -76,16 +95,16 @@ impl Round {
             Put::Busy(back) => (Answer::Busy, back),
             Put::Worn(back) => (Answer::Worn, back),
         };
-        let _ = self.spare.push(back);
+        add(&self.queue, &mut self.spare, back);
         answer
     }
 
     /// Takes a token, and returns its number.
     pub fn take(&mut self) -> Taken<u32> {
-        match self.handle.take(&self.queue) {
+        match take_token(&self.queue, &mut self.handle) {
             Taken::Got(token) => {
                 let number = token.number();
-                let _ = self.spare.push(token);
+                add(&self.queue, &mut self.spare, token);
                 Taken::Got(number)
             }
             Taken::Empty => Taken::Empty,
