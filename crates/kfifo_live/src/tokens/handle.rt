@@ -15,10 +15,9 @@ use std::marker::Model;
 /// A pass of a queue of tokens that chooses the starts and the rounds of its calls, as `Handle` does.
 ///
 /// ```rust
+/// let mut handle = TokenHandle::new(&queue, pass);
 /// let put = handle.put(&queue, token); // Done
-/// if let Taken::Got(token) = handle.take(&queue) {
-///     spare = token;
-/// }
+/// let taken = handle.take(&queue); // Got, with the token of number 16
 /// ```
 ///
 /// Clauses see it as its pass, and the slots at which its next `put` and its next `take` begin.
