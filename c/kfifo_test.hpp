@@ -574,7 +574,7 @@ class Instance {
     // Puts the items that fill the queue, and returns how many were tried.
     virtual std::uint32_t fill(Log &log, const Task &task, Random &random) = 0;
     virtual void work(Log &log, const Task &task, Random &random, std::uint32_t used) = 0;
-    // Gets until the queue is empty. False where it did not become so within so many calls.
+    // Gets until the queue is empty. Returns false if it is still not empty after that many calls.
     virtual bool drain(Log &log, unsigned calls) = 0;
 };
 

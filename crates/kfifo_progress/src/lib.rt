@@ -7,16 +7,17 @@ ghost use Rattle.kfifo_progress.specs.Progress.{BusyMeansProgress, SomeCallAnswe
 
 /// Lock-freedom, of every schedule of a shape that holds again and has more segments than there are threads.
 ///
-/// A stretch of a schedule is any part of it, wherever it begins, in which the threads make their steps in any order and
-/// may stop anywhere. A stretch in which no call ends has at most `most_steps` steps of calls, whatever the turns of the
-/// calls.
+/// A stretch of a schedule is any part of it, wherever it begins, in which the threads make their steps in any order
+/// and may stop anywhere. A stretch in which no call ends has at most `most_steps` steps of calls, whatever the turns
+/// of the calls.
 ///
 /// A call that runs out of turns ends with Busy, so with few turns calls may end with nothing but Busy for ever. Where
-/// each call that begins in a stretch has at least `turns_for_progress` turns, and no call ends in it with another answer
-/// than Busy, it has at most `steps_to_answer` steps of calls. So such a call ends with Busy only if another one answered
-/// meanwhile.
+/// each call that begins in a stretch has at least `turns_for_progress` turns, and no call ends in it with another
+/// answer than Busy, it has at most `steps_to_answer` steps of calls. So such a call ends with Busy only if another one
+/// answered meanwhile.
 ///
-/// A call can have so many turns with up to 29 threads, and with up to 64 if there are more than twice as many segments.
+/// A call can have so many turns with up to 29 threads, and with up to 64 if there are more than twice as many
+/// segments.
 pub fn every_schedule_makes_progress()
     ensures ends { (shape : Shape) (threads : ℕ) → shape.holds_again ≡ true → threads < shape.n
         → SomeCallEnds shape threads }
