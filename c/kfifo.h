@@ -297,9 +297,9 @@ static inline const char *kfifo_bad_call_text(const kfifo_pass *pass, uint32_t i
     return NULL;
 }
 
-/* Puts an item, 1 to KFIFO_MAX_ITEM: DONE, FULL, BUSY, WORN or BAD_CALL. The call makes segments + 2 rounds, so BUSY
-   comes only where another thread changed the queue in the meantime. kfifo_may_retry says after which statuses to call
-   again. */
+/* Puts an item, 1 to KFIFO_MAX_ITEM: DONE, FULL, BUSY, WORN or BAD_CALL. The call makes up to 65,535 rounds,
+   so BUSY is rare, and comes only where another thread changed the queue in the meantime. kfifo_may_retry says after
+   which statuses to call again. */
 static inline kfifo_status kfifo_put(kfifo_pass *pass, uint32_t item) {
     if (!pass) return KFIFO_BAD_CALL;
     KFIFO_BEGIN(pass);

@@ -1,4 +1,4 @@
-//! A bounded k-FIFO queue of values without locks, for many threads: a value that is taken is one of the k oldest.
+//! A bounded lock-free k-FIFO queue of values, for many threads: a value that is taken is one of the k oldest.
 //!
 //! A value lies in a *cell*, which a handle has alone while it moves the value in or out. The cells are made with the
 //! queue. A queue does not wear out: before the versions of its words are used up, it goes on in its next *generation*,

@@ -1,9 +1,15 @@
 -- A call of a handle is that of its pass, with tokens picked up before or laid down after.
-use Rattle.std.proofs.Common.{◌≡◌, ◌≢◌, ℕ, List, [], ◌∷◌, length, refl, subst, arith}
+use Rattle.std.proofs.Common.{◌≡◌, ◌≢◌, ◌+◌, ◌≤◌, ℕ, List, [], ◌∷◌, length, refl, subst, arith}
+use Rattle.kfifo_words.specs.declared.shape.Shape.{Shape}
+use Rattle.kfifo_live.specs.declared.handle.TheConstants.{MAX_TURNS}
 use Rattle.kfifo_live.specs.declared.payload.Given.{Given}
 use Rattle.kfifo_live.specs.declared.payload.Taken.{Taken}
 use Rattle.kfifo_live.specs.Payloads.{PayPassView, Gives, TakesOut, PicksUpAtMost}
-use Rattle.kfifo_live.specs.Handles.{PayHeld, PicksUpIfNone, batch_size, enough_turns, one_more, shortages_after}
+use Rattle.kfifo_live.specs.Handles.{PayHeld, PicksUpIfNone, batch_size, one_more, shortages_after}
+
+-- a call of a handle has rounds enough to be Busy only by another thread's doing
+pub turns_enough : (s : Shape) → s.n + 2 ≤ MAX_TURNS
+turns_enough s = omega (arith, s.few_segments)
 
 pub counts_none : (tokens : List ℕ) (old new : ℕ) → length tokens ≡ 0 → new ≡ one_more old → new ≡ shortages_after tokens old
 counts_none [] old new none up = up
@@ -23,17 +29,17 @@ module _ {T : Type 0} where
   picks_some [] old new some same = absurd (some refl)
   picks_some (token ∷ tokens) old new some same = same
 
-  -- what a pass gave or took from this start and in so many rounds is what the handle says of it
+  -- what a pass gave or took from this start is what the handle says of it
   pub gave : (start turns : ℕ) (payload : T) (said answer : Given T) (old : PayHeld T) (ready given : PayPassView T)
-      → start ≡ old.give_start → turns ≡ enough_turns old.pass.pass → said ≡ answer → Gives start turns payload said ready given
-      → Gives old.give_start (enough_turns old.pass.pass) payload answer ready given
-  gave start turns payload said answer old ready given start_is turns_are said_is gives =
-      subst (λ (x : ℕ × ℕ × Given T). Gives x.0 x.1 payload x.2 ready given) (λ i. (start_is i, turns_are i, said_is i)) gives
+      → start ≡ old.give_start → said ≡ answer → Gives start turns payload said ready given
+      → Gives old.give_start turns payload answer ready given
+  gave start turns payload said answer old ready given start_is said_is gives =
+      subst (λ (x : ℕ × Given T). Gives x.0 turns payload x.1 ready given) (λ i. (start_is i, said_is i)) gives
 
   pub took : (start turns : ℕ) (said answer : Taken T) (old : PayHeld T) (was taken : PayPassView T)
-      → start ≡ old.take_start → turns ≡ enough_turns old.pass.pass → said ≡ answer → was ≡ old.pass
+      → start ≡ old.take_start → said ≡ answer → was ≡ old.pass
       → TakesOut start turns said was taken
-      → TakesOut old.take_start (enough_turns old.pass.pass) answer old.pass taken
-  took start turns said answer old was taken start_is turns_are said_is was_is takes =
-      subst (λ (x : ℕ × ℕ × Taken T × PayPassView T). TakesOut x.0 x.1 x.2 x.3 taken)
-      (λ i. (start_is i, turns_are i, said_is i, was_is i)) takes
+      → TakesOut old.take_start turns answer old.pass taken
+  took start turns said answer old was taken start_is said_is was_is takes =
+      subst (λ (x : ℕ × Taken T × PayPassView T). TakesOut x.0 turns x.1 x.2 taken)
+      (λ i. (start_is i, said_is i, was_is i)) takes

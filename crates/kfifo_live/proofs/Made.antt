@@ -1,5 +1,5 @@
 -- A complete execution of a call has all that is said of one call.
-use Rattle.std.proofs.Common.{◌≡◌, ◌+◌, ◌≤◌, List, [], ◌∷◌, ◌++◌, length, drop, Some, sym, ap, ◌∙◌, subst, append_assoc}
+use Rattle.std.proofs.Common.{◌≡◌, ◌+◌, ◌<◌, ◌≤◌, List, [], ◌∷◌, ◌++◌, length, drop, Some, sym, ap, ◌∙◌, subst, append_assoc}
 use Rattle.std.proofs.Math.Seq.{drop-append_seam}
 use Rattle.kfifo_live.proofs.Types.{Answer, Begin, Event}
 use Rattle.kfifo_model.specs.declared.calls.Answer.TheVariants.{Done, Full, Got, Empty, Busy, Worn}
@@ -15,9 +15,11 @@ use Rattle.kfifo_machine.proofs.Causes.{full_has_cause}
 use Rattle.kfifo_machine.proofs.Wear.{worn_has_cause}
 use Rattle.kfifo_machine.proofs.Losses.{busy_has_cause}
 use Rattle.kfifo_machine.proofs.BusyIsDisturbed.{busy_is_disturbed}
+use Rattle.kfifo_progress.specs.Progress.{AllHaveTurns, calls_answered, turns_for_progress}
+use Rattle.kfifo_progress.proofs.Answers.{busy_means_progress}
 use Rattle.kfifo_live.specs.Pass.{PassView}
 use Rattle.kfifo_live.specs.Schedule.{world_after}
-use Rattle.kfifo_live.specs.Calls.{added, Makes, MakesCall, TakesFewSteps, HasCause, IsDisturbed, LeavesNoItem}
+use Rattle.kfifo_live.specs.Calls.{added, Makes, MakesCall, TakesFewSteps, HasCause, IsDisturbed, LeavesNoItem, OtherAnswers}
 
 -- what it added
 added-made : (call : Begin) (answer : Answer) (old new : PassView) → (run : Makes call answer old new)
@@ -59,6 +61,15 @@ is_disturbed call answer old new run busy enough here reached =
     subst (λ (es : List Event). OtherWins old.opened.shape old.thread here es) (sym (added-made call Busy old new run'))
     (busy_is_disturbed old.opened.shape old.opened.threads old.thread call old.seen new.seen run' here reached enough)
 
+other_answers : (call : Begin) (answer : Answer) (old new : PassView) → Makes call answer old new → answer ≡ Busy
+    → OtherAnswers old new
+other_answers call answer old new run busy again wide turns =
+    let run' = subst (λ (a : Answer). Makes call a old new) busy run in
+    let is = added-made call Busy old new run' in
+    subst (λ (es : List Event). 0 < calls_answered old.opened.shape (world_after old.opened old.seen) es) (sym is)
+    (busy_means_progress old.opened.shape old.opened.threads again wide old.thread call old.seen new.seen run'
+    (subst (AllHaveTurns (turns_for_progress old.opened.shape old.opened.threads)) is turns))
+
 leaves_none : (call : Begin) (answer : Answer) (old new : PassView) → Makes call answer old new → IsRefusal answer
     → LeavesNoItem old new
 leaves_none call answer old new run refusal =
@@ -70,5 +81,6 @@ makes_call call answer old new run = record {
   few_steps = takes_few_steps call answer old new run;
   cause = has_cause call answer old new run;
   disturbed = is_disturbed call answer old new run;
+  progress = other_answers call answer old new run;
   leaves_none = leaves_none call answer old new run;
 }

@@ -1,6 +1,6 @@
 -- What one call of a pass came to: the events that it added to what the pass had seen, and what its answer says of
 -- them.
-use Rattle.std.specs.Prelude.{◌≡◌, ◌≢◌, ℕ, ◌+◌, ◌≤◌, List, ◌∷◌, ◌++◌, length, drop, Some}
+use Rattle.std.specs.Prelude.{◌≡◌, ◌≢◌, ℕ, ◌+◌, ◌<◌, ◌≤◌, List, ◌∷◌, ◌++◌, length, drop, Some, true}
 use Rattle.kfifo_model.specs.declared.calls.Answer.{Answer}
 use Rattle.kfifo_model.specs.declared.calls.Answer.TheVariants.{Full, Busy, Worn}
 use Rattle.kfifo_machine.specs.declared.event.Begin.{Begin}
@@ -10,6 +10,7 @@ use Rattle.kfifo_machine.specs.Runs.{CompleteExecution, own}
 use Rattle.kfifo_machine.specs.Laws.{IsRefusal, PutsNext, most_events}
 use Rattle.kfifo_machine.specs.Causes.{CauseOfFull, CauseOfWorn, looks, start_of}
 use Rattle.kfifo_machine.specs.Rounds.{LosesAll, OtherWins, turns_of}
+use Rattle.kfifo_progress.specs.Progress.{AllHaveTurns, calls_answered, turns_for_progress}
 use Rattle.kfifo_live.specs.Pass.{PassView}
 use Rattle.kfifo_live.specs.Schedule.{world_after}
 
@@ -42,6 +43,13 @@ abbrev pub IsDisturbed : PassView → PassView → Type 0
 IsDisturbed old new = (here : World) → world_after old.opened old.seen ≡ Some here
     → OtherWins old.opened.shape old.thread here (added old new)
 
+-- Progress: where the queue holds again and has more segments than threads, and each call that began meanwhile, itself
+-- included, has turns enough, another call ended meanwhile with another answer than Busy
+abbrev pub OtherAnswers : PassView → PassView → Type 0
+OtherAnswers old new = old.opened.shape.holds_again ≡ true → old.opened.threads < old.opened.shape.n
+    → AllHaveTurns (turns_for_progress old.opened.shape old.opened.threads) (added old new)
+    → 0 < calls_answered old.opened.shape (world_after old.opened old.seen) (added old new)
+
 -- a word that the call put into a slot does not stand there when it has ended, nor ever after
 abbrev pub LeavesNoItem : PassView → PassView → Type 0
 LeavesNoItem old new = (before after : List Event) (e : Event) (index word : ℕ)
@@ -57,4 +65,5 @@ pub record MakesCall (begin : Begin) (answer : Answer) (old new : PassView) : Ty
   pub few_steps : TakesFewSteps begin old new
   pub cause : HasCause begin answer old new
   pub disturbed : answer ≡ Busy → old.opened.shape.n + 2 ≤ turns_of begin → IsDisturbed old new
+  pub progress : answer ≡ Busy → OtherAnswers old new
   pub leaves_none : IsRefusal answer → LeavesNoItem old new

@@ -1,6 +1,7 @@
 -- Starts that move on by themselves, and the passes in handles, which choose the starts and the rounds of their calls.
 use Rattle.std.specs.Prelude.{◌≡◌, ◌≢◌, ◌<◌, ◌≤◌, ◌==◌, ltb, if◌then◌else◌, ℕ, zero, suc, ◌+◌, ◌*◌, ◌^◌, ◌/◌, ◌%◌}
 use Rattle.std.specs.Prelude.{List, [], ◌∷◌, length, min, max, Option, Some, None}
+use Rattle.kfifo_live.specs.declared.handle.TheConstants.{MAX_TURNS}
 use Rattle.kfifo_live.specs.declared.payload.Given.{Given}
 use Rattle.kfifo_live.specs.declared.payload.Given.TheVariants as G
 use Rattle.kfifo_live.specs.declared.payload.Taken.{Taken}
@@ -51,10 +52,6 @@ StartsDiffer threads k = (start i j : ℕ) → start < k → i < j → j < k
 -- where the first call of a thread begins, one of so many threads
 abbrev pub first_start : ℕ → ℕ → ℕ → ℕ
 first_start thread threads k = thread * k / threads
-
--- so many rounds that Busy is always another thread's doing
-abbrev pub enough_turns : PassView → ℕ
-enough_turns p = p.opened.shape.n + 2
 
 -- where the first calls of a pass in a handle begin, and where a call begins after another
 abbrev pub first_of : PassView → ℕ
@@ -110,7 +107,7 @@ module _ {T : Type 0} where
   pub record PicksUpAndGives (payload : T) (answer : Given T) (old new : PayHeld T) : Type 0 where
     pub ready : PayPassView T
     pub picks : PicksUpIfNone old.pass.tokens old.pass ready
-    pub gives : Gives old.give_start (enough_turns (pass_of old)) payload answer ready new.pass
+    pub gives : Gives old.give_start MAX_TURNS payload answer ready new.pass
     pub shortages : new.shortages ≡ shortages_after old.pass.tokens old.shortages
 
   -- A pass that has a batch of tokens or more beyond those that it was opened with lays a batch down, as far as the
@@ -124,7 +121,7 @@ module _ {T : Type 0} where
   -- What `take` of a handle did: the pass took as a pass does, and then laid down what it had too many
   pub record TakesAndLaysDown (answer : Taken T) (old new : PayHeld T) : Type 0 where
     pub taken : PayHeld T
-    pub takes : TakesOut old.take_start (enough_turns (pass_of old)) answer old.pass taken.pass
+    pub takes : TakesOut old.take_start MAX_TURNS answer old.pass taken.pass
     pub surpluses : taken.surpluses ≡ old.surpluses
     pub lays : LaysSurplus taken new
 
@@ -163,7 +160,7 @@ module _ {T : Type 0} where
     pub ready : PayPassView T
     pub takes : TakesIn token old.pass ready
     pub given : PayPassView T
-    pub gives : Gives old.give_start (enough_turns (pass_of old)) payload (given_of answer) ready given
+    pub gives : Gives old.give_start MAX_TURNS payload (given_of answer) ready given
     pub back : HandsOver (token_back answer) given new.pass
 
   -- what `receive` says of the payload, and the token that comes with it
@@ -182,7 +179,7 @@ module _ {T : Type 0} where
   -- What `receive` did: the pass took as a pass does, and parted with the token that it got
   pub record Receives (answer : Received T) (old new : PayHeld T) : Type 0 where
     pub taken : PayPassView T
-    pub takes : TakesOut old.take_start (enough_turns (pass_of old)) (taken_of answer) old.pass taken
+    pub takes : TakesOut old.take_start MAX_TURNS (taken_of answer) old.pass taken
     pub hands : HandsOver (token_got answer) taken new.pass
 
   -- What `release` did: the pass took the token in, and then laid down what it had too many

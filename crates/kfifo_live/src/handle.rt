@@ -3,18 +3,26 @@ ghost use Rattle.std.specs.Prelude.{◌≡◌, ◌<◌, ◌≤◌, ◌+◌, ◌*
 ghost use Rattle.kfifo_machine.specs.declared.event.Begin.TheVariants.{Enqueue, Dequeue};
 ghost use Rattle.kfifo_live.specs.Pass.{Finds, IsPassOf, IsSamePass, PassKeepsPromise};
 ghost use Rattle.kfifo_live.specs.Calls.{IsDisturbed, MakesCall};
-ghost use Rattle.kfifo_live.specs.Handles.{Held, cycle_at, enough_turns, first_of, further};
+ghost use Rattle.kfifo_live.specs.Handles.{Held, cycle_at, first_of, further};
+ghost use Rattle.kfifo_live.specs.declared.handle.TheConstants.{MAX_TURNS};
 
 use crate::queue::{Pass, Queue};
 use crate::round_robin::RoundRobin;
 use kfifo_model::Answer;
 use std::marker::Model;
 
+/// The most rounds that a call can make, and those that the calls of a handle make.
+///
+/// A call that nobody disturbs needs n + 2 at most, n being the number of segments, so Busy is always another thread's
+/// doing. In a queue that holds again and has more than twice as many segments as threads, or more segments than threads
+/// and 29 threads at most, they are also enough for progress: a call returns Busy only where another one returned another
+/// answer meanwhile.
+pub const MAX_TURNS: u16 = 65_535;
+
 /// A pass that chooses the starts and the rounds of its calls.
 ///
 /// Each enqueue begins its scan a stride further than the enqueue before it, and so do dequeues, apart from enqueues:
-/// as `RoundRobin::spread` says. A call makes up to n + 2 rounds, n being the number of segments, so Busy is always
-/// another thread's doing.
+/// as `RoundRobin::spread` says. A call makes up to `MAX_TURNS` rounds.
 ///
 /// ```rust
 /// let mut handle = Handle::new(&queue, pass);
@@ -28,7 +36,6 @@ pub struct Handle {
     pass: Pass,
     enqueues: RoundRobin,
     dequeues: RoundRobin,
-    turns: u16,
 }
 
 impl Model for Handle {
@@ -37,7 +44,7 @@ impl Model for Handle {
     ghost view = { λ h. record { pass = h.pass; enqueue_start = h.enqueues.start; dequeue_start = h.dequeues.start } };
 
     ghost invariant = { λ h. (h.enqueues ≡ cycle_at h.pass h.enqueues.start)
-        × (h.dequeues ≡ cycle_at h.pass h.dequeues.start) × (h.turns ≡ h.pass.opened.shape.n + 2) };
+        × (h.dequeues ≡ cycle_at h.pass h.dequeues.start) };
 }
 
 /// The starts of the calls of a pass: where there are no more threads than slots, each thread begins at a slot of its
@@ -62,7 +69,6 @@ impl Handle {
             pass,
             enqueues,
             dequeues,
-            turns: queue.shape.n as u16 + 2,
         }
     }
 
@@ -89,7 +95,7 @@ impl Handle {
         requires of { IsPassOf queue.now self.old.pass }
         requires item { (1 ≤ item) × (item < 2 ^ 24) }
         ensures same { IsSamePass self.old.pass self.new.pass }
-        ensures call { MakesCall (Enqueue item self.old.enqueue_start (enough_turns self.old.pass)) result self.old.pass
+        ensures call { MakesCall (Enqueue item self.old.enqueue_start MAX_TURNS) result self.old.pass
             self.new.pass }
         ensures busy { result ≡ Answer.Busy → IsDisturbed self.old.pass self.new.pass }
         ensures starts { (self.new.enqueue_start ≡ further self.old.pass self.old.enqueue_start)
@@ -97,7 +103,7 @@ impl Handle {
         ensures promise { PassKeepsPromise self.new.pass }
     {
         let start = self.enqueues.next();
-        self.pass.enqueue(queue, item, start, self.turns)
+        self.pass.enqueue(queue, item, start, MAX_TURNS)
     }
 
     /// Takes one of the k oldest items, as `Pass::dequeue` does.
@@ -108,7 +114,7 @@ impl Handle {
     pub fn dequeue(&mut self, queue: &Queue) -> Answer
         requires of { IsPassOf queue.now self.old.pass }
         ensures same { IsSamePass self.old.pass self.new.pass }
-        ensures call { MakesCall (Dequeue self.old.dequeue_start (enough_turns self.old.pass)) result self.old.pass
+        ensures call { MakesCall (Dequeue self.old.dequeue_start MAX_TURNS) result self.old.pass
             self.new.pass }
         ensures busy { result ≡ Answer.Busy → IsDisturbed self.old.pass self.new.pass }
         ensures starts { (self.new.dequeue_start ≡ further self.old.pass self.old.dequeue_start)
@@ -116,7 +122,7 @@ impl Handle {
         ensures promise { PassKeepsPromise self.new.pass }
     {
         let start = self.dequeues.next();
-        self.pass.dequeue(queue, start, self.turns)
+        self.pass.dequeue(queue, start, MAX_TURNS)
     }
 
     /// Puts an item, as `Pass::enqueue` does, with a start and turns of the caller's. The handle's own starts stay.

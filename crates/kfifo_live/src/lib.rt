@@ -24,7 +24,7 @@ mod view;
 pub use closing::close;
 pub use fault::{CloseFault, GatherFault, OpenFault};
 pub use gate::{Gate, OpenGate};
-pub use handle::Handle;
+pub use handle::{Handle, MAX_TURNS};
 pub use meeting::meet;
 pub use payload::handle::{PayHandle, Published, Received};
 pub use payload::opening::{MAX_TOKENS, MOST_TOKENS};

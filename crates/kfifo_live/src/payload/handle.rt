@@ -7,6 +7,7 @@ ghost use Rattle.kfifo_live.specs.Handles.{PayHeld, PicksUpAndGives, TakesAndLay
 ghost use Rattle.kfifo_live.specs.Handles.{LaysSurplus, PicksUpIfNone, Publishes, Receives, Releases, Reserves};
 ghost use Rattle.kfifo_live.specs.Handles.{SameButPass, further, one_more, pass_of, shortages_after};
 
+use crate::handle::MAX_TURNS;
 use crate::payload::token::Token;
 use crate::payload::{Given, PayPass, PayQueue, Taken};
 use crate::round_robin::RoundRobin;
@@ -36,7 +37,6 @@ pub struct PayHandle<T: Drop> {
     pass: PayPass<T>,
     gives: RoundRobin,
     takes: RoundRobin,
-    turns: u16,
     batch: u32,
     /// With so many tokens the pass has a batch more than it was opened with.
     too_many: usize,
@@ -56,7 +56,7 @@ impl<T: Drop> Model for PayHandle<T> {
     } };
 
     ghost invariant = { λ h. (h.gives ≡ cycle_at h.pass.pass h.gives.start)
-        × (h.takes ≡ cycle_at h.pass.pass h.takes.start) × (h.turns ≡ h.pass.pass.opened.shape.n + 2)
+        × (h.takes ≡ cycle_at h.pass.pass h.takes.start)
         × (h.batch ≡ batch_size h.pass.pass.opened) × (h.too_many ≡ h.pass.pass.opened.tokens + h.batch) };
 }
 
@@ -124,7 +124,6 @@ impl<T: Drop> PayHandle<T> {
             pass,
             gives,
             takes,
-            turns: queue.shape.n as u16 + 2,
             batch,
             too_many: queue.tokens as usize + batch as usize,
             shortages: 0,
@@ -241,7 +240,7 @@ impl<T: Drop> PayHandle<T> {
     {
         self.pick_up_if_none(queue);
         let start = self.gives.next();
-        self.pass.give(queue, payload, start, self.turns)
+        self.pass.give(queue, payload, start, MAX_TURNS)
     }
 
     /// Takes one of the k oldest payloads out of the queue, and its token, as `PayPass::take` does. A pass that then
@@ -261,7 +260,7 @@ impl<T: Drop> PayHandle<T> {
         ensures promise { PassKeepsPromise (pass_of self.new) }
     {
         let start = self.takes.next();
-        let taken = self.pass.take(queue, start, self.turns);
+        let taken = self.pass.take(queue, start, MAX_TURNS);
         self.lay_surplus(queue);
         taken
     }
@@ -302,7 +301,7 @@ impl<T: Drop> PayHandle<T> {
     {
         self.pass.take_in(queue, token);
         let start = self.gives.next();
-        match self.pass.give(queue, payload, start, self.turns) {
+        match self.pass.give(queue, payload, start, MAX_TURNS) {
             Given::Done => Published::Done,
             Given::Full(back) => Published::Full(back, self.keep(queue)),
             Given::Busy(back) => Published::Busy(back, self.keep(queue)),
@@ -342,7 +341,7 @@ impl<T: Drop> PayHandle<T> {
         ensures promise { PassKeepsPromise (pass_of self.new) }
     {
         let start = self.takes.next();
-        match self.pass.take(queue, start, self.turns) {
+        match self.pass.take(queue, start, MAX_TURNS) {
             Taken::Got(payload) => Received::Got(payload, self.keep(queue)),
             Taken::Empty => Received::Empty,
             Taken::Busy => Received::Busy,

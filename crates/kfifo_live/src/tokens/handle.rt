@@ -1,11 +1,13 @@
 //! Calls of a queue of tokens with nothing to choose.
 ghost use Rattle.std.specs.Prelude.{◌≡◌, ◌+◌};
 ghost use Rattle.kfifo_live.specs.Calls.{IsDisturbed};
-ghost use Rattle.kfifo_live.specs.Handles.{cycle_at, enough_turns, first_of, further};
+ghost use Rattle.kfifo_live.specs.Handles.{cycle_at, first_of, further};
+ghost use Rattle.kfifo_live.specs.declared.handle.TheConstants.{MAX_TURNS};
 ghost use Rattle.kfifo_live.specs.Pass.{IsPassOf, IsSamePass, PassKeepsPromise};
 ghost use Rattle.kfifo_live.specs.Payloads.{TokenView};
 ghost use Rattle.kfifo_live.specs.Tokens.{Puts, TakesToken, TokenHeld};
 
+use crate::handle::MAX_TURNS;
 use crate::payload::Taken;
 use crate::payload::token::Token;
 use crate::round_robin::RoundRobin;
@@ -26,7 +28,6 @@ pub struct TokenHandle {
     pass: TokenPass,
     puts: RoundRobin,
     takes: RoundRobin,
-    turns: u16,
 }
 
 impl Model for TokenHandle {
@@ -35,7 +36,7 @@ impl Model for TokenHandle {
     ghost view = { λ h. record { pass = h.pass; put_start = h.puts.start; take_start = h.takes.start } };
 
     ghost invariant = { λ h. (h.puts ≡ cycle_at h.pass.pass h.puts.start)
-        × (h.takes ≡ cycle_at h.pass.pass h.takes.start) × (h.turns ≡ h.pass.pass.opened.shape.n + 2) };
+        × (h.takes ≡ cycle_at h.pass.pass h.takes.start) };
 }
 
 /// The starts of the calls of a pass, as `Handle` has them.
@@ -58,7 +59,6 @@ impl TokenHandle {
             pass,
             puts,
             takes,
-            turns: queue.shape.n as u16 + 2,
         }
     }
 
@@ -85,7 +85,7 @@ impl TokenHandle {
         requires of { IsPassOf queue.now self.old.pass.pass }
         requires token { token.queue ≡ queue.now }
         ensures same { IsSamePass self.old.pass.pass self.new.pass.pass }
-        ensures puts { Puts token self.old.put_start (enough_turns self.old.pass.pass) result self.old.pass
+        ensures puts { Puts token self.old.put_start MAX_TURNS result self.old.pass
             self.new.pass }
         ensures busy { (back : TokenView) → result ≡ Put.Busy back → IsDisturbed self.old.pass.pass self.new.pass.pass }
         ensures starts { (self.new.put_start ≡ further self.old.pass.pass self.old.put_start)
@@ -93,7 +93,7 @@ impl TokenHandle {
         ensures promise { PassKeepsPromise self.new.pass.pass }
     {
         let start = self.puts.next();
-        self.pass.put(queue, token, start, self.turns)
+        self.pass.put(queue, token, start, MAX_TURNS)
     }
 
     /// Takes one of the k oldest tokens out of the queue, as `TokenPass::take` does.
@@ -104,7 +104,7 @@ impl TokenHandle {
     pub fn take(&mut self, queue: &TokenQueue) -> Taken<Token<()>>
         requires of { IsPassOf queue.now self.old.pass.pass }
         ensures same { IsSamePass self.old.pass.pass self.new.pass.pass }
-        ensures takes { TakesToken self.old.take_start (enough_turns self.old.pass.pass) result self.old.pass
+        ensures takes { TakesToken self.old.take_start MAX_TURNS result self.old.pass
             self.new.pass }
         ensures busy { result ≡ Taken.Busy → IsDisturbed self.old.pass.pass self.new.pass.pass }
         ensures starts { (self.new.take_start ≡ further self.old.pass.pass self.old.take_start)
@@ -112,6 +112,6 @@ impl TokenHandle {
         ensures promise { PassKeepsPromise self.new.pass.pass }
     {
         let start = self.takes.next();
-        self.pass.take(queue, start, self.turns)
+        self.pass.take(queue, start, MAX_TURNS)
     }
 }

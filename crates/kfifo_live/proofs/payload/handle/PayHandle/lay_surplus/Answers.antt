@@ -7,7 +7,7 @@ pub returns-then-tokens-self-clause-lays : goal.returns-then-tokens-self-clause-
 returns-then-tokens-self-clause-lays g c =
     let first = c.self.view_is in
     let opened : c.self.inside.too_many ≡ c.args.self.now.pass.pass.opened.tokens + batch_size c.args.self.now.pass.pass.opened =
-    c.self.invariant.4 ∙ ap (λ n. c.self.inside.pass.pass.opened.tokens + n) c.self.invariant.3
+    c.self.invariant.3 ∙ ap (λ n. c.self.inside.pass.pass.opened.tokens + n) c.self.invariant.2
     ∙ ap (λ (h : PayHeld g.row.T.Denot). h.pass.pass.opened.tokens + batch_size h.pass.pass.opened) first in
     let size = c.tokens.ensures ∙ ap (λ (h : PayHeld g.row.T.Denot). length h.pass.tokens) first in
     let more = c.if-tokens-self.true in
@@ -20,7 +20,7 @@ pub returns-else-tokens-self-clause-lays : goal.returns-else-tokens-self-clause-
 returns-else-tokens-self-clause-lays g c =
     let first = c.self.view_is in
     let opened : c.self.inside.too_many ≡ c.args.self.now.pass.pass.opened.tokens + batch_size c.args.self.now.pass.pass.opened =
-    c.self.invariant.4 ∙ ap (λ n. c.self.inside.pass.pass.opened.tokens + n) c.self.invariant.3
+    c.self.invariant.3 ∙ ap (λ n. c.self.inside.pass.pass.opened.tokens + n) c.self.invariant.2
     ∙ ap (λ (h : PayHeld g.row.T.Denot). h.pass.pass.opened.tokens + batch_size h.pass.pass.opened) first in
     let size = c.tokens.ensures ∙ ap (λ (h : PayHeld g.row.T.Denot). length h.pass.tokens) first in
     let few = c.if-tokens-self.false in

@@ -1,6 +1,7 @@
 -- The pass takes, and parts with the token that it got.
 use Rattle.std.proofs.Common.{refl, ap, ◌∙◌}
-use Rattle.kfifo_live.specs.Handles.{PayHeld, enough_turns}
+use Rattle.kfifo_live.specs.Handles.{PayHeld}
+use Rattle.kfifo_live.specs.declared.handle.TheConstants.{MAX_TURNS}
 use Rattle.kfifo_live.proofs.Handled.{took}
 use Rattle.kfifo_live.proofs.payload.handle.PayHandle.receive.Goals as goal
 
@@ -9,9 +10,8 @@ returns-in-Got-clause-receives g c =
     let here = c.self.view_is in
     record {
       taken = c.take.new.self;
-      takes = took c.next-start.result c.self.inside.turns c.take.result _ c.args.self.now c.self.inside.pass c.take.new.self
-          (c.next-start.ensures.start ∙ ap (λ (h : PayHeld g.row.T.Denot). h.take_start) here)
-          (c.self.invariant.2 ∙ ap (λ (h : PayHeld g.row.T.Denot). enough_turns h.pass.pass) here) c.in-Got.is
+      takes = took c.next-start.result MAX_TURNS c.take.result _ c.args.self.now c.self.inside.pass c.take.new.self
+          (c.next-start.ensures.start ∙ ap (λ (h : PayHeld g.row.T.Denot). h.take_start) here) c.in-Got.is
           (ap (λ (h : PayHeld g.row.T.Denot). h.pass) here) c.take.ensures.takes;
       hands = c.keep.ensures.parts;
     }
@@ -21,9 +21,8 @@ returns-in-Empty-clause-receives g c =
     let here = c.self.view_is in
     record {
       taken = c.take.new.self;
-      takes = took c.next-start.result c.self.inside.turns c.take.result _ c.args.self.now c.self.inside.pass c.take.new.self
-          (c.next-start.ensures.start ∙ ap (λ (h : PayHeld g.row.T.Denot). h.take_start) here)
-          (c.self.invariant.2 ∙ ap (λ (h : PayHeld g.row.T.Denot). enough_turns h.pass.pass) here) c.in-Empty.is
+      takes = took c.next-start.result MAX_TURNS c.take.result _ c.args.self.now c.self.inside.pass c.take.new.self
+          (c.next-start.ensures.start ∙ ap (λ (h : PayHeld g.row.T.Denot). h.take_start) here) c.in-Empty.is
           (ap (λ (h : PayHeld g.row.T.Denot). h.pass) here) c.take.ensures.takes;
       hands = refl;
     }
@@ -33,9 +32,8 @@ returns-in-Busy-clause-receives g c =
     let here = c.self.view_is in
     record {
       taken = c.take.new.self;
-      takes = took c.next-start.result c.self.inside.turns c.take.result _ c.args.self.now c.self.inside.pass c.take.new.self
-          (c.next-start.ensures.start ∙ ap (λ (h : PayHeld g.row.T.Denot). h.take_start) here)
-          (c.self.invariant.2 ∙ ap (λ (h : PayHeld g.row.T.Denot). enough_turns h.pass.pass) here) c.in-Busy.is
+      takes = took c.next-start.result MAX_TURNS c.take.result _ c.args.self.now c.self.inside.pass c.take.new.self
+          (c.next-start.ensures.start ∙ ap (λ (h : PayHeld g.row.T.Denot). h.take_start) here) c.in-Busy.is
           (ap (λ (h : PayHeld g.row.T.Denot). h.pass) here) c.take.ensures.takes;
       hands = refl;
     }
@@ -45,9 +43,8 @@ returns-in-Worn-clause-receives g c =
     let here = c.self.view_is in
     record {
       taken = c.take.new.self;
-      takes = took c.next-start.result c.self.inside.turns c.take.result _ c.args.self.now c.self.inside.pass c.take.new.self
-          (c.next-start.ensures.start ∙ ap (λ (h : PayHeld g.row.T.Denot). h.take_start) here)
-          (c.self.invariant.2 ∙ ap (λ (h : PayHeld g.row.T.Denot). enough_turns h.pass.pass) here) c.in-Worn.is
+      takes = took c.next-start.result MAX_TURNS c.take.result _ c.args.self.now c.self.inside.pass c.take.new.self
+          (c.next-start.ensures.start ∙ ap (λ (h : PayHeld g.row.T.Denot). h.take_start) here) c.in-Worn.is
           (ap (λ (h : PayHeld g.row.T.Denot). h.pass) here) c.take.ensures.takes;
       hands = refl;
     }

@@ -1,12 +1,23 @@
 -- The call is that of the pass, with the start and the rounds of the handle.
-use Rattle.std.proofs.Common.{ℕ, subst}
-use Rattle.kfifo_live.specs.Handles.{enough_turns}
+use Rattle.std.proofs.Common.{ℕ, refl, subst}
+use Rattle.kfifo_live.specs.declared.handle.TheConstants.{MAX_TURNS}
+use Rattle.kfifo_live.specs.Calls.{IsDisturbed}
+use Rattle.kfifo_live.specs.declared.payload.Taken.{Taken}
+use Rattle.kfifo_live.specs.Payloads.{TokenView}
 use Rattle.kfifo_live.specs.Tokens.{TakesToken, TokenHeld}
+use Rattle.kfifo_live.proofs.Handled.{turns_enough}
 use Rattle.kfifo_live.proofs.tokens.handle.TokenHandle.take.Goals as goal
 
 pub returns-clause-takes : goal.returns-clause-takes
 returns-clause-takes c =
-    subst (λ (h : TokenHeld (Unit {0})). TakesToken h.take_start (enough_turns h.pass.pass) c.take.result h.pass c.take.new.self)
+    subst (λ (h : TokenHeld (Unit {0})). TakesToken h.take_start MAX_TURNS c.take.result h.pass c.take.new.self)
     c.self.view_is
-    (subst (λ (x : ℕ × ℕ). TakesToken x.0 x.1 c.take.result c.self.inside.pass c.take.new.self)
-    (λ i. (c.next-start.ensures.start i, c.self.invariant.2 i)) c.take.ensures.takes)
+    (subst (λ (start : ℕ). TakesToken start MAX_TURNS c.take.result c.self.inside.pass c.take.new.self)
+    c.next-start.ensures.start c.take.ensures.takes)
+
+pub returns-clause-busy : goal.returns-clause-busy
+returns-clause-busy c is =
+    let takes = subst (λ (x : Taken TokenView). TakesToken c.next-start.result MAX_TURNS x c.self.inside.pass c.take.new.self) is
+        c.take.ensures.takes in
+    subst (λ (h : TokenHeld (Unit {0})). IsDisturbed h.pass.pass c.take.new.self.pass) c.self.view_is
+    (takes.0.call.disturbed refl (turns_enough c.self.inside.pass.pass.opened.shape))
