@@ -17,7 +17,8 @@ use Rattle.kfifo_live.specs.Calls.{MakesCall, IsDisturbed}
 use Rattle.kfifo_live.specs.Promise.{KeepsPromise}
 use Rattle.kfifo_live.specs.Pass.{OpenQueue, PassView, IsPassOf, IsSamePass, Finds, IsZeroed, new_passes, IsComplete}
 use Rattle.kfifo_live.specs.Pass.{Closes}
-use Rattle.kfifo_live.specs.Handles.{enough_turns, further}
+use Rattle.kfifo_live.specs.Handles.{further}
+use Rattle.kfifo_live.specs.declared.handle.TheConstants.{MAX_TURNS}
 use Rattle.kfifo_c.specs.Seats.{Seated, seated}
 
 -- the number of an answer of a call, and of a call that was not made
@@ -82,14 +83,14 @@ pub record CalledFrom (begin : Begin) (answer : Answer) (old new : Seated) : Typ
 -- A put: an enqueue from the handle's start, in so many rounds that Busy is another thread's doing. The next put begins
 -- one slot further
 pub record Puts (item : ℕ) (answer : Answer) (old new : Seated) : Type 0 where
-  pub called : Called (Enqueue item old.put_start (enough_turns old.pass)) answer old new
+  pub called : Called (Enqueue item old.put_start MAX_TURNS) answer old new
   pub busy : answer ≡ Busy → IsDisturbed old.pass new.pass
   pub next_put : new.put_start ≡ further old.pass old.put_start
   pub same_get : new.get_start ≡ old.get_start
 
 -- and a get: a dequeue
 pub record Gets (answer : Answer) (old new : Seated) : Type 0 where
-  pub called : Called (Dequeue old.get_start (enough_turns old.pass)) answer old new
+  pub called : Called (Dequeue old.get_start MAX_TURNS) answer old new
   pub busy : answer ≡ Busy → IsDisturbed old.pass new.pass
   pub same_put : new.put_start ≡ old.put_start
   pub next_get : new.get_start ≡ further old.pass old.get_start
