@@ -30,7 +30,8 @@ LINE = re.compile(
 )
 WIDTH = 720
 REFUSALS = ("full", "busy", "worn")
-NAMES = ("tape", "staircases", "hold_first", "advance_first", "late_take", "undone", "held_again")
+NAMES = ("tape", "staircases", "hold_first", "advance_first", "late_take", "before_the_take", "after_the_take",
+         "undone", "held_again")
 
 
 @dataclasses.dataclass
@@ -54,6 +55,7 @@ class Call:
     """A call of a schedule. Its visit, its slot and its point are None as long as it has none."""
 
     op: str
+    thread: int
     item: int = 0
     answer: str = ""
     visit: int = None
@@ -102,7 +104,7 @@ class Schedule:
         """Takes a step into account, as the ledger of crates/kfifo_linear/specs/Ledger.antt does."""
         thread, now = step.thread, step.number
         if thread not in self.current:
-            self.current[thread] = Call(step.op)
+            self.current[thread] = Call(step.op, thread)
             self.calls.append(self.current[thread])
         call = self.current[thread]
         if step.place == "LoadEnds":
@@ -257,7 +259,7 @@ class Tape:
         self.ends(x, self.TOP + 36, visit == self.head, visit == self.tail)
 
     def spans(self):
-        """Draws what the visits behind the head, from head to tail, and beyond the tail are."""
+        """Draws which visits the head has left, which are from head to tail, and which are still to come."""
         self.drawing.text(self.LEFT, self.TOP + 8, "The tape", 14, "start", "bold")
         spans = [(0, self.head, "the head has left: all emptied"), (self.head, self.tail + 1, "from head to tail"),
                  (self.tail + 1, self.tail + 3, "still to come")]
@@ -272,15 +274,28 @@ class Tape:
 class Staircases:
     """Head and tail against time, with each item a row in the band of its visit."""
 
-    ROW, EDGE, LEFT, TOP = 34, 13, 92, 24
+    ROW, EDGE, LEFT, TOP, AXIS, LEGEND = 34, 13, 92, 24, 50, 56
 
-    def __init__(self, schedule, title):
-        self.of = schedule
+    def __init__(self, schedule, drawing, top, length):
+        self.of, self.drawing = schedule, drawing
         self.visits = len(schedule.tails) + 1
         self.band = schedule.k * self.ROW + 2 * self.EDGE
-        self.foot = self.TOP + self.visits * self.band
-        self.scale = (WIDTH - self.LEFT - 30) / len(schedule.steps)
-        self.drawing = Drawing(self.foot + 106, title)
+        self.foot = top + self.TOP + self.visits * self.band
+        self.scale = (WIDTH - self.LEFT - 30) / length
+
+    @classmethod
+    def stacked(cls, schedules, title, captions=("",)):
+        """Draws schedules with their captions, on one scale of time, and the legend."""
+        heights = [cls(it, None, 0, 1).foot + cls.AXIS for it in schedules]
+        drawing = Drawing(sum(heights) + cls.LEGEND, title)
+        length = max(len(it.steps) for it in schedules)
+        for number, (schedule, caption) in enumerate(zip(schedules, captions)):
+            top = sum(heights[:number])
+            if caption:
+                drawing.text(14, top + 16, caption, 13, "start", "bold")
+            cls(schedule, drawing, top, length).draw()
+        cls.legend(drawing, sum(heights) + 16)
+        return drawing.svg()
 
     def x(self, step):
         return round(self.LEFT + (step + 0.5) * self.scale, 1)
@@ -304,8 +319,6 @@ class Staircases:
             elif call.answer in REFUSALS:
                 self.refused(call)
         self.axis()
-        self.legend()
-        return self.drawing.svg()
 
     def stairs(self):
         """Draws the tail along the upper edges of the bands, and the head along the lower ones."""
@@ -330,15 +343,21 @@ class Staircases:
         drawing, slot = self.drawing, int(call.slot.split(".")[1])
         y = self.low(call.visit) - self.EDGE - slot * self.ROW - self.ROW / 2
         got = next((it for it in self.of.calls if it.source is call), None)
-        begin, end = self.x(call.point), self.x(got.point if got else len(self.of.steps))
+        begin, end = self.x(call.point), self.x(got.point) if got else min(self.x(len(self.of.steps)), WIDTH - 30)
         drawing.line((begin, y), (end, y), width=4, stroke="#999")
         self.moved(call.put, call.point, y, lambda x: drawing.add("circle", cx=x, cy=y, r=4, fill="white",
                                                                    stroke="black"))
         drawing.add("circle", cx=begin, cy=y, r=5)
+        self.by(call, call.put, y)
         if got:
+            self.by(got, call.take, y)
             self.moved(call.take, got.point, y, lambda x: drawing.box(x - 4, y - 4, 8, 8))
             drawing.box(end - 5, y - 5, 10, 10, fill="black")
         drawing.text((begin + end) / 2, y - 7, call.item, 13, weight="bold")
+
+    def by(self, call, step, y):
+        """Writes below a put or a take which thread made it."""
+        self.drawing.text(self.x(step), y + 16, f"T{call.thread}", 10, fill="#333")
 
     def moved(self, step, point, y, mark):
         """Draws a put or a take that is not at its call's point, with an arrow to that point."""
@@ -352,14 +371,14 @@ class Staircases:
     def empty(self, call):
         x, y = self.x(call.point), self.low(call.visit) - self.band / 2
         self.drawing.add("polygon", points=f"{x},{y - 7} {x + 7},{y} {x},{y + 7} {x - 7},{y}", fill="black")
-        self.drawing.text(x - 11, y + 4, "Empty", 12, "end")
+        self.drawing.text(x - 11, y + 4, f"T{call.thread} Empty", 12, "end")
 
     def refused(self, call):
         """Draws a refused call as a cross below the bands."""
         x, y = self.x(call.point), self.foot + 11
         self.drawing.line((x - 4, y - 4), (x + 4, y + 4), width=1.5)
         self.drawing.line((x - 4, y + 4), (x + 4, y - 4), width=1.5)
-        self.drawing.text(x + 9, y + 4, call.answer.capitalize(), 12, "start")
+        self.drawing.text(x + 9, y + 4, f"T{call.thread} {call.answer.capitalize()}", 12, "start")
 
     def axis(self):
         y = self.foot + 22
@@ -369,8 +388,8 @@ class Staircases:
             self.drawing.text(self.x(step), y + 18, step, 12)
         self.drawing.text(self.LEFT - 8, y + 18, "event", 12, "end")
 
-    def legend(self):
-        y, drawing = self.foot + 66, self.drawing
+    @staticmethod
+    def legend(drawing, y):
         drawing.add("circle", cx=20, cy=y - 4, r=5)
         drawing.text(31, y, "point of an enqueue", 12, "start")
         drawing.box(161, y - 9, 10, 10, fill="black")
@@ -385,6 +404,7 @@ class Staircases:
         drawing.text(56, y + 24, "tail", 12, "start")
         drawing.line((100, y + 20), (136, y + 20), width=2.5)
         drawing.text(142, y + 24, "head", 12, "start")
+        drawing.text(190, y + 24, "T0: thread 0", 12, "start")
 
 
 class Race:
@@ -468,12 +488,18 @@ def pictures(rows):
     captions = ("Hold once: the tail moves, so the hold is lost, and 5 is taken back. All begins again.",
                 "Hold again: the enqueue looks once more, and holds the head, which has not moved.")
     again = Race([made["undone"], made["held_again"]], captions, 8, "A hold that is lost to a move of the tail")
+    late = Staircases.stacked([made["late_take"]], "An item taken after the head has left its visit")
+    captions = ("Before the take: the enqueue of 5 has returned. 5 is of visit 2, and the point is event 45.",
+                "After the take: 5 is of visit 0, and the point of its enqueue is event 14.")
+    moved = Staircases.stacked([made["before_the_take"], made["after_the_take"]],
+                               "The point of a finished enqueue moves", captions)
     return {
         "tape.svg": Tape(made["tape"], "The ring, unrolled into a tape of visits").draw(),
-        "staircases.svg": Staircases(made["staircases"], "Head and tail against time, and the items").draw(),
+        "staircases.svg": Staircases.stacked([made["staircases"]], "Head and tail against time, and the items"),
         "hold.svg": race.draw(),
         "hold_again.svg": again.draw(),
-        "late_take.svg": Staircases(made["late_take"], "An item taken after the head has left its visit").draw(),
+        "late_take.svg": late,
+        "moved_point.svg": moved,
     }
 
 
