@@ -276,26 +276,36 @@ def grid(head, columns, rows):
     return "\n".join(lines) + "\n"
 
 
-def page(all_rates):
-    """The tables of docs/PERFORMANCE.md and docs/bench/costs.md, of the workloads that were measured."""
-
-    def part(head, queues, titles):
-        columns = {(name, k): f"k = {k}" if k else NAMES[name] for name, k in queues}
-        measured = {it: ratios(all_rates[title]) for it, title in titles.items() if title in all_rates}
-        return grid(head, columns, measured)
+def page_parts():
+    """The tables of docs/PERFORMANCE.md: the head, the queues, and the title of each row's workload."""
 
     def calls(kind, capacity):
         names = [(name, work) for work in WORK for name, *_ in CALLS]
         return {name + ", with work" * bool(work): f"{kind}{name}, {capacity}{between(work)}" for name, work in names}
 
-    numbers = [*(("kfifo", k) for k in (4, 16, 64)), ("vyukov", 0), ("mutex", 0), ("moodycamel", 0)]
-    values = [*(("kfifo-16", k) for k in (4, 16, 64)), ("vyukov-16", 0), ("mutex-16", 0), ("moodycamel-16", 0)]
+    ours = (4, 16, 64)
+    numbers = [*(("kfifo", k) for k in ours), ("vyukov", 0), ("mutex", 0), ("moodycamel", 0)]
+    values = [*(("kfifo-16", k) for k in ours), ("vyukov-16", 0), ("mutex-16", 0), ("moodycamel-16", 0)]
     trees = {n: f"spanning tree by {n} threads, capacity {TREE_CAPACITY:,}" for n in TREES}
-    tables = [
-        part("Workload", numbers, calls("", f"capacity {CAPACITIES[0]:,}")),
-        part("Values of 16 bytes", values, calls("values of 16 bytes, ", f"capacity {VALUES_CAPACITY:,}")),
-        part("Threads", [("kfifo", 16), ("kfifo", 64), ("tbb", 0), ("vyukov", 0), ("mutex", 0)], trees),
+    return [
+        ("Workload", numbers, calls("", f"capacity {CAPACITIES[0]:,}")),
+        ("Values of 16 bytes", values, calls("values of 16 bytes, ", f"capacity {VALUES_CAPACITY:,}")),
+        ("Threads", [("kfifo", 16), ("kfifo", 64), ("tbb", 0), ("vyukov", 0), ("mutex", 0)], trees),
     ]
+
+
+def column(queue):
+    """The head of a queue's column on the page."""
+    name, k = queue
+    return f"k = {k}" if k else NAMES[name]
+
+
+def page(all_rates):
+    """The tables of docs/PERFORMANCE.md, of the workloads that were measured."""
+    tables = []
+    for head, queues, titles in page_parts():
+        rows = {it: ratios(all_rates[title]) for it, title in titles.items() if title in all_rates}
+        tables.append(grid(head, {it: column(it) for it in queues}, rows))
     return "\n".join(tables)
 
 
