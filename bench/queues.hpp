@@ -48,6 +48,7 @@ namespace bench {
 // A value of so many 64-bit words. Each is the item, and a pop checks that they came out together.
 template <std::size_t count> struct Value {
     std::array<std::uint64_t, count> words;
+    Value() : Value(0) {}
     explicit Value(std::uint64_t item) { words.fill(item); }
     std::uint32_t item() const {
         for (std::uint64_t word : words)
@@ -109,25 +110,44 @@ struct Array {
     std::uint32_t pop(std::size_t) { return array_queue_pop(queue); }
 };
 
-struct Boost {
+inline std::uint32_t item_of(std::uint32_t item) { return item; }
+template <std::size_t count> std::uint32_t item_of(const Value<count> &value) { return value.item(); }
+
+// Boost's queue of items or of values, with all its nodes from the beginning.
+template <typename T> struct Boost {
     using Attached = NothingAttached;
-    boost::lockfree::queue<std::uint32_t, boost::lockfree::fixed_sized<true>> queue;
+    boost::lockfree::queue<T, boost::lockfree::fixed_sized<true>> queue;
     explicit Boost(std::size_t capacity) : queue(capacity) {}
-    bool push(std::size_t, std::uint32_t item) { return queue.bounded_push(item); }
+    bool push(std::size_t, std::uint32_t item) { return queue.bounded_push(T(item)); }
     std::uint32_t pop(std::size_t) {
-        std::uint32_t item = 0;
-        return queue.pop(item) ? item : 0;
+        T value{};
+        return queue.pop(value) ? item_of(value) : 0;
     }
 };
 
-struct Tbb {
+// TBB's bounded queue.
+template <typename T> struct Tbb {
     using Attached = NothingAttached;
-    tbb::concurrent_bounded_queue<std::uint32_t> queue;
+    tbb::concurrent_bounded_queue<T> queue;
     explicit Tbb(std::size_t capacity) { queue.set_capacity(std::ptrdiff_t(capacity)); }
-    bool push(std::size_t, std::uint32_t item) { return queue.try_push(item); }
+    bool push(std::size_t, std::uint32_t item) { return queue.try_push(T(item)); }
     std::uint32_t pop(std::size_t) {
-        std::uint32_t item = 0;
-        return queue.try_pop(item) ? item : 0;
+        T value{};
+        return queue.try_pop(value) ? item_of(value) : 0;
+    }
+};
+
+// TBB's queue that has no capacity.
+template <typename T> struct TbbUnbounded {
+    using Attached = NothingAttached;
+    tbb::concurrent_queue<T> queue;
+    bool push(std::size_t, std::uint32_t item) {
+        queue.push(T(item));
+        return true;
+    }
+    std::uint32_t pop(std::size_t) {
+        T value{};
+        return queue.try_pop(value) ? item_of(value) : 0;
     }
 };
 
@@ -142,9 +162,6 @@ struct Ck {
     bool push(std::size_t, std::uint32_t item) { return ck_queue_push(queue, item); }
     std::uint32_t pop(std::size_t) { return ck_queue_pop(queue); }
 };
-
-inline std::uint32_t item_of(std::uint32_t item) { return item; }
-template <std::size_t count> std::uint32_t item_of(const Value<count> &value) { return value.item(); }
 
 // A mutex around a deque, of items or of values.
 template <typename T> struct Mutex {
@@ -211,25 +228,40 @@ struct CdsSegmented {
 };
 
 // libcds's ring of Vyukov.
-struct CdsVyukov {
+template <typename T> struct CdsVyukov {
     using Attached = NothingAttached;
-    cds::container::VyukovMPMCCycleQueue<std::uint32_t> queue;
+    cds::container::VyukovMPMCCycleQueue<T> queue;
     explicit CdsVyukov(std::size_t capacity) : queue(capacity) {}
-    bool push(std::size_t, std::uint32_t item) { return queue.enqueue(item); }
+    bool push(std::size_t, std::uint32_t item) { return queue.enqueue(T(item)); }
     std::uint32_t pop(std::size_t) {
-        std::uint32_t item = 0;
-        return queue.dequeue(item) ? item : 0;
+        T value{};
+        return queue.dequeue(value) ? item_of(value) : 0;
     }
 };
 
 // moodycamel's ConcurrentQueue: a queue for each producer, which consumers visit in turn. It has no capacity.
-struct Moodycamel {
+template <typename T> struct Moodycamel {
     using Attached = NothingAttached;
-    moodycamel::ConcurrentQueue<std::uint32_t> queue;
-    bool push(std::size_t, std::uint32_t item) { return queue.enqueue(item); }
+    moodycamel::ConcurrentQueue<T> queue;
+    bool push(std::size_t, std::uint32_t item) { return queue.enqueue(T(item)); }
     std::uint32_t pop(std::size_t) {
-        std::uint32_t item = 0;
-        return queue.try_dequeue(item) ? item : 0;
+        T value{};
+        return queue.try_dequeue(value) ? item_of(value) : 0;
+    }
+};
+
+// The same queue, by calls with a token of the thread for each side.
+template <typename T> struct MoodycamelWithTokens : Moodycamel<T> {
+    std::vector<moodycamel::ProducerToken> producers;
+    std::vector<moodycamel::ConsumerToken> consumers;
+    explicit MoodycamelWithTokens(std::size_t threads) {
+        for (std::size_t i = 0; i < threads; i++)
+            producers.emplace_back(this->queue), consumers.emplace_back(this->queue);
+    }
+    bool push(std::size_t thread, std::uint32_t item) { return this->queue.enqueue(producers[thread], T(item)); }
+    std::uint32_t pop(std::size_t thread) {
+        T value{};
+        return this->queue.try_dequeue(consumers[thread], value) ? item_of(value) : 0;
     }
 };
 
@@ -314,18 +346,30 @@ using Array8 = ArrayValues<1, array_8_new, array_8_push, array_8_pop, array_8_fr
 using Array16 = ArrayValues<2, array_16_new, array_16_push, array_16_pop, array_16_free>;
 using Array64 = ArrayValues<8, array_64_new, array_64_push, array_64_pop, array_64_free>;
 
+// Calls use(queue) with the queue of others of this name, of items or of values of type T, and returns what it returns;
+// 2 where there is no such queue.
+template <typename T, typename Use>
+int with_rival(const std::string &name, std::size_t capacity, std::size_t threads, Use use) {
+    auto with = [&](auto queue) { return use(*queue); };
+    if (name == "boost") return with(std::make_unique<Boost<T>>(capacity));
+    if (name == "tbb") return with(std::make_unique<Tbb<T>>(capacity));
+    if (name == "tbb-unbounded") return with(std::make_unique<TbbUnbounded<T>>());
+    if (name == "mutex") return with(std::make_unique<Mutex<T>>(capacity));
+    if (name == "vyukov") return with(std::make_unique<CdsVyukov<T>>(capacity));
+    if (name == "moodycamel") return with(std::make_unique<Moodycamel<T>>());
+    if (name == "moodycamel-tokens") return with(std::make_unique<MoodycamelWithTokens<T>>(threads));
+    return 2;
+}
+
 // Calls use(queue) with the queue of this name, and returns what it returns; 2 where there is no such queue. k is that
-// of kfifo, and the quasi factor of segmented.
+// of kfifo, and the quasi factor of segmented. A queue of values has their size in bytes behind its name.
 template <typename Use>
 int with_queue(const std::string &name, std::uint32_t k, std::size_t capacity, std::size_t threads, Use use) {
     auto with = [&](auto queue) { return use(*queue); };
     if (name == "kfifo") return with(std::make_unique<Kfifo>(k, capacity, threads));
     if (name == "kfifo-at-random") return with(std::make_unique<KfifoAtRandom>(k, capacity, threads));
     if (name == "array") return with(std::make_unique<Array>(capacity));
-    if (name == "boost") return with(std::make_unique<Boost>(capacity));
-    if (name == "tbb") return with(std::make_unique<Tbb>(capacity));
     if (name == "ck") return with(std::make_unique<Ck>(capacity));
-    if (name == "mutex") return with(std::make_unique<Mutex<std::uint32_t>>(capacity));
     if (name == "kfifo-8") return with(std::make_unique<KfifoValues<1>>(k, capacity, threads));
     if (name == "kfifo-16") return with(std::make_unique<KfifoValues<2>>(k, capacity, threads));
     if (name == "kfifo-64") return with(std::make_unique<KfifoValues<8>>(k, capacity, threads));
@@ -338,14 +382,14 @@ int with_queue(const std::string &name, std::uint32_t k, std::size_t capacity, s
     if (name == "array-8") return with(std::make_unique<Array8>(capacity));
     if (name == "array-16") return with(std::make_unique<Array16>(capacity));
     if (name == "array-64") return with(std::make_unique<Array64>(capacity));
-    if (name == "mutex-8") return with(std::make_unique<Mutex<Value<1>>>(capacity));
-    if (name == "mutex-16") return with(std::make_unique<Mutex<Value<2>>>(capacity));
-    if (name == "mutex-64") return with(std::make_unique<Mutex<Value<8>>>(capacity));
     if (name == "ms") return with(std::make_unique<CdsMs>());
     if (name == "segmented") return with(std::make_unique<CdsSegmented>(k));
-    if (name == "vyukov") return with(std::make_unique<CdsVyukov>(capacity));
-    if (name == "moodycamel") return with(std::make_unique<Moodycamel>());
-    return 2;
+    auto size = name.find_last_of('-');
+    std::string plain = name.substr(0, size), bytes = size == name.npos ? "" : name.substr(size + 1);
+    if (bytes == "8") return with_rival<Value<1>>(plain, capacity, threads, use);
+    if (bytes == "16") return with_rival<Value<2>>(plain, capacity, threads, use);
+    if (bytes == "64") return with_rival<Value<8>>(plain, capacity, threads, use);
+    return with_rival<std::uint32_t>(name, capacity, threads, use);
 }
 
 } // namespace bench

@@ -4,6 +4,7 @@
 // lasts. It prints the calls that put or took an item, a second; status 1 where an item is missing or double. With no
 // thread that calls, one thread works without calls, and it prints how often it did so, a second.
 #include "queues.hpp"
+#include "work.hpp"
 
 #include <algorithm>
 #include <atomic>
@@ -11,8 +12,6 @@
 #include <cstdio>
 #include <cstdlib>
 #include <thread>
-
-extern "C" void bench_work(std::uint64_t steps);
 
 namespace {
 
@@ -38,31 +37,9 @@ struct alignas(128) Tally {
     }
 };
 
-// Works for about so many nanoseconds, by steps that were timed before. The fastest of some trials counts, since the
-// thread may lose its processor in another.
-struct Work {
-    std::uint64_t steps = 0;
-
-    explicit Work(std::uint64_t nanoseconds) {
-        if (nanoseconds == 0) return;
-        constexpr std::uint64_t tried = 4000000;
-        std::chrono::duration<double, std::nano> fastest = std::chrono::hours(1);
-        for (int trial = 0; trial < 5; trial++) {
-            auto began = std::chrono::steady_clock::now();
-            bench_work(tried);
-            fastest = std::min<decltype(fastest)>(fastest, std::chrono::steady_clock::now() - began);
-        }
-        steps = std::uint64_t(double(tried) / fastest.count() * double(nanoseconds)) + 1;
-    }
-    // Without work there is no call either.
-    void operator()() const {
-        if (steps != 0) bench_work(steps);
-    }
-};
-
 struct Plan {
     std::size_t producers, consumers, both;
-    Work work;
+    bench::Work work;
     int milliseconds;
     std::size_t callers() const { return producers + consumers + both; }
     std::size_t threads() const { return std::max<std::size_t>(callers(), 1); }
@@ -133,7 +110,7 @@ int main(int count, char **words) {
     std::string which = words[1];
     auto number = [&](int place) { return std::size_t(std::strtoull(words[place], nullptr, 10)); };
     std::size_t capacity = number(3);
-    Plan plan{number(4), number(5), number(6), Work(number(7)), int(number(8))};
+    Plan plan{number(4), number(5), number(6), bench::Work(number(7)), int(number(8))};
     return bench::with_queue(which, std::uint32_t(number(2)), capacity, plan.threads(),
                              [&](auto &queue) { return run(queue, plan, capacity); });
 }

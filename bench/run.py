@@ -7,8 +7,9 @@ what went in came out. The table begins with overviews, a row for each workload.
 threads that share one queue of vertices find a spanning tree of a random graph. Then come queues of values of 8, 16 and
 64 bytes, and this repository's queues with calls that look for threads that wait, beside the plain ones. Where a row
 has work between calls, the work is the same function for each queue; the rows of one thread that only works show that
-it takes as long in the loop of each. Last comes a table of its own, of how long a hand-over to a thread that sleeps
-takes. page.md has the tables of docs/PERFORMANCE.md and docs/bench/costs.md.
+it takes as long in the loop of each. A column says what order a queue keeps; one with no order across producers has a
+mark. Last come tables of their own: of calls that wait, and of how long a hand-over to a thread that sleeps takes.
+page.md has the tables of docs/PERFORMANCE.md and docs/bench/costs.md.
 
     bench/run.py [--rounds N] [--milliseconds M] [--only WORD] [--out FOLDER] [--library FILE]
     bench/run.py --build [--library FILE]       only builds the programs
@@ -29,7 +30,7 @@ import textwrap
 
 HERE = os.path.dirname(os.path.abspath(__file__))
 OUT = f"{HERE}/out"
-PROGRAMS = ["rates", "spanning_tree", "waking"]
+PROGRAMS = ["rates", "spanning_tree", "waiting", "waking"]
 # name, producers, consumers, threads that do both in turn
 CALLS = [
     ("one thread", 0, 0, 1),
@@ -52,6 +53,7 @@ VERTICES, EDGES = 400_000, 1_600_000
 TREE_CAPACITY = 16384
 PEERS = [("array", 0), ("boost", 0), ("tbb", 0), ("ck", 0), ("mutex", 0), ("vyukov", 0)]
 PEERS += [("segmented", 16), ("segmented", 64)]
+PEERS += [("tbb-unbounded", 0), ("moodycamel", 0), ("moodycamel-tokens", 0)]
 NAMES = {
     "array": "ArrayQueue",
     "boost": "Boost lockfree",
@@ -60,6 +62,9 @@ NAMES = {
     "mutex": "mutex and deque",
     "vyukov": "libcds Vyukov ring",
     "segmented": "libcds SegmentedQueue",
+    "tbb-unbounded": "TBB unbounded",
+    "moodycamel": "moodycamel †",
+    "moodycamel-tokens": "moodycamel with tokens †",
     "kfifo": "kfifo",
     "kfifo-at-random": "kfifo, random starts",
     "kfifo-in-c": "plain calls",
@@ -67,12 +72,28 @@ NAMES = {
     "kfifo-values-in-c": "plain calls of values",
     "kfifo-values-in-c-looking": "calls of values that look",
 }
-# The sizes of values, in bytes.
+# The order that a queue keeps, where it is not FIFO, and what the mark beside a name says.
+ORDERS = {"segmented": "k-relaxed", "moodycamel": "each producer's alone", "moodycamel-tokens": "each producer's alone"}
+ORDERS |= {name: "one of the k oldest" for name in NAMES if name.startswith("kfifo")}
+MARK = "† Keeps the order of each producer alone. Queues that are not bounded never refuse a put.\n"
+# The sizes of values, in bytes, and the queues of others that are measured with them.
 SIZES = [8, 16, 64]
-NAMES |= {f"{name}-{size}": NAMES[name] for name in ("array", "mutex", "kfifo") for size in SIZES}
+OF_VALUES = ["array", "mutex", "boost", "tbb", "vyukov", "tbb-unbounded", "moodycamel", "moodycamel-tokens"]
+NAMES |= {f"{name}-{size}": NAMES[name] for name in [*OF_VALUES, "kfifo"] for size in SIZES}
+ORDERS |= {f"{name}-{size}": order for name, order in ORDERS.items() for size in SIZES}
 OURS = [("kfifo", 1), ("kfifo", 4), ("kfifo", 16), ("kfifo", 64), ("kfifo-at-random", 16), ("kfifo-at-random", 64)]
 # Calls that look for threads that wait, each behind the plain ones that it is compared with.
 LOOKING = [[(name, 16), (f"{name}-looking", 16)] for name in ("kfifo-in-c", "kfifo-values-in-c")]
+# Calls that wait: the producers, the consumers, and the nanoseconds of work between the calls of either.
+WAITING_TITLE = "calls that wait"
+WAITING = [
+    (1, 1, [(0, 0), (100, 100)]),
+    (2, 2, [(0, 0), (200, 200)]),
+    (1, 3, [(0, 0), (100, 300), (1000, 3000)]),
+    (3, 1, [(0, 0), (300, 100)]),
+]
+WAITERS = {("channel", 0): "crossbeam-channel", ("tbb", 0): "TBB bounded", ("mutex", 0): "mutex and deque"}
+WAITERS |= {("kfifo", k): f"kfifo, k = {k}" for k in (16, 64)}
 # Hand-overs to a thread that sleeps: how many in a round, and the microseconds between two.
 WAKING_TITLE = "waking a thread that sleeps"
 HAND_OVERS, REST = 2000, 100
@@ -137,7 +158,7 @@ def workloads(milliseconds):
         made.append(Workload(title, queues(TREE_CAPACITY), TREE_CAPACITY, "spanning_tree", [threads, VERTICES, EDGES]))
     for size in SIZES:
         # ArrayQueue comes first here too.
-        compared = [(f"array-{size}", 0), (f"mutex-{size}", 0), *((f"kfifo-{size}", k) for k in (4, 16, 64))]
+        compared = [*((f"{name}-{size}", 0) for name in OF_VALUES), *((f"kfifo-{size}", k) for k in (4, 16, 64))]
         for title, words in loads(VALUES_CAPACITY):
             title = f"values of {size} bytes, {title}"
             made.append(Workload(title, compared, VALUES_CAPACITY, "rates", [*words, milliseconds]))
@@ -194,11 +215,16 @@ def rate(queue, workload):
 def measure(workload, rounds):
     """The rates of each queue, one for each round."""
     rates = {it: [] for it in workload.queues}
-    for turn in range(rounds):
-        first = turn % len(workload.queues)
-        for queue in workload.queues[first:] + workload.queues[:first]:
-            rates[queue].append(rate(queue, workload))
+    for queue in in_turn(workload.queues, rounds):
+        rates[queue].append(rate(queue, workload))
     return rates
+
+
+def in_turn(queues, rounds):
+    """All queues in each round, which begins with another one than the round before."""
+    for turn in range(rounds):
+        first = turn % len(queues)
+        yield from queues[first:] + queues[:first]
 
 
 def quartiles(values):
@@ -217,12 +243,14 @@ def ratios(rates):
 
 def table(title, rates):
     unit = "vertices" if title.startswith("spanning") else "times" if ONLY_WORK in title else "calls"
-    head = f"| Queue | Million {unit} a second | Ratio to {label(next(iter(rates)))} | Quartiles |"
-    lines = [f"### {title}", "", head, "|---|---|---|---|"]
+    one = {"vertices": "vertex", "times": "time", "calls": "call"}[unit]
+    head = f"| Queue | Order | Million {unit} a second | ns a {one} | Ratio to {label(next(iter(rates)))} | Quartiles |"
+    lines = [f"### {title}", "", head, "|---|---|---|---|---|---|"]
     for queue, its_ratios in ratios(rates).items():
         first, middle, third = quartiles(its_ratios)
-        speed = statistics.median(rates[queue]) / 1e6
-        lines.append(f"| {label(queue)} | {speed:.2f} | {middle:.2f} | {first:.2f} to {third:.2f} |")
+        speed = statistics.median(rates[queue])
+        figures = f"{speed / 1e6:.2f} | {1e9 / speed:.1f} | {middle:.2f} | {first:.2f} to {third:.2f}"
+        lines.append(f"| {label(queue)} | {ORDERS.get(queue[0], 'FIFO')} | {figures} |")
     return "\n".join(lines) + "\n"
 
 
@@ -248,27 +276,80 @@ def grid(head, columns, rows):
     return "\n".join(lines) + "\n"
 
 
-def page(all_rates):
-    """The tables of docs/PERFORMANCE.md and docs/bench/costs.md, of the workloads that were measured."""
-
-    def part(head, queues, titles):
-        columns = {(name, k): f"k = {k}" if k else NAMES[name] for name, k in queues}
-        measured = {it: ratios(all_rates[title]) for it, title in titles.items() if title in all_rates}
-        return grid(head, columns, measured)
+def page_parts():
+    """The tables of docs/PERFORMANCE.md: the head, the queues, and the title of each row's workload."""
 
     def calls(kind, capacity):
         names = [(name, work) for work in WORK for name, *_ in CALLS]
         return {name + ", with work" * bool(work): f"{kind}{name}, {capacity}{between(work)}" for name, work in names}
 
-    numbers = [*(("kfifo", k) for k in (4, 16, 64)), ("vyukov", 0), ("mutex", 0)]
-    values = [*(("kfifo-16", k) for k in (4, 16, 64)), ("mutex-16", 0)]
+    ours = (4, 16, 64)
+    numbers = [*(("kfifo", k) for k in ours), ("vyukov", 0), ("mutex", 0), ("moodycamel", 0)]
+    values = [*(("kfifo-16", k) for k in ours), ("vyukov-16", 0), ("mutex-16", 0), ("moodycamel-16", 0)]
     trees = {n: f"spanning tree by {n} threads, capacity {TREE_CAPACITY:,}" for n in TREES}
-    tables = [
-        part("Workload", numbers, calls("", f"capacity {CAPACITIES[0]:,}")),
-        part("Values of 16 bytes", values, calls("values of 16 bytes, ", f"capacity {VALUES_CAPACITY:,}")),
-        part("Threads", [("kfifo", 16), ("kfifo", 64), ("tbb", 0), ("vyukov", 0), ("mutex", 0)], trees),
+    return [
+        ("Workload", numbers, calls("", f"capacity {CAPACITIES[0]:,}")),
+        ("Values of 16 bytes", values, calls("values of 16 bytes, ", f"capacity {VALUES_CAPACITY:,}")),
+        ("Threads", [("kfifo", 16), ("kfifo", 64), ("tbb", 0), ("vyukov", 0), ("mutex", 0)], trees),
     ]
+
+
+def column(queue):
+    """The head of a queue's column on the page."""
+    name, k = queue
+    return f"k = {k}" if k else NAMES[name]
+
+
+def page(all_rates):
+    """The tables of docs/PERFORMANCE.md, of the workloads that were measured."""
+    tables = []
+    for head, queues, titles in page_parts():
+        rows = {it: ratios(all_rates[title]) for it, title in titles.items() if title in all_rates}
+        tables.append(grid(head, {it: column(it) for it in queues}, rows))
     return "\n".join(tables)
+
+
+def waiting(rounds, milliseconds):
+    """The tables of calls that wait: an overview of the rates, and a table for each workload."""
+    rows = {}
+    for producers, consumers, works in WAITING:
+        for work in works:
+            title = f"{producers} + {consumers}, " + ("work of {} and {} ns".format(*work) if any(work) else "no work")
+            words = [VALUES_CAPACITY, producers, consumers, *work, milliseconds]
+            rows[title] = {it: [] for it in WAITERS}
+            for queue in in_turn(list(WAITERS), rounds):
+                rows[title][queue].append(waited(queue, words))
+            print(waiting_table(title, rows[title]), flush=True)
+    return [waiting_overview(rows), *(waiting_table(title, runs) for title, runs in rows.items())]
+
+
+def waited(queue, words):
+    """The values a second and the processor time of a value, of one run by calls that wait."""
+    ran = subprocess.run([str(it) for it in [f"{OUT}/waiting", *queue, *words]], capture_output=True, text=True)
+    if ran.returncode:
+        sys.exit(f"{WAITERS[queue]}, {words}: {ran.stdout or ran.stderr}")
+    return [float(it) for it in ran.stdout.split()]
+
+
+def waiting_table(title, runs):
+    """The values a second, the processor time of a value, and the ratios to the channel of one workload."""
+    head = "| Queue | Million values a second | Processor, ns a value | Ratio to crossbeam-channel | Quartiles |"
+    lines = [f"### {WAITING_TITLE}: {title}", "", head, "|---|---|---|---|---|"]
+    for queue, its_ratios in ratios({it: [rate for rate, _ in run] for it, run in runs.items()}).items():
+        first, middle, third = quartiles(its_ratios)
+        speed = statistics.median(rate for rate, _ in runs[queue]) / 1e6
+        cost = statistics.median(cost for _, cost in runs[queue])
+        lines.append(f"| {WAITERS[queue]} | {speed:.2f} | {cost:.0f} | {middle:.2f} | {first:.2f} to {third:.2f} |")
+    return "\n".join(lines) + "\n"
+
+
+def waiting_overview(rows):
+    """The table of docs/PERFORMANCE.md: million values a second, and the processor time of a value in nanoseconds."""
+    lines = ["| Calls that wait | " + " | ".join(WAITERS.values()) + " |", "|---" * (len(WAITERS) + 1) + "|"]
+    for title, runs in rows.items():
+        medians = [[statistics.median(column) for column in zip(*run)] for run in runs.values()]
+        lines.append(f"| {title} | " + " | ".join(f"{rate / 1e6:.1f} ({cost:.0f})" for rate, cost in medians) + " |")
+    return "\n".join(lines) + "\n"
 
 
 def waking(rounds):
@@ -366,11 +447,13 @@ def main():
     print(about)
     all_rates = measure_all(words)
     print(overview(all_rates))
-    tables = [table(title, rates) for title, rates in all_rates.items()]
+    tables = [MARK, *(table(title, rates) for title, rates in all_rates.items())]
+    waited = waiting(words.rounds, words.milliseconds) if words.only in WAITING_TITLE else []
+    tables += waited
     if words.only in WAKING_TITLE:
         tables.append(waking(words.rounds))
         print(tables[-1])
-    for name, parts in [("table", [about, overview(all_rates), *tables]), ("page", [page(all_rates)])]:
+    for name, parts in [("table", [about, overview(all_rates), *tables]), ("page", [page(all_rates), *waited[:1]])]:
         with open(f"{words.out}/{name}.md", "w") as written:
             written.write("\n".join(parts))
     for picture in PICTURES:

@@ -16,8 +16,8 @@
 
 extern "C" {
 void *channel_new(std::size_t);
-bool channel_send(const void *, std::uint64_t);
-std::uint64_t channel_receive(const void *);
+bool channel_send(const void *, const std::uint64_t *);
+bool channel_receive(const void *, std::uint64_t *);
 void channel_free(void *);
 }
 
@@ -43,8 +43,15 @@ struct Kfifo {
 struct Channel {
     void *channel = channel_new(capacity);
     ~Channel() { channel_free(channel); }
-    void give(std::uint64_t value) { channel_send(channel, value); }
-    std::uint64_t take() { return channel_receive(channel); }
+    void give(std::uint64_t time) {
+        const std::uint64_t value[2] = {time, time};
+        channel_send(channel, value);
+    }
+    std::uint64_t take() {
+        std::uint64_t value[2] = {0, 0};
+        channel_receive(channel, value);
+        return value[0];
+    }
 };
 
 // A mutex and a condition variable around a deque.

@@ -68,8 +68,8 @@ array_of_values!(1, array_8_new, array_8_push, array_8_pop, array_8_free);
 array_of_values!(2, array_16_new, array_16_push, array_16_pop, array_16_free);
 array_of_values!(8, array_64_new, array_64_push, array_64_pop, array_64_free);
 
-/// Both ends of a bounded channel of crossbeam's.
-pub struct Channel(crossbeam_channel::Sender<u64>, crossbeam_channel::Receiver<u64>);
+/// Both ends of a bounded channel of crossbeam's, of values of two 64-bit words.
+pub struct Channel(crossbeam_channel::Sender<[u64; 2]>, crossbeam_channel::Receiver<[u64; 2]>);
 
 #[no_mangle]
 pub extern "C" fn channel_new(capacity: usize) -> *mut Channel {
@@ -78,17 +78,23 @@ pub extern "C" fn channel_new(capacity: usize) -> *mut Channel {
 }
 
 /// # Safety
-/// The channel is one of `channel_new` that was not freed.
+/// The channel is one of `channel_new` that was not freed, and there is a value to read.
 #[no_mangle]
-pub unsafe extern "C" fn channel_send(channel: *const Channel, value: u64) -> bool {
-    (*channel).0.send(value).is_ok()
+pub unsafe extern "C" fn channel_send(channel: *const Channel, value: *const [u64; 2]) -> bool {
+    (*channel).0.send(*value).is_ok()
 }
 
 /// # Safety
-/// As of `channel_send`. Values are not 0, which says that there is none.
+/// As of `channel_send`, and there is room for a value. It is written where one came.
 #[no_mangle]
-pub unsafe extern "C" fn channel_receive(channel: *const Channel) -> u64 {
-    (*channel).1.recv().unwrap_or(0)
+pub unsafe extern "C" fn channel_receive(channel: *const Channel, value: *mut [u64; 2]) -> bool {
+    match (*channel).1.recv() {
+        Ok(received) => {
+            *value = received;
+            true
+        }
+        Err(_) => false,
+    }
 }
 
 /// # Safety
