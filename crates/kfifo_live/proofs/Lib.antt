@@ -27,6 +27,7 @@ pub mod CallScans
 pub mod Made
 pub mod Pays
 pub mod Pools
+pub mod TokenCalls
 pub mod Minting
 pub mod Spreads
 pub mod Handled

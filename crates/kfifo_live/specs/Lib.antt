@@ -7,6 +7,7 @@ pub mod Left
 pub mod Promise
 pub mod Pass
 pub mod Payloads
+pub mod InHand
 pub mod Tokens
 pub mod Handles
 pub mod Balance

@@ -8,6 +8,7 @@ mod enqueue;
 mod fault;
 mod gate;
 mod handle;
+mod in_hand;
 mod meeting;
 mod opening;
 mod payload;

@@ -4,6 +4,8 @@
 #[cfg(test)]
 mod pages;
 #[cfg(test)]
+mod payloads;
+#[cfg(test)]
 mod plain;
 #[cfg(test)]
 mod rounds;
