@@ -29,6 +29,7 @@ pub mod Pays
 pub mod Pools
 pub mod TokenCalls
 pub mod Minting
+pub mod Capacities
 pub mod Spreads
 pub mod Handled
 pub mod Striding

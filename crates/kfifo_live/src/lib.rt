@@ -36,4 +36,5 @@ pub use round_robin::RoundRobin;
 pub use stamped::gathering::gather;
 pub use stamped::{MAX_STAMPED_CALLS, StampPass, StampQueue};
 pub use tokens::handle::TokenHandle;
+pub use tokens::sizes::{SPARE_TOKENS, Sizes, SizesFault};
 pub use tokens::{Put, TokenPass, TokenQueue};

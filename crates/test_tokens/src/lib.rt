@@ -9,3 +9,5 @@ mod payloads;
 mod plain;
 #[cfg(test)]
 mod rounds;
+#[cfg(test)]
+mod sizes;
