@@ -21,7 +21,7 @@ use Rattle.kfifo_live.specs.Balance.{times, undos, takes}
 use Rattle.kfifo_live.specs.Hands.{Gifts, In, IsGift, beside}
 use Rattle.kfifo_live.specs.Left.{item_in, slots_left, segments_left, items_left}
 use Rattle.kfifo_live.specs.Pass.{OpenQueue}
-use Rattle.kfifo_live.specs.Payloads.{HavePayloads, IsPayPass, PayCloses, PayJoins, PayPassView, in_slot, pay_pass_view}
+use Rattle.kfifo_live.specs.Payloads.{HavePayloads, IsEnded, PayCloses, PayJoins, PayPassView, in_slot, pay_pass_view}
 use Rattle.kfifo_live.specs.Schedule.{OneSchedule, gifts_of, seen_of, world_after}
 use Rattle.kfifo_live.proofs.Balance.{balance}
 use Rattle.kfifo_live.proofs.Gathered.{final_head, pass_ends}
@@ -232,8 +232,8 @@ threads_are o seen here reached =
     let idle : Option Running = None in
     still_threads o.shape (opening o.shape o.threads) here seen reached ∙ length-replicate o.threads idle
 
-module _ {T : Type 0} (q : OpenQueue) (table : TableId) {thread room id : ℕ} {me : Me (Option T) (View T)} {at_home words : List ℕ}
-    (slots : List (Option T)) (others : List (PayPassView T)) {w : View T} (p : IsPayPass thread me at_home room)
+module _ {T : Type 0} (q : OpenQueue) (table : TableId) {thread id : ℕ} {me : Me (Option T) (View T)} {words : List ℕ}
+    (slots : List (Option T)) (others : List (PayPassView T)) {w : View T} (p : IsEnded thread me)
     (same : me.0.opened ≡ q.opened) (joined : PayJoins me.0 others w) (f : Final
     (Seen (λ (s : State (Option T) (View T)). OneSchedule q.opened s.words s.homes s.views) id w) words slots) where
   kept : OneSchedule q.opened f.0.words f.0.homes f.0.views
@@ -244,10 +244,10 @@ module _ {T : Type 0} (q : OpenQueue) (table : TableId) {thread room id : ℕ} {
   words_are = sym f.2 ∙ kept.words_are
 
   some_tokens : 0 < q.opened.tokens
-  some_tokens = subst (λ (o : Opening). 0 < o.tokens) same p.some_tokens
+  some_tokens = subst (λ (o : Opening). 0 < o.tokens) same p.1
 
   with_payloads : q.opened.bare ≡ false
-  with_payloads = ap (λ (o : Opening). o.bare) (sym same) ∙ p.kind
+  with_payloads = ap (λ (o : Opening). o.bare) (sym same) ∙ p.2
 
   tokens : List ℕ
   tokens = items_left q.opened.shape words
@@ -307,12 +307,12 @@ module _ {T : Type 0} (q : OpenQueue) (table : TableId) {thread room id : ℕ} {
   unfolding kept tokens
   pay_closes payloads are =
       let o = q.opened in
-      let few = subst (λ (x : Opening). x.threads ≤ 64) same p.pass.few.0 in
+      let few = subst (λ (x : Opening). x.threads ≤ 64) same p.0.few.0 in
       let fit = kept.fit id w f.1.1 in
       let seen = seen_of me.0 in
       let parts = joined.all_end kept.all kept.gifts fit.begin fit.given in
       let ended : Begins thread seen kept.all × ((later : Gifts T) × (kept.gifts ≡ gifts_of me.0 ++ later)) =
-      pass_ends thread me (pay_pass_view table thread me.0) kept.all kept.gifts p.pass refl refl refl parts.0.0 parts.0.1 in
+      pass_ends thread me (pay_pass_view table thread me.0) kept.all kept.gifts p.0 refl refl refl parts.0.0 parts.0.1 in
       let b : Begins thread seen kept.all = ended.0 in
       let tokens_are : items_left o.shape words ≡ items_left o.shape kept.world.words = ap (items_left o.shape) words_are in
       record {
@@ -323,11 +323,11 @@ module _ {T : Type 0} (q : OpenQueue) (table : TableId) {thread room id : ℕ} {
         reached = kept.runs;
         ends = (ended, parts.1);
         alone = λ one.
-            let here = p.pass.idle.here in
-            let reached : world_after o seen ≡ Some here = ap (λ (x : Opening). world_after x seen) (sym same) ∙ p.pass.idle.reached in
+            let here = p.0.idle.here in
+            let reached : world_after o seen ≡ Some here = ap (λ (x : Opening). world_after x seen) (sym same) ∙ p.0.idle.reached in
             let size = threads_are o seen here reached in
-            let within = p.pass.idle.within in
-            let mine = pass_thread thread me p.pass in
+            let within = p.0.idle.within in
+            let mine = pass_thread thread me p.0 in
             let zero_is : thread ≡ 0 = omega (arith, within, size, one, mine) in
             let arrived : world_after o (seen ++ b.rest) ≡ Some kept.world = ap (world_after o) (sym b.goes_on) ∙ kept.runs in
             let onward = sym (run_on o.shape (Some (opening o.shape o.threads)) here seen b.rest reached) ∙ arrived in

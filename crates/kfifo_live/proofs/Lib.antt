@@ -27,7 +27,9 @@ pub mod CallScans
 pub mod Made
 pub mod Pays
 pub mod Pools
+pub mod TokenCalls
 pub mod Minting
+pub mod Capacities
 pub mod Spreads
 pub mod Handled
 pub mod Striding

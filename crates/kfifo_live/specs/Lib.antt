@@ -7,7 +7,9 @@ pub mod Left
 pub mod Promise
 pub mod Pass
 pub mod Payloads
+pub mod InHand
 pub mod Tokens
+pub mod Capacities
 pub mod Handles
 pub mod Balance
 pub mod Calls

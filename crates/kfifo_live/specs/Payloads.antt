@@ -52,21 +52,20 @@ pay_pass_view table thread v = record {
   gifts = gifts_of v;
 }
 
--- what is always so of a pass of a queue of tokens, with payloads or bare: it has its tokens in a list, the next one
--- last, which has room for all tokens of the queue
-pub record HasTokens {T : Type 0} (bare : Bool) (thread : ℕ) (me : Me (Option T) (View T)) (items : List ℕ) (room : ℕ)
-    : Type 0 where
+-- what is always so of a payload pass: it has its tokens in a list, the next one last, which has room for all tokens of
+-- the queue
+pub record IsPayPass {T : Type 0} (thread : ℕ) (me : Me (Option T) (View T)) (items : List ℕ) (room : ℕ) : Type 0 where
   pub pass : IsPass thread me
   pub stacked : (hand_of me.0).at_home ≡ reverse items
   pub some_tokens : 0 < me.0.opened.tokens
   pub few_tokens : me.0.opened.threads * me.0.opened.tokens ≤ MOST_TOKENS
   pub has_room : me.0.opened.threads * me.0.opened.tokens ≤ room
-  pub kind : me.0.opened.bare ≡ bare
+  pub with_payloads : me.0.opened.bare ≡ false
   pub in_turn : GiftsFit me.0.opened (seen_of me.0) (gifts_of me.0)
 
--- of a payload pass
-abbrev pub IsPayPass : {T : Type 0} → ℕ → Me (Option T) (View T) → List ℕ → ℕ → Type 0
-IsPayPass thread me items room = HasTokens false thread me items room
+-- of one that makes no call any more, in a queue with payloads
+abbrev pub IsEnded : {T : Type 0} → ℕ → Me (Option T) (View T) → Type 0
+IsEnded thread me = IsPass thread me × (0 < me.0.opened.tokens) × (me.0.opened.bare ≡ false)
 
 -- a token that is with no pass: its queue, and its number
 pub record TokenView : Type 0 where

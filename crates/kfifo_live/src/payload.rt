@@ -19,13 +19,13 @@ pub(crate) mod pool;
 pub(crate) mod pool_word;
 pub(crate) mod token;
 
+use crate::in_hand::{Refusal, dequeue_token, empty_slot, enqueue_token, fill_slot};
 use crate::payload::pool_word::PoolWord;
 use crate::ring::Ring;
 use crate::rule::QueueRule;
 use crate::seats::{draw_token, lay_back};
 use crate::view::{Opening, ThreadSeat, View, Words};
 use atomic_table::Table;
-use kfifo_model::Answer;
 use kfifo_words::{Ends, Shape};
 use std::alloc::Global;
 use std::marker::Model;
@@ -121,6 +121,19 @@ impl<T: Drop> PayQueue<T> {
         self.shape.last().saturating_sub(ends.version())
     }
 
+    /// The words of the queue, as a ring.
+    #[inline(always)]
+    fn ring(&self) -> Ring<'_, T>
+        ensures words { result.words.now.table_id ≡ self.now.table }
+        ensures size { self.now.table.words ≡ 2 + self.now.opened.shape.n * self.now.opened.shape.k }
+        ensures shape { result.shape.now ≡ self.now.opened.shape }
+    {
+        Ring {
+            words: &self.table.shared,
+            shape: &self.shape,
+        }
+    }
+
     /// The index of the clock. No thread of a queue of payloads writes it, so a load of it meets nobody.
     #[inline(always)]
     pub(crate) fn clock(&self) -> usize
@@ -131,32 +144,18 @@ impl<T: Drop> PayQueue<T> {
     }
 }
 
-/// Takes the slot of the thread's first token out, and puts the payload into it.
+/// Lays the slot of the token that is out back, and puts the token behind those at home.
 #[inline(always)]
-fn put_in<T: Drop>(shared: &Words<T>, seat: &mut ThreadSeat<T>, token: u32, payload: T)
-    requires table { (seat.old.table_id ≡ shared.now.table_id) × (0 < shared.now.table_id.words) }
-    requires idle { IsAt None seat.old.me × (0 < seat.old.me.0.opened.tokens) × (seat.old.me.1 ≡ []) }
-    requires first { (others : List ℕ) × ((hand_of seat.old.me.0).at_home ≡ token ∷ others) }
-    ensures same { seat.new.table_id ≡ seat.old.table_id }
-    ensures puts { DrawsToken shared.now.table_id.slots (Some payload) seat.old.me seat.new.me }
-{
-    draw_token(shared, seat);
-    let nothing = shared.exchange(seat, token as usize - 1, Some(payload));
-    let None = nothing else { unreachable!() };
-}
-
-/// Takes the payload out of the slot that is out with the seat, and lays the slot's token back.
-#[inline(always)]
-fn take_back<T: Drop>(
+fn keep_token<T: Drop>(
     shared: &Words<T>,
     seat: &mut ThreadSeat<T>,
     at_home: &mut Vec<u32>,
     token: u32,
-) -> T
+)
     requires table { (seat.old.table_id ≡ shared.now.table_id) × (0 < shared.now.table_id.words) }
     requires idle { IsAt None seat.old.me × (0 < seat.old.me.0.opened.tokens) }
     requires token { (0 < token) × ((hand_of seat.old.me.0).out ≡ token) }
-    requires holds { (payload : T) × (seat.old.me.1 ≡ (token - 1, Some payload) ∷ []) }
+    requires holds { seat.old.me.1 ≡ (token - 1, None) ∷ [] }
     requires stacked { (hand_of seat.old.me.0).at_home ≡ reverse at_home.old.items }
     requires room { shared.now.table_id.slots ≤ vec_capacity at_home.old }
     ensures same { (seat.new.table_id ≡ seat.old.table_id) × (vec_capacity at_home.new ≡ vec_capacity at_home.old) }
@@ -164,13 +163,9 @@ fn take_back<T: Drop>(
         (record { at_home = token ∷ (hand_of seat.old.me.0).at_home; out = 0; payload = None }))
         × (seat.new.me.1 ≡ []) }
     ensures stacked { at_home.new.items ≡ at_home.old.items ++ token ∷ [] }
-    ensures payload { seat.old.me.1 ≡ (token - 1, Some result) ∷ [] }
 {
-    let held = shared.exchange(seat, token as usize - 1, None);
     lay_back(shared, seat);
     at_home.push_reserved(token);
-    let Some(payload) = held else { unreachable!() };
-    payload
 }
 
 impl<T: Drop> PayPass<T> {
@@ -210,21 +205,17 @@ impl<T: Drop> PayPass<T> {
             return Given::NoToken(payload);
         };
         let shared = &queue.table.shared;
-        put_in(shared, &mut self.seat, token, payload);
-        let ring = Ring {
-            words: shared,
-            shape: &queue.shape,
-        };
-        let answer = ring.enqueue(&mut self.seat, token, start, turns);
-        if let Answer::Done = answer {
+        draw_token(shared, &mut self.seat);
+        fill_slot(shared, &mut self.seat, token, payload);
+        let Err(refusal) = enqueue_token(queue.ring(), &mut self.seat, token, start, turns) else {
             return Given::Done;
-        }
-        let back = take_back(shared, &mut self.seat, &mut self.at_home, token);
-        match answer {
-            Answer::Full => Given::Full(back),
-            Answer::Busy => Given::Busy(back),
-            Answer::Worn => Given::Worn(back),
-            _ => unreachable!(),
+        };
+        let back = empty_slot(shared, &mut self.seat, token);
+        keep_token(shared, &mut self.seat, &mut self.at_home, token);
+        match refusal {
+            Refusal::Full => Given::Full(back),
+            Refusal::Busy => Given::Busy(back),
+            Refusal::Worn => Given::Worn(back),
         }
     }
 
@@ -246,19 +237,16 @@ impl<T: Drop> PayPass<T> {
         ensures takes { TakesOut start turns result self.old self.new }
         ensures promise { PassKeepsPromise self.new.pass }
     {
-        let shared = &queue.table.shared;
-        let ring = Ring {
-            words: shared,
-            shape: &queue.shape,
-        };
-        match ring.dequeue(&mut self.seat, start, turns) {
-            Answer::Got(token) => {
-                Taken::Got(take_back(shared, &mut self.seat, &mut self.at_home, token))
+        match dequeue_token(queue.ring(), &mut self.seat, start, turns) {
+            Taken::Got(token) => {
+                let shared = &queue.table.shared;
+                let payload = empty_slot(shared, &mut self.seat, token);
+                keep_token(shared, &mut self.seat, &mut self.at_home, token);
+                Taken::Got(payload)
             }
-            Answer::Empty => Taken::Empty,
-            Answer::Busy => Taken::Busy,
-            Answer::Worn => Taken::Worn,
-            _ => unreachable!(),
+            Taken::Empty => Taken::Empty,
+            Taken::Busy => Taken::Busy,
+            Taken::Worn => Taken::Worn,
         }
     }
 }

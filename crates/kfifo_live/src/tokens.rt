@@ -1,63 +1,70 @@
-//! A running queue of tokens, with nothing beside them.
+//! A running queue of tokens.
 //!
-//! A *token* is an item of the plain queue that is in one place at a time: in the queue, or with whoever has it. So what
-//! it numbers, a cell of an array say, belongs to whoever has the token. A call touches no memory but the queue's words.
-ghost use Rattle.std.specs.Prelude.{◌≡◌, ◌<◌, ◌≤◌, ◌+◌, ◌-◌, ◌*◌, [], ◌∷◌, None};
+//! A *token* is an item of the plain queue that is in one place at a time: in the queue, or with whoever has it. It
+//! also names a slot of the queue's table, token x the slot x - 1. A queue with payloads keeps a payload in that slot
+//! while it has the token. A bare queue never touches its slots: what its tokens number, cells of an array say, belongs
+//! to whoever has the token.
+ghost use Rattle.std.specs.Prelude.{◌≡◌, ◌<◌, ◌≤◌, ◌+◌, ◌-◌, ◌*◌, ℕ, [], ◌∷◌, Bool, true, false, Option, None};
 ghost use Rattle.kfifo_words.specs.Ring.{clock_at};
+ghost use Rattle.kfifo_live.specs.InHand.{HasInHand, pass_in};
 ghost use Rattle.kfifo_live.specs.Schedule.{hand_of, seen_of, gifts_of, with_seen};
 ghost use Rattle.kfifo_live.specs.Step.{IsAt};
 ghost use Rattle.kfifo_live.specs.Pass.{OpenQueue, queue_of, IsPassOf, IsSamePass, PassKeepsPromise};
 ghost use Rattle.kfifo_live.specs.Payloads.{PayPassView, pay_pass_view};
-ghost use Rattle.kfifo_live.specs.Tokens.{IsTokenPass, Puts, TakesToken, token_opening};
+ghost use Rattle.kfifo_live.specs.Tokens.{GivesWith, IsTokenPass, Puts, ReceivesWith, TakesToken, token_opening};
 
 pub(crate) mod closing;
 pub(crate) mod handle;
 pub(crate) mod opening;
+pub(crate) mod sizes;
 
+use crate::in_hand::{Refusal, dequeue_token, empty_slot, enqueue_token, fill_slot};
 use crate::payload::Taken;
+use crate::payload::handle::{Published, Received};
 use crate::payload::token::Token;
 use crate::ring::Ring;
 use crate::rule::QueueRule;
 use crate::seats::{add_token, cut_token, draw_token, lay_back};
-use crate::view::{Opening, ThreadSeat, View, Words};
+use crate::view::{Opening, ThreadSeat, View};
 use atomic_table::Table;
-use kfifo_model::Answer;
 use kfifo_words::{Ends, Shape};
 use std::alloc::Global;
 use std::marker::{Brand, Model};
 
-/// A running queue of tokens.
+/// A running queue of tokens, bare or with payloads.
 ///
 /// Clauses see it as its table and what it was opened with.
 #[derive(Drop)]
-pub struct TokenQueue {
-    table: Table<Option<()>, View<()>, Opening, QueueRule, Global>,
+pub struct TokenQueue<T: Drop> {
+    table: Table<Option<T>, View<T>, Opening, QueueRule, Global>,
     shape: Shape,
     threads: u32,
     tokens: u32,
+    bare: bool,
 }
 
-impl Model for TokenQueue {
+impl<T: Drop> Model for TokenQueue<T> {
     ghost Value = { OpenQueue };
 
-    ghost view = { λ q. queue_of q.table.shared.table_id (token_opening q.shape q.threads q.tokens) };
+    ghost view = { λ q. queue_of q.table.shared.table_id (token_opening q.bare q.shape q.threads q.tokens) };
 
-    ghost invariant = { λ q. (q.table.shared.key ≡ token_opening q.shape q.threads q.tokens)
+    ghost invariant = { λ q. (q.table.shared.key ≡ token_opening q.bare q.shape q.threads q.tokens)
         × (q.table.shared.table_id.words ≡ 2 + q.shape.n * q.shape.k)
         × (q.table.shared.table_id.slots ≡ q.threads * q.tokens) × (0 < q.threads) };
 }
 
 /// What a thread puts and takes tokens with. It may go to another thread between two calls.
 ///
-/// Clauses see it as the schedule that it has seen, with the token of each enqueue in it and nothing beside.
+/// Clauses see it as the schedule that it has seen, and for each enqueue of that schedule, in turn, its token and its
+/// payload, if it had one.
 #[derive(Drop)]
-pub struct TokenPass {
+pub struct TokenPass<T: Drop> {
     thread: u32,
-    seat: ThreadSeat<()>,
+    seat: ThreadSeat<T>,
 }
 
-impl Model for TokenPass {
-    ghost Value = { PayPassView (Unit {0}) };
+impl<T: Drop> Model for TokenPass<T> {
+    ghost Value = { PayPassView T };
 
     ghost view = { λ p. pay_pass_view p.seat.table_id p.thread p.seat.me.0 };
 
@@ -66,23 +73,30 @@ impl Model for TokenPass {
 
 /// What `put` returns. Each refusal hands the token back.
 #[derive(Drop)]
-pub enum Put {
+pub enum Put<T> {
     /// The queue has the token.
     Done,
     /// The ring was seen full.
-    Full(Token<()>),
+    Full(Token<T>),
     /// Each round was lost.
-    Busy(Token<()>),
+    Busy(Token<T>),
     /// A version would pass the greatest one.
-    Worn(Token<()>),
+    Worn(Token<T>),
 }
 
-impl TokenQueue {
+impl<T: Drop> TokenQueue<T> {
     /// The sizes of the ring.
     pub fn shape(&self) -> Shape
         ensures { result ≡ self.now.opened.shape }
     {
         self.shape
+    }
+
+    /// Whether the queue is bare: its tokens then go through it with no payload.
+    pub fn is_bare(&self) -> bool
+        ensures { result ≡ self.now.opened.bare }
+    {
+        self.bare
     }
 
     /// How many versions the ends word has left, as one load finds it. Each move of an end uses one up, and a call that
@@ -92,6 +106,19 @@ impl TokenQueue {
     {
         let ends = Ends::of_bits(self.table.shared.peek(0));
         self.shape.last().saturating_sub(ends.version())
+    }
+
+    /// The words of the queue, as a ring.
+    #[inline(always)]
+    fn ring(&self) -> Ring<'_, T>
+        ensures words { result.words.now.table_id ≡ self.now.table }
+        ensures size { self.now.table.words ≡ 2 + self.now.opened.shape.n * self.now.opened.shape.k }
+        ensures shape { result.shape.now ≡ self.now.opened.shape }
+    {
+        Ring {
+            words: &self.table.shared,
+            shape: &self.shape,
+        }
     }
 
     /// The index of the clock. No thread of such a queue writes it, so a load of it meets nobody.
@@ -104,18 +131,34 @@ impl TokenQueue {
     }
 }
 
+/// Takes a token in, and out again with its slot. Returns its number.
+#[inline(always)]
+fn hold_out<T: Drop>(queue: &TokenQueue<T>, seat: &mut ThreadSeat<T>, token: Token<T>) -> u32
+    requires table { seat.old.table_id ≡ queue.now.table }
+    requires hand { (thread : ℕ) × HasInHand thread [] 0 None seat.old.me × (seat.old.me.0.opened ≡ queue.now.opened) }
+    requires token { token.queue ≡ queue.now }
+    ensures same { (seat.new.table_id ≡ seat.old.table_id) × (seat.new.me.0.opened ≡ seat.old.me.0.opened)
+        × (seen_of seat.new.me.0 ≡ seen_of seat.old.me.0) × (gifts_of seat.new.me.0 ≡ gifts_of seat.old.me.0) }
+    ensures number { result ≡ token.number }
+    ensures names { (0 < result) × (result ≤ queue.now.opened.threads * queue.now.opened.tokens) }
+    ensures hand { (thread : ℕ) → HasInHand thread [] 0 None seat.old.me → HasInHand thread [] result None seat.new.me }
+{
+    let number = token.number();
+    let shared = &queue.table.shared;
+    add_token::<_, Brand>(shared, seat, token.into_seat(), number);
+    draw_token(shared, seat);
+    number
+}
+
 /// Lays the token that is out with the seat back, and parts with it.
 #[inline(always)]
-fn lay_aside(queue: &TokenQueue, seat: &mut ThreadSeat<()>, number: u32) -> Token<()>
+fn lay_aside<T: Drop>(queue: &TokenQueue<T>, seat: &mut ThreadSeat<T>, number: u32) -> Token<T>
     requires table { seat.old.table_id ≡ queue.now.table }
-    requires idle { IsAt None seat.old.me × (seat.old.me.0.opened ≡ queue.now.opened)
-        × (0 < queue.now.opened.tokens) }
-    requires token { (0 < number) × ((hand_of seat.old.me.0).out ≡ number) }
-    requires holds { seat.old.me.1 ≡ (number - 1, None) ∷ [] }
-    requires none { (hand_of seat.old.me.0).at_home ≡ [] }
-    ensures same { seat.new.table_id ≡ seat.old.table_id }
-    ensures laid { (seat.new.me.0 ≡ with_seen seat.old.me.0 (seen_of seat.old.me.0) (gifts_of seat.old.me.0)
-        (record { at_home = []; out = 0; payload = None })) × (seat.new.me.1 ≡ []) }
+    requires opened { seat.old.me.0.opened ≡ queue.now.opened }
+    requires hand { (0 < number) × ((thread : ℕ) × HasInHand thread [] number None seat.old.me) }
+    ensures same { (seat.new.table_id ≡ seat.old.table_id) × (seat.new.me.0.opened ≡ seat.old.me.0.opened)
+        × (seen_of seat.new.me.0 ≡ seen_of seat.old.me.0) × (gifts_of seat.new.me.0 ≡ gifts_of seat.old.me.0) }
+    ensures hand { (thread : ℕ) → HasInHand thread [] number None seat.old.me → HasInHand thread [] 0 None seat.new.me }
     ensures token { result ≡ record { queue = queue.now; number = number } }
 {
     let shared = &queue.table.shared;
@@ -124,7 +167,7 @@ fn lay_aside(queue: &TokenQueue, seat: &mut ThreadSeat<()>, number: u32) -> Toke
     Token::new(shared, alone, number, queue.clock())
 }
 
-impl TokenPass {
+impl<T: Drop> TokenPass<T> {
     /// The number of the pass: its thread has the same number in the schedule.
     pub fn thread(&self) -> u32
         ensures { result ≡ self.now.pass.thread }
@@ -132,7 +175,7 @@ impl TokenPass {
         self.thread
     }
 
-    /// Puts a token into the queue.
+    /// Puts a token into a bare queue.
     ///
     /// Scans begin at slot `start`, below k. Returns Done; or, as `Pass::enqueue`, Full where the ring was seen full,
     /// Busy where each of `turns` rounds, at least 1, was lost, or Worn where a version would pass the greatest one,
@@ -140,8 +183,9 @@ impl TokenPass {
     ///
     /// What the pass has then seen keeps the promise of the queue, as with `Pass::enqueue`.
     #[inline(always)]
-    pub fn put(&mut self, queue: &TokenQueue, token: Token<()>, start: u32, turns: u16) -> Put
+    pub fn put(&mut self, queue: &TokenQueue<T>, token: Token<T>, start: u32, turns: u16) -> Put<T>
         requires of { IsPassOf queue.now self.old.pass }
+        requires bare { queue.now.opened.bare ≡ true }
         requires token { token.queue ≡ queue.now }
         requires start { start < queue.now.opened.shape.k }
         requires turns { 1 ≤ turns }
@@ -149,28 +193,54 @@ impl TokenPass {
         ensures puts { Puts token start turns result self.old self.new }
         ensures promise { PassKeepsPromise self.new.pass }
     {
-        let number = token.number();
-        let shared = &queue.table.shared;
-        add_token::<_, Brand>(shared, &mut self.seat, token.into_seat(), number);
-        draw_token(shared, &mut self.seat);
-        let ring = Ring {
-            words: shared,
-            shape: &queue.shape,
-        };
-        let answer = ring.enqueue(&mut self.seat, number, start, turns);
-        if let Answer::Done = answer {
+        let number = hold_out(queue, &mut self.seat, token);
+        let Err(refusal) = enqueue_token(queue.ring(), &mut self.seat, number, start, turns) else {
             return Put::Done;
-        }
+        };
         let back = lay_aside(queue, &mut self.seat, number);
-        match answer {
-            Answer::Full => Put::Full(back),
-            Answer::Busy => Put::Busy(back),
-            Answer::Worn => Put::Worn(back),
-            _ => unreachable!(),
+        match refusal {
+            Refusal::Full => Put::Full(back),
+            Refusal::Busy => Put::Busy(back),
+            Refusal::Worn => Put::Worn(back),
         }
     }
 
-    /// Takes one of the k oldest tokens out of the queue.
+    /// Puts a token into a queue with payloads, and a payload with it.
+    ///
+    /// Returns as `put` does, and each refusal hands the payload back too.
+    #[inline(always)]
+    pub fn give(
+        &mut self,
+        queue: &TokenQueue<T>,
+        token: Token<T>,
+        payload: T,
+        start: u32,
+        turns: u16,
+    ) -> Published<T>
+        requires of { IsPassOf queue.now self.old.pass }
+        requires payloads { queue.now.opened.bare ≡ false }
+        requires token { token.queue ≡ queue.now }
+        requires start { start < queue.now.opened.shape.k }
+        requires turns { 1 ≤ turns }
+        ensures same { IsSamePass self.old.pass self.new.pass }
+        ensures gives { GivesWith token payload start turns result self.old self.new }
+        ensures promise { PassKeepsPromise self.new.pass }
+    {
+        let number = hold_out(queue, &mut self.seat, token);
+        fill_slot(&queue.table.shared, &mut self.seat, number, payload);
+        let Err(refusal) = enqueue_token(queue.ring(), &mut self.seat, number, start, turns) else {
+            return Published::Done;
+        };
+        let unsent = empty_slot(&queue.table.shared, &mut self.seat, number);
+        let back = lay_aside(queue, &mut self.seat, number);
+        match refusal {
+            Refusal::Full => Published::Full(unsent, back),
+            Refusal::Busy => Published::Busy(unsent, back),
+            Refusal::Worn => Published::Worn(unsent, back),
+        }
+    }
+
+    /// Takes one of the k oldest tokens out of a bare queue.
     ///
     /// Scans begin at slot `start`, below k. Returns, as `Pass::dequeue`, Got with the token, Empty where the queue was
     /// empty, Busy where each of `turns` rounds, at least 1, was lost, or Worn where a version would pass the greatest
@@ -178,24 +248,45 @@ impl TokenPass {
     ///
     /// What the pass has then seen keeps the promise of the queue, as with `Pass::dequeue`.
     #[inline(always)]
-    pub fn take(&mut self, queue: &TokenQueue, start: u32, turns: u16) -> Taken<Token<()>>
+    pub fn take(&mut self, queue: &TokenQueue<T>, start: u32, turns: u16) -> Taken<Token<T>>
         requires of { IsPassOf queue.now self.old.pass }
+        requires bare { queue.now.opened.bare ≡ true }
         requires start { start < queue.now.opened.shape.k }
         requires turns { 1 ≤ turns }
         ensures same { IsSamePass self.old.pass self.new.pass }
         ensures takes { TakesToken start turns result self.old self.new }
         ensures promise { PassKeepsPromise self.new.pass }
     {
-        let ring = Ring {
-            words: &queue.table.shared,
-            shape: &queue.shape,
-        };
-        match ring.dequeue(&mut self.seat, start, turns) {
-            Answer::Got(number) => Taken::Got(lay_aside(queue, &mut self.seat, number)),
-            Answer::Empty => Taken::Empty,
-            Answer::Busy => Taken::Busy,
-            Answer::Worn => Taken::Worn,
-            _ => unreachable!(),
+        match dequeue_token(queue.ring(), &mut self.seat, start, turns) {
+            Taken::Got(number) => Taken::Got(lay_aside(queue, &mut self.seat, number)),
+            Taken::Empty => Taken::Empty,
+            Taken::Busy => Taken::Busy,
+            Taken::Worn => Taken::Worn,
+        }
+    }
+
+    /// Takes one of the k oldest payloads out of a queue with payloads, and its token.
+    ///
+    /// Returns as `take` does. The payload is the one that was given with the enqueue that put the token, which is the
+    /// last enqueue of that token in what the pass has then seen.
+    #[inline(always)]
+    pub fn receive(&mut self, queue: &TokenQueue<T>, start: u32, turns: u16) -> Received<T>
+        requires of { IsPassOf queue.now self.old.pass }
+        requires payloads { queue.now.opened.bare ≡ false }
+        requires start { start < queue.now.opened.shape.k }
+        requires turns { 1 ≤ turns }
+        ensures same { IsSamePass self.old.pass self.new.pass }
+        ensures receives { ReceivesWith start turns result self.old self.new }
+        ensures promise { PassKeepsPromise self.new.pass }
+    {
+        match dequeue_token(queue.ring(), &mut self.seat, start, turns) {
+            Taken::Got(number) => {
+                let payload = empty_slot(&queue.table.shared, &mut self.seat, number);
+                Received::Got(payload, lay_aside(queue, &mut self.seat, number))
+            }
+            Taken::Empty => Received::Empty,
+            Taken::Busy => Received::Busy,
+            Taken::Worn => Received::Worn,
         }
     }
 }

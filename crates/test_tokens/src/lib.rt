@@ -4,6 +4,10 @@
 #[cfg(test)]
 mod pages;
 #[cfg(test)]
+mod payloads;
+#[cfg(test)]
 mod plain;
 #[cfg(test)]
 mod rounds;
+#[cfg(test)]
+mod sizes;

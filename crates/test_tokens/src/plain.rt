@@ -1,5 +1,5 @@
 //! A queue of tokens for one thread, with its handle and its tokens. No test says more of a call: proofs are faster so.
-ghost use Rattle.std.specs.Prelude.{◌≡◌, ◌<◌, ◌≤◌, All};
+ghost use Rattle.std.specs.Prelude.{◌≡◌, ◌<◌, ◌≤◌, All, true};
 ghost use Rattle.kfifo_live.specs.Pass.{IsPassOf, IsSamePass};
 ghost use Rattle.kfifo_live.specs.Payloads.{TokenView};
 
@@ -22,8 +22,8 @@ pub enum Answer {
 /// A queue of tokens for one thread, its handle, and the tokens that are not in it.
 #[derive(Drop)]
 pub struct Round {
-    queue: TokenQueue,
-    handle: TokenHandle,
+    queue: TokenQueue<()>,
+    handle: TokenHandle<()>,
     spare: Vec<Token<()>>,
 }
 
@@ -32,11 +32,12 @@ impl Model for Round {
 
     ghost view = { λ _. tt };
 
-    ghost invariant = { λ r. IsPassOf r.queue r.handle.pass.pass × All (λ t. t.queue ≡ r.queue) r.spare.items };
+    ghost invariant = { λ r. IsPassOf r.queue r.handle.pass.pass × (r.queue.opened.bare ≡ true)
+        × All (λ t. t.queue ≡ r.queue) r.spare.items };
 }
 
 /// Adds a token of the queue to these.
-fn add(queue: &TokenQueue, spare: &mut Vec<Token<()>>, token: Token<()>)
+fn add(queue: &TokenQueue<()>, spare: &mut Vec<Token<()>>, token: Token<()>)
     requires tokens { All (λ t. t.queue ≡ queue.now) spare.old.items }
     requires token { token.queue ≡ queue.now }
     ensures { All (λ t. t.queue ≡ queue.now) spare.new.items }
@@ -45,8 +46,9 @@ fn add(queue: &TokenQueue, spare: &mut Vec<Token<()>>, token: Token<()>)
 }
 
 /// Takes a token of the queue.
-fn take_token(queue: &TokenQueue, handle: &mut TokenHandle) -> Taken<Token<()>>
-    requires { IsPassOf queue.now handle.old.pass.pass }
+fn take_token(queue: &TokenQueue<()>, handle: &mut TokenHandle<()>) -> Taken<Token<()>>
+    requires of { IsPassOf queue.now handle.old.pass.pass }
+    requires bare { queue.now.opened.bare ≡ true }
     ensures same { IsSamePass handle.old.pass.pass handle.new.pass.pass }
     ensures of { (token : TokenView) → result ≡ Taken.Got token → token.queue ≡ queue.now }
 {

@@ -1,18 +1,21 @@
 //! Closing a queue of payloads.
-ghost use Rattle.std.specs.Prelude.{◌≡◌, ◌<◌, ◌≤◌, [], All, IfOk, IsErrOf, Some, map, vec_capacity};
+ghost use Rattle.std.specs.Prelude.{◌≡◌, ◌<◌, ◌≤◌, ◌+◌, ◌*◌, [], All, IfOk, IsErrOf, Some, map, vec_capacity};
 ghost use Rattle.core.specs.Mem.Slots.{slots_items, slots_len, IsFull};
 ghost use Rattle.kfifo_live.specs.Pass.{IsPassOf, queue_of};
-ghost use Rattle.kfifo_live.specs.Payloads.{HavePayloads, PayCloses, PayJoins, in_slot};
+ghost use Rattle.kfifo_live.specs.Payloads.{HavePayloads, IsEnded, PayCloses, PayJoins, PayPassView, in_slot};
+ghost use Rattle.kfifo_live.specs.Payloads.{pay_pass_view};
 ghost use Rattle.kfifo_live.specs.declared.fault.CloseFault.TheVariants.{MissingPass};
 
 use crate::closing::{read_items, read_words};
 use crate::fault::CloseFault;
 use crate::payload::{PayPass, PayQueue};
+use crate::rule::QueueRule;
 use crate::seats::join_seats;
-use crate::view::{ThreadSeat, Words};
-use atomic_table::Closed;
+use crate::view::{Opening, ThreadSeat, View, Words};
+use atomic_table::{Closed, Table};
+use kfifo_words::Shape;
 use std::alloc::{AllocError, Global};
-use std::marker::Brand;
+use std::marker::{Brand, Model};
 
 /// What the slots of a closed table hold, into a list with room for it. The table's memory is given back.
 fn empty_slots<T>(
@@ -49,11 +52,54 @@ fn pick_payloads<T: Drop>(
     Ok(payloads)
 }
 
+/// A pass of a queue with payloads that makes no call any more.
+///
+/// Clauses see it as the pass.
+#[derive(Drop)]
+pub(crate) struct EndedPass<T: Drop> {
+    pub(crate) thread: u32,
+    pub(crate) seat: ThreadSeat<T>,
+}
+
+impl<T: Drop> Model for EndedPass<T> {
+    ghost Value = { PayPassView T };
+
+    ghost view = { λ p. pay_pass_view p.seat.table_id p.thread p.seat.me.0 };
+
+    ghost invariant = { λ p. IsEnded p.thread p.seat.me };
+}
+
+impl<T: Drop> PayPass<T> {
+    /// The pass, which makes no call any more.
+    fn into_ended(self) -> EndedPass<T>
+        ensures { result ≡ self }
+    {
+        let PayPass {
+            thread,
+            seat,
+            at_home: _,
+            look_from: _,
+        } = self;
+        EndedPass { thread, seat }
+    }
+}
+
+/// The passes, which make no call any more.
+fn end_all<T: Drop>(alloc: Global, passes: Vec<PayPass<T>>) -> Result<Vec<EndedPass<T>>, AllocError>
+    ensures { IfOk result (λ ended. ended.items ≡ passes.items) }
+{
+    let mut ended = Vec::with_capacity(alloc, passes.len())?;
+    for pass in passes {
+        ended.push(pass.into_ended())?;
+    }
+    Ok(ended)
+}
+
 /// A seat with the parts of all passes.
 fn join_all<T: Drop>(
     shared: &Words<T>,
     mut seat: ThreadSeat<T>,
-    mut passes: Vec<PayPass<T>>,
+    mut passes: Vec<EndedPass<T>>,
 ) -> ThreadSeat<T>
     requires table { (seat.table_id ≡ shared.now.table_id) × (0 < shared.now.table_id.words) }
     requires of { All (λ p. IsPassOf (queue_of seat.table_id seat.me.0.opened) p.pass) passes.items }
@@ -61,15 +107,43 @@ fn join_all<T: Drop>(
     ensures all { PayJoins seat.me.0 passes.items result.me.0 }
 {
     while let Some(pass) = passes.pop() {
-        let PayPass {
+        let EndedPass {
             thread: _,
             seat: other,
-            at_home: _,
-            look_from: _,
         } = pass;
         join_seats::<_, Brand>(shared, &mut seat, other);
     }
     seat
+}
+
+/// Closes a table by several passes of its queue, and returns the payloads that are left, as `PayQueue::close_with`.
+pub(crate) fn close_payloads<T: Drop>(
+    alloc: Global,
+    table: Table<Option<T>, View<T>, Opening, QueueRule, Global>,
+    shape: Shape,
+    slots: usize,
+    pass: EndedPass<T>,
+    others: Vec<EndedPass<T>>,
+) -> Result<Vec<T>, CloseFault>
+    requires key { shape ≡ table.shared.key.shape }
+    requires words { table.shared.table_id.words ≡ 2 + shape.n * shape.k }
+    requires slots { table.shared.table_id.slots ≡ slots }
+    requires pass { IsPassOf (queue_of table.shared.table_id table.shared.key) pass.pass }
+    requires others { All (λ p. IsPassOf (queue_of table.shared.table_id table.shared.key) p.pass) others.items }
+    ensures ok { IfOk result (λ payloads. PayCloses (queue_of table.shared.table_id table.shared.key) pass others.items
+        payloads.items) }
+    ensures missing { ¬ IsErrOf result MissingPass }
+{
+    let EndedPass { thread: _, seat } = pass;
+    // The room is made first: after a refusal the table still drops what it holds.
+    let slots = Vec::with_capacity(alloc, slots)?;
+    let seat = join_all(&table.shared, seat, others);
+    let closed = table.close_with(seat);
+    let words = read_words(alloc, &closed, 2 + shape.n() as usize * shape.k() as usize);
+    let slots = empty_slots(closed, slots);
+    let tokens = read_items(alloc, &shape, words?.as_slice())?;
+    let payloads = pick_payloads(alloc, slots, tokens.as_slice())?;
+    Ok(payloads)
 }
 
 impl<T: Drop> PayQueue<T> {
@@ -108,20 +182,8 @@ impl<T: Drop> PayQueue<T> {
             tokens,
             pool: _,
         } = self;
-        let PayPass {
-            thread: _,
-            seat,
-            at_home: _,
-            look_from: _,
-        } = pass;
-        // The room is made first: after a refusal the table still drops what it holds.
-        let slots = Vec::with_capacity(alloc, threads as usize * tokens as usize)?;
-        let seat = join_all(&table.shared, seat, others);
-        let closed = table.close_with(seat);
-        let words = read_words(alloc, &closed, 2 + shape.n() as usize * shape.k() as usize);
-        let slots = empty_slots(closed, slots);
-        let tokens = read_items(alloc, &shape, words?.as_slice())?;
-        let payloads = pick_payloads(alloc, slots, tokens.as_slice())?;
-        Ok(payloads)
+        let others = end_all(alloc, others)?;
+        let slots = threads as usize * tokens as usize;
+        close_payloads(alloc, table, shape, slots, pass.into_ended(), others)
     }
 }

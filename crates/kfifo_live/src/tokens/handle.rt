@@ -1,14 +1,15 @@
 //! Calls of a queue of tokens with nothing to choose.
-ghost use Rattle.std.specs.Prelude.{◌≡◌, ◌+◌};
+ghost use Rattle.std.specs.Prelude.{◌≡◌, ◌+◌, true, false};
 ghost use Rattle.kfifo_live.specs.Calls.{IsDisturbed};
 ghost use Rattle.kfifo_live.specs.Handles.{cycle_at, first_of, further};
 ghost use Rattle.kfifo_live.specs.declared.handle.TheConstants.{MAX_TURNS};
 ghost use Rattle.kfifo_live.specs.Pass.{IsPassOf, IsSamePass, PassKeepsPromise};
 ghost use Rattle.kfifo_live.specs.Payloads.{TokenView};
-ghost use Rattle.kfifo_live.specs.Tokens.{Puts, TakesToken, TokenHeld};
+ghost use Rattle.kfifo_live.specs.Tokens.{GivesWith, Puts, ReceivesWith, TakesToken, TokenHeld};
 
 use crate::handle::MAX_TURNS;
 use crate::payload::Taken;
+use crate::payload::handle::{Published, Received};
 use crate::payload::token::Token;
 use crate::round_robin::RoundRobin;
 use crate::tokens::{Put, TokenPass, TokenQueue};
@@ -24,14 +25,14 @@ use std::marker::Model;
 ///
 /// Clauses see it as its pass, and the slots at which its next `put` and its next `take` begin.
 #[derive(Drop)]
-pub struct TokenHandle {
-    pass: TokenPass,
+pub struct TokenHandle<T: Drop> {
+    pass: TokenPass<T>,
     puts: RoundRobin,
     takes: RoundRobin,
 }
 
-impl Model for TokenHandle {
-    ghost Value = { TokenHeld (Unit {0}) };
+impl<T: Drop> Model for TokenHandle<T> {
+    ghost Value = { TokenHeld T };
 
     ghost view = { λ h. record { pass = h.pass; put_start = h.puts.start; take_start = h.takes.start } };
 
@@ -40,16 +41,16 @@ impl Model for TokenHandle {
 }
 
 /// The starts of the calls of a pass, as `Handle` has them.
-fn starts_of(queue: &TokenQueue, pass: &TokenPass) -> RoundRobin
+fn starts_of<T: Drop>(queue: &TokenQueue<T>, pass: &TokenPass<T>) -> RoundRobin
     requires { IsPassOf queue.now pass.now.pass }
     ensures { result ≡ cycle_at pass.now.pass (first_of pass.now.pass) }
 {
     RoundRobin::spread(pass.thread, queue.threads, queue.shape.k)
 }
 
-impl TokenHandle {
+impl<T: Drop> TokenHandle<T> {
     /// The handle of a pass. Its first `put` and its first `take` begin at slot `thread * k / threads`, rounded down.
-    pub fn new(queue: &TokenQueue, pass: TokenPass) -> TokenHandle
+    pub fn new(queue: &TokenQueue<T>, pass: TokenPass<T>) -> TokenHandle<T>
         requires { IsPassOf queue.now pass.pass }
         ensures { result ≡ record { pass = pass; put_start = first_of pass.pass; take_start = first_of pass.pass } }
     {
@@ -63,30 +64,30 @@ impl TokenHandle {
     }
 
     /// The pass.
-    pub fn pass(&self) -> &TokenPass
+    pub fn pass(&self) -> &TokenPass<T>
         ensures { result.now ≡ self.now.pass }
     {
         &self.pass
     }
 
     /// Gives the pass back, for `TokenQueue::close`.
-    pub fn into_pass(self) -> TokenPass
+    pub fn into_pass(self) -> TokenPass<T>
         ensures { result ≡ self.pass }
     {
         self.pass
     }
 
-    /// Puts a token into the queue, as `TokenPass::put` does.
+    /// Puts a token into a bare queue, as `TokenPass::put` does.
     ///
     /// Returns Done; or Full, Worn or Busy with the token. Busy comes only where another thread won an exchange during
     /// the call. It never allocates, waits or locks.
     #[inline(always)]
-    pub fn put(&mut self, queue: &TokenQueue, token: Token<()>) -> Put
+    pub fn put(&mut self, queue: &TokenQueue<T>, token: Token<T>) -> Put<T>
         requires of { IsPassOf queue.now self.old.pass.pass }
+        requires bare { queue.now.opened.bare ≡ true }
         requires token { token.queue ≡ queue.now }
         ensures same { IsSamePass self.old.pass.pass self.new.pass.pass }
-        ensures puts { Puts token self.old.put_start MAX_TURNS result self.old.pass
-            self.new.pass }
+        ensures puts { Puts token self.old.put_start MAX_TURNS result self.old.pass self.new.pass }
         ensures busy { (back : TokenView) → result ≡ Put.Busy back → IsDisturbed self.old.pass.pass self.new.pass.pass }
         ensures starts { (self.new.put_start ≡ further self.old.pass.pass self.old.put_start)
             × (self.new.take_start ≡ self.old.take_start) }
@@ -96,16 +97,16 @@ impl TokenHandle {
         self.pass.put(queue, token, start, MAX_TURNS)
     }
 
-    /// Takes one of the k oldest tokens out of the queue, as `TokenPass::take` does.
+    /// Takes one of the k oldest tokens out of a bare queue, as `TokenPass::take` does.
     ///
     /// Returns Got with the token, Empty, Worn or Busy. Busy comes only where another thread won an exchange during the
     /// call. It never allocates, waits or locks.
     #[inline(always)]
-    pub fn take(&mut self, queue: &TokenQueue) -> Taken<Token<()>>
+    pub fn take(&mut self, queue: &TokenQueue<T>) -> Taken<Token<T>>
         requires of { IsPassOf queue.now self.old.pass.pass }
+        requires bare { queue.now.opened.bare ≡ true }
         ensures same { IsSamePass self.old.pass.pass self.new.pass.pass }
-        ensures takes { TakesToken self.old.take_start MAX_TURNS result self.old.pass
-            self.new.pass }
+        ensures takes { TakesToken self.old.take_start MAX_TURNS result self.old.pass self.new.pass }
         ensures busy { result ≡ Taken.Busy → IsDisturbed self.old.pass.pass self.new.pass.pass }
         ensures starts { (self.new.take_start ≡ further self.old.pass.pass self.old.take_start)
             × (self.new.put_start ≡ self.old.put_start) }
@@ -113,5 +114,47 @@ impl TokenHandle {
     {
         let start = self.takes.next();
         self.pass.take(queue, start, MAX_TURNS)
+    }
+
+    /// Puts a token and a payload into a queue with payloads, as `TokenPass::give` does. It begins where a `put` would.
+    ///
+    /// Returns Done; or Full, Worn or Busy with the payload and the token. Busy comes only where another thread won an
+    /// exchange during the call. It never allocates, waits or locks.
+    #[inline(always)]
+    pub fn give(&mut self, queue: &TokenQueue<T>, token: Token<T>, payload: T) -> Published<T>
+        requires of { IsPassOf queue.now self.old.pass.pass }
+        requires payloads { queue.now.opened.bare ≡ false }
+        requires token { token.queue ≡ queue.now }
+        ensures same { IsSamePass self.old.pass.pass self.new.pass.pass }
+        ensures gives { GivesWith token payload self.old.put_start MAX_TURNS result self.old.pass
+            self.new.pass }
+        ensures busy { (unsent : T) (back : TokenView) → result ≡ Published.Busy unsent back
+            → IsDisturbed self.old.pass.pass self.new.pass.pass }
+        ensures starts { (self.new.put_start ≡ further self.old.pass.pass self.old.put_start)
+            × (self.new.take_start ≡ self.old.take_start) }
+        ensures promise { PassKeepsPromise self.new.pass.pass }
+    {
+        let start = self.puts.next();
+        self.pass.give(queue, token, payload, start, MAX_TURNS)
+    }
+
+    /// Takes one of the k oldest payloads and its token out of a queue with payloads, as `TokenPass::receive` does. It
+    /// begins where a `take` would.
+    ///
+    /// Returns Got with both, Empty, Worn or Busy. Busy comes only where another thread won an exchange during the
+    /// call. It never allocates, waits or locks.
+    #[inline(always)]
+    pub fn receive(&mut self, queue: &TokenQueue<T>) -> Received<T>
+        requires of { IsPassOf queue.now self.old.pass.pass }
+        requires payloads { queue.now.opened.bare ≡ false }
+        ensures same { IsSamePass self.old.pass.pass self.new.pass.pass }
+        ensures receives { ReceivesWith self.old.take_start MAX_TURNS result self.old.pass self.new.pass }
+        ensures busy { result ≡ Received.Busy → IsDisturbed self.old.pass.pass self.new.pass.pass }
+        ensures starts { (self.new.take_start ≡ further self.old.pass.pass self.old.take_start)
+            × (self.new.put_start ≡ self.old.put_start) }
+        ensures promise { PassKeepsPromise self.new.pass.pass }
+    {
+        let start = self.takes.next();
+        self.pass.receive(queue, start, MAX_TURNS)
     }
 }

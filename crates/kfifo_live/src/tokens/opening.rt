@@ -1,5 +1,5 @@
 //! Opening a queue of tokens.
-ghost use Rattle.std.specs.Prelude.{◌≡◌, ◌<◌, ◌≤◌, ◌+◌, ◌*◌, ◌^◌, ◌++◌, [], All, IfOk, true, length};
+ghost use Rattle.std.specs.Prelude.{◌≡◌, ◌<◌, ◌≤◌, ◌+◌, ◌*◌, ◌^◌, ◌++◌, [], All, IfOk, true, false, length};
 ghost use Rattle.kfifo_live.specs.Schedule.{IsSmall, count_up, fresh, hand_of, more_in, view_of, with_home};
 ghost use Rattle.kfifo_live.specs.Step.{IsAt};
 ghost use Rattle.kfifo_live.specs.Pass.{IsZeroed, IsPassOf, queue_of};
@@ -16,10 +16,10 @@ use kfifo_words::Shape;
 use std::alloc::{AllocError, Global};
 
 /// Cuts all tokens of the thread off, `count` of them, the first with number `first`, and adds them to a list.
-fn cut_all(
-    shared: &Words<()>,
-    seat: &mut ThreadSeat<()>,
-    tokens: &mut Vec<Token<()>>,
+fn cut_all<T: Drop>(
+    shared: &Words<T>,
+    seat: &mut ThreadSeat<T>,
+    tokens: &mut Vec<Token<T>>,
     first: u32,
     count: u32,
     clock: usize,
@@ -42,21 +42,20 @@ fn cut_all(
 }
 
 /// A pass for each thread, which has seen nothing, and all tokens, in the order of their numbers.
-fn deal_all(
+fn deal_all<T: Drop>(
     alloc: Global,
-    shared: &Words<()>,
-    mut seat: ThreadSeat<()>,
+    shared: &Words<T>,
+    mut seat: ThreadSeat<T>,
     threads: u32,
     tokens: u32,
     clock: usize,
-) -> Result<(Vec<TokenPass>, Vec<Token<()>>), AllocError>
+) -> Result<(Vec<TokenPass<T>>, Vec<Token<T>>), AllocError>
     requires table { (seat.table_id ≡ shared.now.table_id) × (clock < shared.now.table_id.words) }
     requires slots { shared.now.table_id.slots ≡ threads * tokens }
     requires few { IsSmall seat.me.0.opened × (0 < tokens) × (threads * tokens ≤ MOST_TOKENS) }
     requires seat { (seat.me.1 ≡ []) × (seat.me.0
         ≡ view_of seat.me.0.opened (fresh seat.me.0.opened.tokens 0 threads)) }
-    requires opened { (seat.me.0.opened.threads ≡ threads) × (seat.me.0.opened.tokens ≡ tokens)
-        × (seat.me.0.opened.bare ≡ true) }
+    requires opened { (seat.me.0.opened.threads ≡ threads) × (seat.me.0.opened.tokens ≡ tokens) }
     ensures passes { IfOk result (λ r. r.0.items ≡ new_token_passes (queue_of seat.table_id seat.me.0.opened) 0 threads) }
     ensures tokens { IfOk result (λ r. r.1.items
         ≡ tokens_from (queue_of seat.table_id seat.me.0.opened) 1 (threads * tokens)) }
@@ -73,10 +72,69 @@ fn deal_all(
     Ok((passes, all))
 }
 
-impl TokenQueue {
-    /// Opens a queue for 1 to 64 threads, with so many tokens for each: 1 or more, and 65,536 in all at most. Returns it
-    /// with a pass for each thread, numbered from 0, and all tokens, in the order of their numbers, from 1. The passes
-    /// have seen the empty schedule, after which all words are 0.
+impl<T: Drop> TokenQueue<T> {
+    /// Opens a queue that is bare or not, as `open` and `open_with_payloads` do.
+    fn open_as(
+        alloc: Global,
+        shape: Shape,
+        threads: u32,
+        tokens: u32,
+        bare: bool,
+    ) -> Result<(TokenQueue<T>, Vec<TokenPass<T>>, Vec<Token<T>>), AllocError>
+        requires threads { (0 < threads) × (threads ≤ MAX_THREADS) }
+        requires tokens { (0 < tokens) × (threads * tokens ≤ MOST_TOKENS) }
+        ensures opened { IfOk result (λ r. r.0.opened ≡ token_opening bare shape threads tokens) }
+        ensures passes { IfOk result (λ r. r.1.items ≡ new_token_passes r.0 0 threads) }
+        ensures of { IfOk result (λ r. All (λ p. IsPassOf r.0 p.pass) r.1.items) }
+        ensures tokens { IfOk result (λ r. r.2.items ≡ tokens_from r.0 1 (threads * tokens)) }
+        ensures zeroed { IfOk result (λ r. IsZeroed r.0.opened) }
+    {
+        let words = vec![in alloc; 0; 2 + shape.n() as usize * shape.k() as usize]?;
+        let about = Opening {
+            shape,
+            threads,
+            calls: 0,
+            tokens,
+            bare,
+        };
+        let slots = threads as usize * tokens as usize;
+        let (table, seat) = Table::vacant(alloc, words.as_slice(), slots, &about)?;
+        let clock = shape.clock_index();
+        let (passes, all) = deal_all(alloc, &table.shared, seat, threads, tokens, clock)?;
+        let queue = TokenQueue {
+            table,
+            shape,
+            threads,
+            tokens,
+            bare,
+        };
+        Ok((queue, passes, all))
+    }
+
+    /// Opens a queue with payloads, as `TokenQueue::open` opens a bare one. While a payload is in the queue, it lies in
+    /// the slot of its token.
+    pub fn open_with_payloads(
+        alloc: Global,
+        shape: Shape,
+        threads: u32,
+        tokens: u32,
+    ) -> Result<(TokenQueue<T>, Vec<TokenPass<T>>, Vec<Token<T>>), AllocError>
+        requires threads { (0 < threads) × (threads ≤ MAX_THREADS) }
+        requires tokens { (0 < tokens) × (threads * tokens ≤ MOST_TOKENS) }
+        ensures opened { IfOk result (λ r. r.0.opened ≡ token_opening false shape threads tokens) }
+        ensures passes { IfOk result (λ r. r.1.items ≡ new_token_passes r.0 0 threads) }
+        ensures of { IfOk result (λ r. All (λ p. IsPassOf r.0 p.pass) r.1.items) }
+        ensures tokens { IfOk result (λ r. r.2.items ≡ tokens_from r.0 1 (threads * tokens)) }
+        ensures zeroed { IfOk result (λ r. IsZeroed r.0.opened) }
+    {
+        TokenQueue::open_as(alloc, shape, threads, tokens, false)
+    }
+}
+
+impl TokenQueue<()> {
+    /// Opens a bare queue for 1 to 64 threads, with so many tokens for each: 1 or more, and 65,536 in all at most.
+    /// Returns it with a pass for each thread, numbered from 0, and all tokens, in the order of their numbers, from 1.
+    /// The passes have seen the empty schedule, after which all words are 0.
     ///
     /// ```rust
     /// let shape = Shape::new(4, 8, MAX_VERSION)?; // k, segments, greatest version
@@ -89,33 +147,15 @@ impl TokenQueue {
         shape: Shape,
         threads: u32,
         tokens: u32,
-    ) -> Result<(TokenQueue, Vec<TokenPass>, Vec<Token<()>>), AllocError>
+    ) -> Result<(TokenQueue<()>, Vec<TokenPass<()>>, Vec<Token<()>>), AllocError>
         requires threads { (0 < threads) × (threads ≤ MAX_THREADS) }
         requires tokens { (0 < tokens) × (threads * tokens ≤ MOST_TOKENS) }
-        ensures opened { IfOk result (λ r. r.0.opened ≡ token_opening shape threads tokens) }
+        ensures opened { IfOk result (λ r. r.0.opened ≡ token_opening true shape threads tokens) }
         ensures passes { IfOk result (λ r. r.1.items ≡ new_token_passes r.0 0 threads) }
         ensures of { IfOk result (λ r. All (λ p. IsPassOf r.0 p.pass) r.1.items) }
         ensures tokens { IfOk result (λ r. r.2.items ≡ tokens_from r.0 1 (threads * tokens)) }
         ensures zeroed { IfOk result (λ r. IsZeroed r.0.opened) }
     {
-        let words = vec![in alloc; 0; 2 + shape.n() as usize * shape.k() as usize]?;
-        let about = Opening {
-            shape,
-            threads,
-            calls: 0,
-            tokens,
-            bare: true,
-        };
-        let slots = threads as usize * tokens as usize;
-        let (table, seat) = Table::vacant(alloc, words.as_slice(), slots, &about)?;
-        let clock = shape.clock_index();
-        let (passes, all) = deal_all(alloc, &table.shared, seat, threads, tokens, clock)?;
-        let queue = TokenQueue {
-            table,
-            shape,
-            threads,
-            tokens,
-        };
-        Ok((queue, passes, all))
+        TokenQueue::open_as(alloc, shape, threads, tokens, true)
     }
 }

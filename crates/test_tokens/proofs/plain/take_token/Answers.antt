@@ -12,4 +12,4 @@ returns-clause-of c = λ token is.
     let old = c.args.handle.now in
     let takes = subst (λ (x : Taken TokenView). TakesToken old.take_start MAX_TURNS x old.pass c.take.new.self.pass) is
     c.take.ensures.takes in
-    takes.0 ∙ (λ i. queue_of (c.requires.0 i) (c.requires.1 i))
+    takes.0 ∙ (λ i. queue_of (c.requires.of.0 i) (c.requires.of.1 i))

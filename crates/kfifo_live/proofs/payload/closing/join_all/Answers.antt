@@ -14,7 +14,7 @@ pub join_seats-requires-clause-other : goal.join_seats-requires-clause-other
 join_seats-requires-clause-other g c =
     let of = All-pop (λ (p : PayPassView g.row.T.Denot). IsPassOf (queue_of c.args.seat.table_id c.args.seat.me.0.opened) p.pass) _ _
     (Some c.in-Some.pass) c.in-Some.ensures.items c.loop-pass.invariant.all_of in
-    (ap (λ (k : PayPassView g.row.T.Denot). k.pass.table) c.pass.view_is ∙ of.1.0 ∙ c.requires.table.0, c.pass.invariant.pass.held)
+    (ap (λ (k : PayPassView g.row.T.Denot). k.pass.table) c.pass.view_is ∙ of.1.0 ∙ c.requires.table.0, c.pass.invariant.0.held)
 
 pub loop-pass-preserved : goal.loop-pass-preserved
 loop-pass-preserved g c =
@@ -31,7 +31,7 @@ loop-pass-preserved g c =
           (subst (λ (ps : List (Part g.row.T.Denot)). AllBegin ps all) (ap (λ v. v.parts) both) b) in
           let given = all_given_parts _ _ gifts
           (subst (λ (ps : List (Part g.row.T.Denot)). AllGiven ps gifts) (ap (λ v. v.parts) both) h) in
-          let ends = pass_ends _ c.pass.inside.seat.me c.in-Some.pass all gifts c.pass.invariant.pass
+          let ends = pass_ends _ c.pass.inside.seat.me c.in-Some.pass all gifts c.pass.invariant.0
           (sym (ap (λ (k : PayPassView g.row.T.Denot). k.pass.thread) c.pass.view_is))
           (sym (ap (λ (k : PayPassView g.row.T.Denot). k.pass.seen) c.pass.view_is))
           (sym (ap (λ (k : PayPassView g.row.T.Denot). k.gifts) c.pass.view_is)) begins.1 given.1 in

@@ -69,7 +69,7 @@ invariant_of-push g c =
       some_tokens = subst (λ n. 0 < n) (sym tokens) c.requires.few.1;
       few_tokens = subst (λ n. n ≤ 65536) (sym all) (few_in_all c.args.threads c.args.tokens few_threads c.requires.few.2);
       has_room = omega (arith, all, room);
-      kind = ap (λ (x : Opening). x.bare) opened ∙ c.requires.bare;
+      with_payloads = ap (λ (x : Opening). x.bare) opened ∙ c.requires.bare;
       in_turn = subst (λ (v : View g.row.T.Denot). GiftsFit v.opened (seen_of v) (gifts_of v)) (sym cut.0)
           record { in_turn = refl; holder_law = λ some. tt };
     } in

@@ -10,7 +10,7 @@ use Rattle.kfifo_live.proofs.Minting.{cut_on, idle_home, seated_home, tokens_fro
 use Rattle.kfifo_live.proofs.tokens.opening.cut_all.Goals as goal
 
 pub loop-index-init : goal.loop-index-init
-loop-index-init c = record {
+loop-index-init g c = record {
   table = refl;
   view = seated_home c.requires.idle.0.seated (c.requires.home ∙ (λ i.
       count_up ((let e : c.args.first ≡ c.args.first + 0 = omega arith in e) i) ((let e : c.args.count ≡ c.args.count - 0 = omega arith in e) i)));
@@ -19,18 +19,18 @@ loop-index-init c = record {
 }
 
 pub cut_token-alone-requires-clause-table : goal.cut_token-alone-requires-clause-table
-cut_token-alone-requires-clause-table c =
+cut_token-alone-requires-clause-table g c =
     (c.loop-index.invariant.table ∙ c.requires.table.0, (let less = c.requires.table.1 in omega arith))
 
 pub cut_token-alone-requires-clause-idle : goal.cut_token-alone-requires-clause-idle
-cut_token-alone-requires-clause-idle c =
+cut_token-alone-requires-clause-idle g c =
     let view = c.loop-index.invariant.view in (
       idle_home (count_up (c.args.first + c.loop-index.index) (c.args.count - c.loop-index.index)) c.requires.idle.0 view,
       subst (λ (o : Opening). 0 < o.tokens) (sym (ap (λ m. m.0.opened) view)) c.requires.idle.1,
     )
 
 pub cut_token-alone-requires-clause-some : goal.cut_token-alone-requires-clause-some
-cut_token-alone-requires-clause-some c =
+cut_token-alone-requires-clause-some g c =
     let less = c.loop-index-test.true in (
       _,
       _,
@@ -39,20 +39,20 @@ cut_token-alone-requires-clause-some c =
     )
 
 pub new-requires-clause-table : goal.new-requires-clause-table
-new-requires-clause-table c = (
+new-requires-clause-table g c = (
   c.cut_token-alone.ensures.resting.0 ∙ c.loop-index.invariant.table ∙ c.requires.table.0,
   c.requires.table.1,
 )
 
 pub new-requires-clause-slots : goal.new-requires-clause-slots
-new-requires-clause-slots c =
+new-requires-clause-slots g c =
     let opened = ap (λ m. m.0.opened) c.cut_token-alone.ensures.resting.1 ∙ ap (λ m. m.0.opened) c.loop-index.invariant.view in (
       subst (λ (o : Opening). 0 < o.tokens) (sym opened) c.requires.idle.1,
       c.requires.slots ∙ ap (λ (o : Opening). o.threads * o.tokens) (sym opened),
     )
 
 pub new-requires-clause-alone : goal.new-requires-clause-alone
-new-requires-clause-alone c =
+new-requires-clause-alone g c =
     let r = c.cut_token-alone.ensures.resting.1 in
     let less = c.loop-index-test.true in
     let next = ap (λ m. next_of (hand_of m.0).at_home) c.loop-index.invariant.view
@@ -60,7 +60,7 @@ new-requires-clause-alone c =
     r ∙ (λ i. (resting_view (sym (ap (λ m. m.0.opened) r) i) (next i), []))
 
 pub loop-index-preserved : goal.loop-index-preserved
-loop-index-preserved c =
+loop-index-preserved g c =
     let i = c.loop-index.invariant in
     let less = c.loop-index-test.true in
     let q = queue_of c.args.seat.now.table_id c.args.seat.now.me.0.opened in
@@ -81,14 +81,14 @@ loop-index-preserved c =
     }
 
 pub returns-clause-same : goal.returns-clause-same
-returns-clause-same c =
+returns-clause-same g c =
     let i = c.loop-index.invariant in
     let past = c.loop-index-test.false in
     let none : c.args.count - c.loop-index.index ≡ 0 = omega (arith, past) in
     (i.table, i.view ∙ ap (λ n. (with_home c.args.seat.now.me.0 (count_up (c.args.first + c.loop-index.index) n), c.args.seat.now.me.1)) none)
 
 pub returns-clause-tokens : goal.returns-clause-tokens
-returns-clause-tokens c =
+returns-clause-tokens g c =
     let i = c.loop-index.invariant in
     let past = c.loop-index-test.false in
     let within = i.within in

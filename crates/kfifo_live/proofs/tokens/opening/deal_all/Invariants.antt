@@ -5,7 +5,7 @@ use Rattle.kfifo_live.specs.Tokens.{new_token_passes, tokens_from}
 use Rattle.kfifo_live.proofs.tokens.opening.deal_all.Given as goal
 
 abbrev pub invariant-loop-thread : goal.invariant-loop-thread
-invariant-loop-thread l = record {
+invariant-loop-thread g l = record {
   table : l.seat.table_id ≡ l.fn.seat.table_id;
   held : l.seat.me.1 ≡ [];
   view : l.seat.me.0 ≡ view_of l.fn.seat.me.0.opened (fresh l.fn.seat.me.0.opened.tokens l.thread (l.threads - l.thread));
