@@ -25,7 +25,7 @@ use Rattle.kfifo_machine.specs.Floor.{NoOverlap, done_with, got_with, answers, F
 use Rattle.kfifo_machine.proofs.Places.{in_table}
 use Rattle.kfifo_machine.proofs.Schedules.{Some-injective, first_made, made_within, stepped, other_place}
 use Rattle.kfifo_machine.proofs.Sound.{IsSound, going_place, place_is, step_sound, opening_sound}
-use Rattle.kfifo_machine.proofs.Versions.{ticked-other, sealed-ends, sealed-other, sealed-same, ends-sound, no_going_tick}
+use Rattle.kfifo_machine.proofs.Versions.{ticked-other, sealed-ends, sealed-other, sealed-same, no_going_tick}
 use Rattle.kfifo_machine.proofs.Budget.{own_place}
 use Rattle.kfifo_machine.proofs.Calls.{may_begun}
 use Rattle.kfifo_machine.proofs.RoundsUndisturbed.{words_by}
@@ -174,7 +174,7 @@ sealed_rests shape here done got sound r =
     let ends : v 0 ≡ sealed_word shape (w 0) =
     view-below shape (sealed shape here) 0 below ∙ sealed-ends shape here sound
     ∙ ap (sealed_word shape) (sym (view-below shape here 0 below)) in
-    let same = sealed-same shape (w 0) (subst (IsEnds shape) (sym (view-below shape here 0 below)) (ends-sound shape here sound)) in
+    let same = sealed-same shape (w 0) in
     let head : head_of (v 0) ≡ head_of (w 0) = ap head_of ends ∙ same.0 in
     let tail : tail_of (v 0) ≡ tail_of (w 0) = ap tail_of ends ∙ same.1 in
     let slots : (i : ℕ) → 0 < i → v i ≡ w i =

@@ -19,11 +19,11 @@ use Rattle.kfifo_machine.specs.Program.{access, accessed, advance, sealed_word}
 use Rattle.kfifo_machine.specs.Machine.{World, opening, word_at, place_of, place_after, words_after, moved, ticked, found, begun, may_begin}
 use Rattle.kfifo_machine.specs.Machine.{step, run}
 use Rattle.kfifo_machine.specs.Runs.{going}
-use Rattle.kfifo_machine.specs.Places.{IsEnds, IsPlace}
+use Rattle.kfifo_machine.specs.Places.{IsPlace}
 use Rattle.kfifo_machine.specs.Laws.{moves_head, moves_tail, counted, count, NoWrap}
 use Rattle.kfifo_machine.proofs.Schedules.{Some-injective, first_made, made_within, stepped, Ticks, Seals}
 use Rattle.kfifo_machine.proofs.Sound.{IsSound, going_place, place_is, step_sound, opening_sound}
-use Rattle.kfifo_machine.proofs.Versions.{next_segment-below, sealed-ends, sealed-same, ends-sound}
+use Rattle.kfifo_machine.proofs.Versions.{next_segment-below, sealed-ends, sealed-same}
 use Rattle.kfifo_machine.proofs.Ring.{same_place, next_place, not_next_place, next-mod}
 
 -- why a thread moves the head or the tail: what it saw of the ends
@@ -204,16 +204,16 @@ moved_aims shape here thread running within aims old t r at =
     ]
 
 -- outside of calls the ends keep their segments
-seal_keeps : (shape : Shape) (ends a b : ℕ) → IsEnds shape ends → EndsOk shape ends a b → EndsOk shape (sealed_word shape ends) a b
-seal_keeps shape ends a b is ok =
-    let k = sealed-same shape ends is in
+seal_keeps : (shape : Shape) (ends a b : ℕ) → EndsOk shape ends a b → EndsOk shape (sealed_word shape ends) a b
+seal_keeps shape ends a b ok =
+    let k = sealed-same shape ends in
     record { head = k.0 ∙ ok.head; tail = k.1 ∙ ok.tail; ordered = ok.ordered; no_wrap = ok.no_wrap }
 
 outside_ends : (shape : Shape) (here there : World) (begin : Option Begin) (a b : ℕ) → IsSound shape here
     → Ticks shape here begin there ⊎ Seals shape here begin there → EndsOk shape (word_at here 0) a b → EndsOk shape (word_at there 0) a b
 outside_ends shape here there begin a b sound (inl t) ok = rw t.there_is (rw (ends-ticked shape here) ok)
 outside_ends shape here there begin a b sound (inr z) ok =
-    rw z.there_is (rw (sealed-ends shape here sound) (seal_keeps shape (word_at here 0) a b (ends-sound shape here sound) ok))
+    rw z.there_is (rw (sealed-ends shape here sound) (seal_keeps shape (word_at here 0) a b ok))
 
 found-ends : (shape : Shape) (here : World) (running : Running) → accessed (access shape running) ≡ 0
     → found shape here running ≡ word_at here 0

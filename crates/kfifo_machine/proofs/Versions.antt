@@ -13,7 +13,7 @@ use Rattle.kfifo_machine.specs.declared.place.Access.TheVariants.{Exchange}
 use Rattle.kfifo_machine.specs.Program.{access, accessed, sealed_word}
 use Rattle.kfifo_machine.specs.Machine.{World, word_at, place_of, words_after, moved, ticked, sealed, may_seal, step, run}
 use Rattle.kfifo_machine.specs.Runs.{going}
-use Rattle.kfifo_machine.specs.Places.{IsEnds, IsPlace}
+use Rattle.kfifo_machine.specs.Places.{IsPlace}
 use Rattle.kfifo_machine.specs.Laws.{NoneFalls, OneWord}
 use Rattle.kfifo_machine.proofs.Places.{in_table, get_or-after}
 use Rattle.kfifo_machine.proofs.Schedules.{Some-injective, first_made, stepped}
@@ -118,19 +118,18 @@ ends_word-later : (word head tail version : ℕ) → head < 4096 → tail < 4096
 unfolding version_of ends_word
 ends_word-later word head tail version h t up = omega arith
 
-seal-rises : (shape : Shape) (ends : ℕ) → IsEnds shape ends → version_of ends < shape.last → ends < sealed_word shape ends
-seal-rises shape ends is up =
-    ends_word-later ends (head_of ends) (tail_of ends) shape.last (omega (arith, is.head)) (omega (arith, is.tail)) up
+seal-rises : (shape : Shape) (ends : ℕ) → version_of ends < shape.last → ends < sealed_word shape ends
+unfolding head_of tail_of
+seal-rises shape ends up = ends_word-later ends _ _ shape.last (omega arith) (omega arith) up
 
-pub ends-sound : (shape : Shape) (here : World) → IsSound shape here → IsEnds shape (word_at here 0)
-unfolding word_at
-ends-sound shape here sound = sound.ends
+pub seal-above : (shape : Shape) (ends : ℕ) → may_seal shape ends ≡ true → ends < sealed_word shape ends
+seal-above shape ends may = seal-rises shape ends (sealable shape ends may).1
 
 -- the sealed ends name the same segments, with the last version
-pub sealed-same : (shape : Shape) (ends : ℕ) → IsEnds shape ends → (head_of (sealed_word shape ends) ≡ head_of ends)
+pub sealed-same : (shape : Shape) (ends : ℕ) → (head_of (sealed_word shape ends) ≡ head_of ends)
     × (tail_of (sealed_word shape ends) ≡ tail_of ends) × (version_of (sealed_word shape ends) ≡ shape.last)
 unfolding head_of tail_of version_of ends_word
-sealed-same shape ends is = (omega (arith, is.head, is.tail), omega (arith, is.head, is.tail), omega (arith, is.head, is.tail))
+sealed-same shape ends = (omega arith, omega arith, omega arith)
 
 -- the clock
 ticked-clock : (shape : Shape) (here : World) → IsSound shape here
@@ -219,8 +218,7 @@ word_rises shape here e there outcome i sound is =
         | inr (inl t) ↦ omega (arith, one.ticked i t)
         | inr (inr z) ↦
             let k = one.sealed i z in
-            let ends : IsEnds shape (word_at here i) = subst (λ j. IsEnds shape (word_at here j)) (sym z.ends) (ends-sound shape here sound) in
-            omega (arith, k.2, seal-rises shape (word_at here i) ends k.1)
+            omega (arith, k.2, seal-rises shape (word_at here i) k.1)
       ]
     ]
 
