@@ -118,7 +118,7 @@ pub record OutsideCalls (shape : Shape) (w v : ℕ → ℕ) : Type 0 where
   pub head : head_of (v 0) ≡ head_of (w 0)
   pub tail : tail_of (v 0) ≡ tail_of (w 0)
 
-tick_outside : (shape : Shape) (w : ℕ → ℕ) (x : ℕ) → OutsideCalls shape w (noted w (clock_at shape.k shape.n) x)
+pub tick_outside : (shape : Shape) (w : ℕ → ℕ) (x : ℕ) → OutsideCalls shape w (noted w (clock_at shape.k shape.n) x)
 tick_outside shape w x =
     let ends : noted w (clock_at shape.k shape.n) x 0 ≡ w 0 = noted-other w (clock_at shape.k shape.n) 0 x (λ z. omega (arith, z)) in
     record {
@@ -128,7 +128,7 @@ tick_outside shape w x =
       tail = ap tail_of ends;
     }
 
-seal_outside : (shape : Shape) (w : ℕ → ℕ) → may_seal shape (w 0) ≡ true → OutsideCalls shape w (noted w 0 (sealed_word shape (w 0)))
+pub seal_outside : (shape : Shape) (w : ℕ → ℕ) → may_seal shape (w 0) ≡ true → OutsideCalls shape w (noted w 0 (sealed_word shape (w 0)))
 seal_outside shape w may =
     let ends : noted w 0 (sealed_word shape (w 0)) 0 ≡ sealed_word shape (w 0) = noted-same w 0 0 (sealed_word shape (w 0)) refl in
     let same = sealed-same shape (w 0) in

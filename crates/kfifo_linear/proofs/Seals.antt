@@ -43,14 +43,14 @@ use Rattle.kfifo_linear.proofs.Agrees.{InvAt, end_of}
 use Rattle.kfifo_linear.proofs.Schedule.{agreed}
 
 -- the invariant after every schedule, and a thread's access is within the table
-inv_after : (shape : Shape) (threads : ℕ) (events : List Event) (here : World) → after shape threads events ≡ Some here
+pub inv_after : (shape : Shape) (threads : ℕ) (events : List Event) (here : World) → after shape threads events ≡ Some here
     → InvAt shape here (ledger_after_all shape threads events)
 inv_after shape threads events here is = record {
   size = (sound shape threads events here is).size;
   holds = invariant shape threads events here is;
 }
 
-inv_within : (shape : Shape) (here : World) (l : Ledger) (t : ℕ) (r : Running) → InvAt shape here l → place_of here t ≡ Some r
+pub inv_within : (shape : Shape) (here : World) (l : Ledger) (t : ℕ) (r : Running) → InvAt shape here l → place_of here t ≡ Some r
     → accessed (access shape r) < length here.words
 inv_within shape here l t r inv at =
     omega (arith, inv_table shape (word_at here) (place_of here) l t r inv.holds at, inv.size)
@@ -123,7 +123,7 @@ pub record Emptied (shape : Shape) (here : World) (e : Event) (next : World) (l 
   pub together : head_of (word_at here 0) ≡ tail_of (word_at here 0)
   pub same : word_at next 0 ≡ word_at here 0
 
-event_empties : (shape : Shape) (here : World) (e : Event) (next : World) (l : Ledger) → InvAt shape here l
+pub event_empties : (shape : Shape) (here : World) (e : Event) (next : World) (l : Ledger) → InvAt shape here l
     → step shape here e ≡ Ok (next, Ended Empty) → Emptied shape here e next l
 unfolding ledger_after found
 event_empties shape here e next l inv made =
@@ -161,7 +161,7 @@ unfolding ledger.stepped called
 dequeue_settles_none shape w t start turns l i = refl
 
 -- an event that leaves the ends as they are settles nothing
-event_settles_none : (shape : Shape) (here : World) (e : Event) (next : World) (outcome : Outcome) (l : Ledger) → InvAt shape here l
+pub event_settles_none : (shape : Shape) (here : World) (e : Event) (next : World) (outcome : Outcome) (l : Ledger) → InvAt shape here l
     → step shape here e ≡ Ok (next, outcome) → head_of (word_at here 0) ≡ tail_of (word_at here 0)
     → word_at next 0 ≡ word_at here 0 → NoneSettled shape l → NoneSettled shape (ledger_after shape here e l)
 unfolding ledger_after
@@ -215,7 +215,7 @@ ledger_on : (shape : Shape) (here : World) (e : Event) (next : World) (outcome :
 ledger_on shape here e next outcome es l made = ap (λ r. ledger_of shape (world_of r) es (ledger_after shape here e l)) made
 
 -- events that leave the ends as they are
-run_settles_none : (shape : Shape) (here there : World) (events : List Event) (l : Ledger) → IsSound shape here → InvAt shape here l
+pub run_settles_none : (shape : Shape) (here there : World) (events : List Event) (l : Ledger) → IsSound shape here → InvAt shape here l
     → run shape (Some here) events ≡ Some there → head_of (word_at here 0) ≡ tail_of (word_at here 0)
     → word_at there 0 ≡ word_at here 0 → NoneSettled shape l → NoneSettled shape (ledger_of shape (Some here) events l)
 run_settles_none shape here there [] l safe inv is together same none = none
@@ -241,7 +241,7 @@ seals_settle_none shape here there (e ∷ es) l all is none =
     (seal_settles_none shape here e m.0 m.1.0 l m.1.1.0 all.0 none))
 
 -- Ends of the last version stand for ever
-event_stands : (shape : Shape) (here : World) (e : Event) (next : World) (outcome : Outcome) → IsSound shape here
+pub event_stands : (shape : Shape) (here : World) (e : Event) (next : World) (outcome : Outcome) → IsSound shape here
     → step shape here e ≡ Ok (next, outcome) → version_of (word_at here 0) ≡ shape.last → word_at next 0 ≡ word_at here 0
 event_stands shape here e next outcome safe made last =
     let one = one_word shape here e next outcome safe made in
@@ -266,7 +266,7 @@ run_stands shape here there (e ∷ es) safe is last =
     run_stands shape m.0 there es (step_sound shape here e m.0 m.1.0 safe m.1.1.0) m.1.1.1 (ap version_of first ∙ last) ∙ first
 
 -- the ledger of a schedule that goes on
-ledger-append : (shape : Shape) (world here : World) (xs ys : List Event) (l : Ledger) → run shape (Some world) xs ≡ Some here
+pub ledger-append : (shape : Shape) (world here : World) (xs ys : List Event) (l : Ledger) → run shape (Some world) xs ≡ Some here
     → ledger_of shape (Some world) (xs ++ ys) l ≡ ledger_of shape (Some here) ys (ledger_of shape (Some world) xs l)
 ledger-append shape world here [] ys l is = ap (λ (w : World). ledger_of shape (Some w) ys l) (Some-injective world here is)
 ledger-append shape world here (x ∷ xs) ys l is =
@@ -276,7 +276,7 @@ ledger-append shape world here (x ∷ xs) ys l is =
     ∙ ap (ledger_of shape (Some here) ys) (sym (ledger_on shape world x m.0 m.1.0 xs l m.1.1.0))
 
 -- with no settled item, where every thread is idle no slot is filled: each item in a slot is that of an enqueue in progress
-none_left : (shape : Shape) (threads : ℕ) (events : List Event) (here : World) → threads ≤ 64 → after shape threads events ≡ Some here
+pub none_left : (shape : Shape) (threads : ℕ) (events : List Event) (here : World) → threads ≤ 64 → after shape threads events ≡ Some here
     → NoneSettled shape (ledger_after_all shape threads events) → ((thread : ℕ) → place_of here thread ≡ None)
     → (i : ℕ) → IsSlotIndex shape i → value_of (word_at here i) ≡ 0
 none_left shape threads events here few is none idle i is_slot =
