@@ -10,7 +10,6 @@ use Rattle.kfifo_machine.specs.declared.event.Begin.TheVariants.{Tick}
 use Rattle.kfifo_machine.specs.declared.place.Next.TheVariants.{Answers}
 use Rattle.kfifo_machine.specs.Machine.{World, opening, place_of, run, ticked, word_at, world_of}
 use Rattle.kfifo_machine.specs.Runs.{Begins, CompleteExecution, event, own}
-use Rattle.kfifo_machine.proofs.Budget.{tick_leaves}
 use Rattle.kfifo_machine.proofs.Schedules.{after-snoc, own-append, run_on, same_place, still_threads}
 use Rattle.kfifo_live.specs.Hands.{Gifts, carrying}
 use Rattle.kfifo_live.specs.Schedule.{gifts_of, hand_of, hand_in, stamped_opening, IsSmall, part, view_of, world_after, thread_in}
@@ -26,6 +25,11 @@ use Rattle.kfifo_linear.proofs.Schedule.{has_legal_order, few_overtake, few_cert
 length-ticked : (shape : Shape) (world : World) → length (ticked shape world).places ≡ length world.places
 unfolding ticked
 length-ticked shape world = refl
+
+-- a tick leaves each thread where it was
+tick_leaves : (shape : Shape) (here : World) (thread : ℕ) → place_of (ticked shape here) thread ≡ place_of here thread
+unfolding ticked place_of
+tick_leaves shape here thread = refl
 
 -- a pass acts for its thread
 pub pass_thread : {T : Type 0} (thread : ℕ) (me : Me (Option T) (View T)) → IsPass thread me → thread_of me.0 ≡ thread

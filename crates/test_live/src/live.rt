@@ -44,7 +44,7 @@ fn call(queue: &Queue, pass: &mut Pass, begin: Begin) -> Option<Answer>
                 None
             }
         }
-        Begin::Tick => None,
+        Begin::Tick | Begin::Seal => None,
     }
 }
 
