@@ -54,7 +54,7 @@ idle_on o thread seen all here end reached within idle b there =
     (omega (arith, within, still), same_place o.shape here end b.rest thread b.no_own onward ∙ idle)
 
 -- its opening is as small as before
-few_same : {T : Type 0} (v w : View T) (parts : List (Part T)) → w ≡ view_of v.opened parts → IsSmall v.opened → IsSmall w.opened
+pub few_same : {T : Type 0} (v w : View T) (parts : List (Part T)) → w ≡ view_of v.opened parts → IsSmall v.opened → IsSmall w.opened
 few_same {T} v w parts is few = subst IsSmall (sym (ap (λ (x : View T). x.opened) is)) few
 
 passes_on : {T : Type 0} (thread : ℕ) (old new : Me (Option T) (View T)) (all : List Event) (gifts : Gifts T) (end : World)
@@ -83,7 +83,7 @@ passes_on {T} thread old new all gifts end p is held b there =
       few = few_same old.0 new.0 (part thread all gifts _ ∷ []) is p.few;
     }
 
-alone_with : {T : Type 0} (thread : ℕ) (old : Me (Option T) (View T)) (all : List Event) (gifts : Gifts T) (hand : Hand T)
+pub alone_with : {T : Type 0} (thread : ℕ) (old : Me (Option T) (View T)) (all : List Event) (gifts : Gifts T) (hand : Hand T)
     → IsPass thread old → with_seen old.0 all gifts hand ≡ view_of old.0.opened (part thread all gifts hand ∷ [])
 alone_with {T} thread old all gifts hand p =
     ap (λ (ps : List (Part T)). view_of old.0.opened (part (thread_in ps) all gifts hand ∷ more_in ps)) p.alone

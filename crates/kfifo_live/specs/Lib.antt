@@ -11,6 +11,7 @@ pub mod Tokens
 pub mod Handles
 pub mod Balance
 pub mod Calls
+pub mod Seals
 pub mod Stamps
 pub mod Faults
 pub mod Refusals

@@ -11,6 +11,7 @@ use kfifo_model::{Answer, MAX_ITEM};
 mod handles;
 mod payloads;
 mod pool;
+mod seals;
 pub(crate) mod stamps;
 mod steps;
 mod threads;
