@@ -1,7 +1,7 @@
 -- What the command `record` comes to.
 use Rattle.std.proofs.Common.{◌≡◌, ◌⊎◌, ◌<◌, ◌≤◌, ℕ, zero, suc, ◌+◌, List, [], ◌∷◌, length, All, inl, inr, refl, subst, sym, arith}
 use Rattle.kfifo_cli_commands.proofs.Types.{Begin, Fault, Shape}
-use Rattle.kfifo_machine.specs.declared.event.Begin.TheVariants.{Enqueue, Dequeue, Tick}
+use Rattle.kfifo_machine.specs.declared.event.Begin.TheVariants.{Enqueue, Dequeue, Tick, Seal}
 use Rattle.kfifo_live.specs.declared.fault.OpenFault.{OpenFault}
 use Rattle.kfifo_live.specs.declared.fault.OpenFault.TheVariants as opens
 use Rattle.kfifo_record.specs.Repeats.{IsFirstOver, all_repeated, last_shift}
@@ -29,6 +29,7 @@ in_range : (shape : Shape) (turns : ℕ) (word : List ℕ) (call : Begin) → 1 
 in_range shape turns word (Enqueue item start rounds) some w = (w.0.some_item, w.0.item_fits, w.0.start_fits, omega (arith, some, w.1))
 in_range shape turns word (Dequeue start rounds) some w = (w.0.start_fits, omega (arith, some, w.1))
 in_range shape turns word Tick some w = absurd w
+in_range shape turns word Seal some w = absurd w
 
 each_call : (shape : Shape) (turns : ℕ) (words : List (List ℕ)) (calls : List Begin) → 1 ≤ turns
     → EachWrites (WritesCall shape.k turns) words calls → All (IsCall shape) calls

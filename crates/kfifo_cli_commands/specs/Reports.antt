@@ -4,7 +4,7 @@ use Rattle.kfifo_words.specs.declared.shape.Shape.{Shape}
 use Rattle.kfifo_words.specs.Ring.{slot_at}
 use Rattle.kfifo_model.specs.declared.calls.Answer.{Answer}
 use Rattle.kfifo_machine.specs.declared.event.Begin.{Begin}
-use Rattle.kfifo_machine.specs.declared.event.Begin.TheVariants.{Enqueue, Dequeue, Tick}
+use Rattle.kfifo_machine.specs.declared.event.Begin.TheVariants.{Enqueue, Dequeue, Tick, Seal}
 use Rattle.kfifo_machine.specs.declared.event.Event.{Event}
 use Rattle.kfifo_machine.specs.Machine.{World, after, word_at}
 use Rattle.kfifo_machine.specs.Runs.{CompleteExecution}
@@ -22,6 +22,7 @@ abbrev pub call_line : Begin → Answer → List ℕ
 call_line (Enqueue item start turns) answer = enqueue_line item answer
 call_line (Dequeue start turns) answer = dequeue_line answer
 call_line Tick answer = []
+call_line Seal answer = []
 
 -- Calls that were made in turn by thread 0 of a machine with one thread, each as one complete execution with its
 -- answer: the schedule has grown from old to new, and the lines of the calls are this text

@@ -2,7 +2,7 @@
 use Rattle.std.proofs.Common.{◌≡◌, ◌≢◌, ℕ, ◌<◌, ◌≤◌, List, [], ◌∷◌, inl, inr, arith, refl, sym, ◌∙◌, subst}
 use Rattle.std.proofs.lemmas.Str.Parse.{not_in_digits}
 use Rattle.kfifo_machine.specs.declared.event.Begin.{Begin}
-use Rattle.kfifo_machine.specs.declared.event.Begin.TheVariants.{Enqueue, Dequeue, Tick}
+use Rattle.kfifo_machine.specs.declared.event.Begin.TheVariants.{Enqueue, Dequeue, Tick, Seal}
 use Rattle.kfifo_cli_texts.specs.Words.{Cuts, WritesNumber, WritesStart, WritesEnqueue, WritesDequeue, WritesCall}
 use Rattle.kfifo_cli_texts.proofs.FirstCut.{IsPlain, IsRest, cut_once, plain_cons}
 use Rattle.kfifo_cli_requests.proofs.Digits.{own}
@@ -52,6 +52,7 @@ no_call k turns word none (Enqueue item start rounds) w =
     none (101 ∷ w.0.number) w.0.rest start (enqueue_cut w.0) w.0.start_fits w.0.start_written
 no_call k turns word none (Dequeue start rounds) w = none (100 ∷ []) w.0.rest start (dequeue_cut w.0) w.0.start_fits w.0.start_written
 no_call k turns word none Tick w = w
+no_call k turns word none Seal w = w
 
 -- a cut, and the start behind it
 abbrev pub IsCut : ℕ → List ℕ → List ℕ → ℕ → Type 0
@@ -68,6 +69,7 @@ no_item k turns word name number start cut e none (Dequeue slot rounds) w =
     let names : 100 ∷ [] ≡ name = (same_cut word _ _ name cut.0 slot start (dequeue_cut w.0) cut.1 w.0.start_written cut.2).0 in
     heads_differ 100 101 [] number (λ same. omega (arith, same)) (names ∙ e)
 no_item k turns word name number start cut e none Tick w = w
+no_item k turns word name number start cut e none Seal w = w
 
 -- the name is neither an enqueue's nor a dequeue's
 pub no_name : (k turns : ℕ) (word name : List ℕ) (start : ℕ) → IsCut k word name start → ((number : List ℕ) → name ≢ 101 ∷ number)
@@ -77,3 +79,4 @@ no_name k turns word name start cut not_enqueue not_dequeue (Enqueue item slot r
 no_name k turns word name start cut not_enqueue not_dequeue (Dequeue slot rounds) w =
     not_dequeue (sym (same_cut word _ _ name cut.0 slot start (dequeue_cut w.0) cut.1 w.0.start_written cut.2).0)
 no_name k turns word name start cut not_enqueue not_dequeue Tick w = w
+no_name k turns word name start cut not_enqueue not_dequeue Seal w = w

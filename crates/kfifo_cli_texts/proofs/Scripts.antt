@@ -3,7 +3,7 @@ use Rattle.std.proofs.Common.{◌≡◌, ℕ, ◌+◌, ◌<◌, ◌≤◌, List,
 use Rattle.std.proofs.lemmas.List.{get_or_default, get_or_push}
 use Rattle.std.proofs.Math.ListN.{get_or-append}
 use Rattle.kfifo_machine.specs.declared.event.Begin.{Begin}
-use Rattle.kfifo_machine.specs.declared.event.Begin.TheVariants.{Enqueue, Dequeue, Tick}
+use Rattle.kfifo_machine.specs.declared.event.Begin.TheVariants.{Enqueue, Dequeue, Tick, Seal}
 use Rattle.kfifo_cli_texts.specs.Words.{WritesCall, WritesCalls, IsCall, IsFirstUnread}
 
 module _ (k turns : ℕ) (words : List (Bor (List ℕ))) where
@@ -41,6 +41,7 @@ called : (k turns : ℕ) (word : List ℕ) (call : Begin) → 1 ≤ turns → Wr
 called k turns word (Enqueue item start rounds) some w = (w.0.some_item, w.0.item_fits, w.0.start_fits, omega (arith, some, w.1))
 called k turns word (Dequeue start rounds) some w = (w.0.start_fits, omega (arith, some, w.1))
 called k turns word Tick some w = w
+called k turns word Seal some w = w
 
 -- each call that words write may be made
 pub all_called : (k turns : ℕ) (words : List (Bor (List ℕ))) (calls : List Begin) → 1 ≤ turns → WritesCalls k turns words calls

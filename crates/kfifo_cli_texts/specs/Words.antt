@@ -6,7 +6,7 @@ use Rattle.std.specs.Str.Parse.{digits_value}
 use Rattle.kfifo_words.specs.declared.word.TheConstants.{VALUES}
 use Rattle.kfifo_cli_requests.specs.Digits.{IsDigits}
 use Rattle.kfifo_machine.specs.declared.event.Begin.{Begin}
-use Rattle.kfifo_machine.specs.declared.event.Begin.TheVariants.{Enqueue, Dequeue, Tick}
+use Rattle.kfifo_machine.specs.declared.event.Begin.TheVariants.{Enqueue, Dequeue, Tick, Seal}
 
 -- 1 to 10 decimal digits write this number
 pub record WritesNumber (text : List ℕ) (number : ℕ) : Type 0 where
@@ -55,12 +55,14 @@ abbrev pub WritesCall : ℕ → ℕ → List ℕ → Begin → Type 0
 WritesCall k turns word (Enqueue item start rounds) = WritesEnqueue k word item start × (rounds ≡ turns)
 WritesCall k turns word (Dequeue start rounds) = WritesDequeue k word start × (rounds ≡ turns)
 WritesCall k turns word Tick = ⊥
+WritesCall k turns word Seal = ⊥
 
 -- a call that a pass may make where segments have k slots
 abbrev pub IsCall : ℕ → Begin → Type 0
 IsCall k (Enqueue item start turns) = (1 ≤ item) × (item < VALUES) × (start < k) × (1 ≤ turns)
 IsCall k (Dequeue start turns) = (start < k) × (1 ≤ turns)
 IsCall k Tick = ⊥
+IsCall k Seal = ⊥
 
 -- each word writes the call in its place
 pub record WritesCalls (k turns : ℕ) (words : List (Bor (List ℕ))) (calls : List Begin) : Type 0 where

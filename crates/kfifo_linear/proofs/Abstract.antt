@@ -1,5 +1,5 @@
 -- The machine over words and places as functions, and inductions over its schedules.
-use Rattle.std.proofs.Common.{◌==◌, ltb, ◌≡◌, ℕ, ◌+◌, ◌*◌, ◌<◌, ◌⊎◌, inl, inr, true, cond, eqb, refl, sym, ◌∙◌, ap, subst, arith, List, []}
+use Rattle.std.proofs.Common.{◌==◌, ltb, ◌≡◌, ℕ, ◌+◌, ◌*◌, ◌<◌, ◌⊎◌, ◌≤◌, inl, inr, true, cond, eqb, refl, sym, ◌∙◌, ap, subst, arith, List, []}
 use Rattle.std.proofs.Common.{◌∷◌, length, get_or, set, Option, Some, None, Result, Ok, Err}
 use Rattle.std.proofs.lemmas.Bool.{cases_Bool, cond_both, ltb-true, cases_eq}
 use Rattle.std.proofs.lemmas.Grind.{get_or-set_at}
@@ -12,14 +12,16 @@ use Rattle.kfifo_machine.specs.declared.event.Begin.TheVariants as B
 use Rattle.std.proofs.lemmas.Option.{none-some, same_Some}
 use Rattle.std.proofs.Math.Path.{fun_ext}
 use Rattle.kfifo_linear.specs.Ledger.{Ledger, called, found_in, ledger_after, ledger_from, ledger_of, noted, stepped}
-use Rattle.kfifo_machine.specs.Machine.{World, begun, found, may_begin, moved, place_after, place_of, run, step, step_from, ticked, word_at}
+use Rattle.kfifo_machine.specs.Machine.{World, begun, found, may_begin, may_seal, moved, place_after, place_of, run, sealed, step, step_from, ticked, word_at}
 use Rattle.kfifo_machine.specs.Machine.{words_after}
-use Rattle.kfifo_machine.specs.Program.{access, accessed, advance}
+use Rattle.kfifo_machine.specs.Program.{access, accessed, advance, sealed_word}
+use Rattle.kfifo_machine.proofs.Versions.{sealable, sealed-same, seal-above}
 use Rattle.kfifo_linear.proofs.Types.{Begin, Event, Outcome, Running, Shape}
 use Rattle.kfifo_machine.specs.declared.event.NotEnabled.{NotEnabled}
 use Rattle.kfifo_machine.specs.declared.place.Access.{Access}
 use Rattle.kfifo_machine.specs.declared.place.Access.TheVariants.{Exchange, Load}
 use Rattle.kfifo_words.specs.Ring.{clock_at}
+use Rattle.kfifo_words.specs.Words.{head_of, tail_of}
 
 pub noted-same : {X : Type 0} (notes : ℕ → X) (i j : ℕ) (x : X) → j ≡ i → noted notes i x j ≡ x
 unfolding noted
@@ -109,7 +111,35 @@ on_result : {P : Type 0} (r : Result (World × Outcome) NotEnabled) → ((next :
 on_result (Ok v) ok err = ok v.0 v.1 refl
 on_result (Err f) ok err = err f refl
 
--- An induction over schedules: what a call's begin, a thread's step and a tick keep holds after every schedule.
+-- what a tick and a seal leave of the words: the slots, and where head and tail are
+pub record OutsideCalls (shape : Shape) (w v : ℕ → ℕ) : Type 0 where
+  pub slots : (i : ℕ) → 0 < i → i < clock_at shape.k shape.n → v i ≡ w i
+  pub rise : w 0 ≤ v 0
+  pub head : head_of (v 0) ≡ head_of (w 0)
+  pub tail : tail_of (v 0) ≡ tail_of (w 0)
+
+pub tick_outside : (shape : Shape) (w : ℕ → ℕ) (x : ℕ) → OutsideCalls shape w (noted w (clock_at shape.k shape.n) x)
+tick_outside shape w x =
+    let ends : noted w (clock_at shape.k shape.n) x 0 ≡ w 0 = noted-other w (clock_at shape.k shape.n) 0 x (λ z. omega (arith, z)) in
+    record {
+      slots = λ i above below. noted-other w (clock_at shape.k shape.n) i x (λ z. omega (arith, below, z));
+      rise = omega arith;
+      head = ap head_of ends;
+      tail = ap tail_of ends;
+    }
+
+pub seal_outside : (shape : Shape) (w : ℕ → ℕ) → may_seal shape (w 0) ≡ true → OutsideCalls shape w (noted w 0 (sealed_word shape (w 0)))
+seal_outside shape w may =
+    let ends : noted w 0 (sealed_word shape (w 0)) 0 ≡ sealed_word shape (w 0) = noted-same w 0 0 (sealed_word shape (w 0)) refl in
+    let same = sealed-same shape (w 0) in
+    record {
+      slots = λ i above below. noted-other w 0 i (sealed_word shape (w 0)) (λ z. absurd (omega (arith, above, z)));
+      rise = omega (arith, seal-above shape (w 0) may);
+      head = ap head_of ends ∙ same.0;
+      tail = ap tail_of ends ∙ same.1;
+    }
+
+-- An induction over schedules: what a call's begin, a thread's step, and a tick or a seal keep holds after every schedule.
 module _ (shape : Shape) (Inv : (ℕ → ℕ) → (ℕ → Option Running) → Ledger → Type 0)
     (in_table : (w : ℕ → ℕ) (p : ℕ → Option Running) (l : Ledger) (t : ℕ) (r : Running) → Inv w p l → p t ≡ Some r
     → accessed (access shape r) < table_size shape)
@@ -117,8 +147,7 @@ module _ (shape : Shape) (Inv : (ℕ → ℕ) → (ℕ → Option Running) → L
     → may_begin shape b ≡ true → begun b ≡ Some r → Inv w (noted p t (Some r)) (called t b l))
     (steps : (w : ℕ → ℕ) (p : ℕ → Option Running) (l : Ledger) (t : ℕ) (r : Running) → Inv w p l → p t ≡ Some r
     → Inv (words_by (access shape r) w) (noted p t (place_after (advance shape r (found_in shape w r)))) (stepped shape w t r l))
-    (ticks : (w : ℕ → ℕ) (p : ℕ → Option Running) (l : Ledger) → Inv w p l
-    → Inv (noted w (clock_at shape.k shape.n) (w (clock_at shape.k shape.n) + 1)) p (record l { now = l.now + 1 }))
+    (outside : (w v : ℕ → ℕ) (p : ℕ → Option Running) (l : Ledger) → OutsideCalls shape w v → Inv w p l → Inv v p (record l { now = l.now + 1 }))
   where
     -- a world and a ledger at which it holds
     pub record At (world : World) (l : Ledger) : Type 0 where
@@ -173,7 +202,20 @@ module _ (shape : Shape) (Inv : (ℕ → ℕ) → (ℕ → Option Running) → L
           size = length-set world.words (clock_at shape.k shape.n) (get_or world.words (clock_at shape.k shape.n) 0 + 1) ∙ h.size;
           holds = subst (λ w. Inv w (place_of world) (record l { now = l.now + 1 }))
               (fun_ext (λ i. sym (get_or-set-noted world.words (clock_at shape.k shape.n) i
-              (get_or world.words (clock_at shape.k shape.n) 0 + 1) 0 within))) (ticks (word_at world) (place_of world) l h.holds);
+              (get_or world.words (clock_at shape.k shape.n) 0 + 1) 0 within)))
+              (outside (word_at world) _ (place_of world) l (tick_outside shape (word_at world) _) h.holds);
+        }
+
+    sealed_at : (world : World) (l : Ledger) → may_seal shape (word_at world 0) ≡ true → At world l
+        → At (sealed shape world) (record l { now = l.now + 1 })
+    unfolding sealed word_at place_of
+    sealed_at world l may h =
+        let within : 0 < length world.words = omega (arith, h.size) in
+        record {
+          size = length-set world.words 0 (sealed_word shape (get_or world.words 0 0)) ∙ h.size;
+          holds = subst (λ w. Inv w (place_of world) (record l { now = l.now + 1 }))
+              (fun_ext (λ i. sym (get_or-set-noted world.words 0 i (sealed_word shape (get_or world.words 0 0)) 0 within)))
+              (outside (word_at world) _ (place_of world) l (seal_outside shape (word_at world) may) h.holds);
         }
 
     step_at : (world next : World) (outcome : Outcome) (thread : ℕ) (place : Option Running) (begin : Option Begin) (l : Ledger)
@@ -208,6 +250,13 @@ module _ (shape : Shape) (Inv : (ℕ → ℕ) → (ℕ → Option Running) → L
           | inr m ↦
               let s : ticked shape world ≡ next = ok_world (rw m at e) in
               subst (λ w. At w (record l { now = l.now + 1 })) s (ticked_at world l h)
+        ]
+    step_at world next outcome thread None (Some B.Seal) l t p h e =
+        elim (cases_Bool (may_seal shape (word_at world 0))) [
+          | inl m ↦
+              let s : sealed shape world ≡ next = ok_world (rw m at e) in
+              subst (λ w. At w (record l { now = l.now + 1 })) s (sealed_at world l m h)
+          | inr m ↦ absurd (err_ok (rw m at e))
         ]
     step_at world next outcome thread (Some r) None l t p h e =
         subst (λ w. At w (stepped shape (word_at world) thread r l)) (ok_world e)

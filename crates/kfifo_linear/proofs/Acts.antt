@@ -36,6 +36,7 @@ can_stand : (b : Begin) → item_of b ≢ 0 → CanStand None (op_of b)
 can_stand (B.Enqueue item start turns) some = tt
 can_stand (B.Dequeue start turns) some = absurd (some refl)
 can_stand B.Tick some = absurd (some refl)
+can_stand B.Seal some = absurd (some refl)
 
 got_item : (begin : ℕ → Begin) (x : Answer) (o v p : ℕ) → Fits begin x (Took o v p) → x ≡ Got (item_of (begin o))
 got_item begin (Got item) o v p fits = ap Got (sym fits)

@@ -24,13 +24,14 @@ use Rattle.kfifo_linear.specs.Ledger.{Ledger, noted, found_in, called, ledger_fr
 use Rattle.kfifo_linear.specs.Ledger as ledger
 use Rattle.kfifo_linear.proofs.Abstract.{At, event_at, noted-same, noted-other}
 use Rattle.kfifo_linear.proofs.Invariant.{Inv}
-use Rattle.kfifo_linear.proofs.Whole.{inv_table, inv_begin, inv_step, inv_tick}
+use Rattle.kfifo_linear.proofs.Whole.{inv_table, inv_begin, inv_step, inv_outside}
 
 -- what a begin asks for
 abbrev pub op_of : Begin → Op
 op_of (B.Enqueue item start turns) = O.Enqueue item
 op_of (B.Dequeue start turns) = O.Dequeue
 op_of B.Tick = O.Dequeue
+op_of B.Seal = O.Dequeue
 
 -- the end of a call with this last step and this answer
 abbrev pub end_of : Option ℕ → Option Answer → Option End
@@ -163,8 +164,8 @@ agree_ends shape w t r x log l place h answers known =
       latest = h.latest;
     })
 
-agree_tick : (log : Log) (l : Ledger) (place : ℕ) → Agrees log l place → Agrees log (record l { now = l.now + 1 }) (place + 1)
-agree_tick log l place h =
+agree_outside : (log : Log) (l : Ledger) (place : ℕ) → Agrees log l place → Agrees log (record l { now = l.now + 1 }) (place + 1)
+agree_outside log l place h =
     record {
       count = h.count;
       now = ap (λ n. n + 1) h.now;
@@ -176,7 +177,7 @@ agree_tick log l place h =
 
 -- the invariant of a world and a ledger
 abbrev pub InvAt : Shape → World → Ledger → Type 0
-InvAt shape world l = At shape (Inv shape) (inv_table shape) (inv_begin shape) (inv_step shape) (inv_tick shape) world l
+InvAt shape world l = At shape (Inv shape) (inv_table shape) (inv_begin shape) (inv_step shape) (inv_outside shape) world l
 
 module _ (shape : Shape) (world next : World) (outcome : Outcome) (e : Event) (log : Log) (l : Ledger) (place : ℕ)
     (inv : InvAt shape world l) (h : Agrees log l place) (known : length log.latest ≡ length world.places)
@@ -208,17 +209,24 @@ module _ (shape : Shape) (world next : World) (outcome : Outcome) (e : Event) (l
       begins_so (B.Enqueue item start turns) (R.Enqueue item start turns E.LoadEnds) _ refl
   by_place None (Some (B.Dequeue start turns)) r was goes comes =
       begins_so (B.Dequeue start turns) (R.Dequeue start turns D.LoadEnds) _ refl
-  by_place None (Some B.Tick) r was goes comes = agree_tick log l place h
+  by_place None (Some B.Tick) r was goes comes = agree_outside log l place h
+  by_place None (Some B.Seal) r was goes comes = agree_outside log l place h
 
   agree_step : Agrees (logged place e.thread e.begin outcome log) (ledger_after shape world e l) (place + 1)
   unfolding ledger_after found
   agree_step =
       elim (stepped shape world e next outcome made) [
         | inl s ↦ by_place (place_of world e.thread) e.begin s.running refl s.goes s.outcome_is
-        | inr t ↦
-            let goal : Agrees (logged place e.thread (Some B.Tick) outcome log)
-            (ledger_from shape (word_at world) e.thread None (Some B.Tick) l) (place + 1) = agree_tick log l place h in
-            rw (t.begins, t.idle) goal
+        | inr o ↦ elim o.by [
+          | inl t ↦
+              let goal : Agrees (logged place e.thread (Some B.Tick) outcome log)
+              (ledger_from shape (word_at world) e.thread None (Some B.Tick) l) (place + 1) = agree_outside log l place h in
+              rw (t.begins, o.idle) goal
+          | inr z ↦
+              let goal : Agrees (logged place e.thread (Some B.Seal) outcome log)
+              (ledger_from shape (word_at world) e.thread None (Some B.Seal) l) (place + 1) = agree_outside log l place h in
+              rw (z.begins, o.idle) goal
+        ]
       ]
 
   -- as many threads are known
@@ -235,7 +243,7 @@ agree_all shape world final [] log l place inv h known is = let z : place ≡ pl
 agree_all shape world final (e ∷ es) log l place inv h known is =
     let m = first_made shape world e final es is in
     let at : InvAt shape m.0 (ledger_after shape world e l) =
-    event_at shape (Inv shape) (inv_table shape) (inv_begin shape) (inv_step shape) (inv_tick shape) world m.0 m.1.0 e l inv m.1.1.0 in
+    event_at shape (Inv shape) (inv_table shape) (inv_begin shape) (inv_step shape) (inv_outside shape) world m.0 m.1.0 e l inv m.1.1.0 in
     let all = agree_all shape m.0 final es (logged place e.thread e.begin m.1.0 log) (ledger_after shape world e l) (place + 1) at
     (agree_step shape world m.0 m.1.0 e log l place inv h known m.1.1.0)
     (known_step shape world m.0 m.1.0 e log l place inv h known m.1.1.0) m.1.1.1 in

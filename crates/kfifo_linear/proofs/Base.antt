@@ -9,7 +9,7 @@ use Rattle.kfifo_machine.specs.declared.place.DequeuePhase.TheVariants as D
 use Rattle.kfifo_machine.specs.declared.place.Running.TheVariants as R
 use Rattle.std.proofs.lemmas.List.{length-replicate}
 use Rattle.std.proofs.lemmas.Option.{none-some, same_Some}
-use Rattle.kfifo_linear.proofs.Abstract.{after_all, noted-other, noted-same, table_size, words_by}
+use Rattle.kfifo_linear.proofs.Abstract.{OutsideCalls, after_all, noted-other, noted-same, table_size, words_by}
 use Rattle.kfifo_linear.proofs.Ring.{head-ends_word, tail-ends_word, value-slot_word}
 use Rattle.kfifo_linear.specs.Ledger.{Ledger, blank, called, found_in, ledger_of, noted, stepped}
 use Rattle.kfifo_machine.proofs.Ring.{next-mod}
@@ -158,11 +158,11 @@ module _ (shape : Shape) where
         ];
       }
 
-  pub base_tick : (w : ℕ → ℕ) (p : ℕ → Option Running) (l : Ledger) → Base shape w p l
-      → Base shape (noted w (clock_at shape.k shape.n) (w (clock_at shape.k shape.n) + 1)) p (record l { now = l.now + 1 })
-  base_tick w p l h =
+  pub base_outside : (w v : ℕ → ℕ) (p : ℕ → Option Running) (l : Ledger) → OutsideCalls shape w v → Base shape w p l
+      → Base shape v p (record l { now = l.now + 1 })
+  base_outside w v p l o h =
       record {
-        ends = rw (noted-other w (clock_at shape.k shape.n) 0 (w (clock_at shape.k shape.n) + 1) (λ z. omega (arith, z))) h.ends;
+        ends = record { head = o.head ∙ h.ends.head; tail = o.tail ∙ h.ends.tail; ordered = h.ends.ordered; no_wrap = h.ends.no_wrap };
         sane = h.sane;
       }
 
@@ -189,6 +189,6 @@ module _ (shape : Shape) where
       → EndsOk shape (word_at final 0) (ledger_of shape (Some (opening shape threads)) events blank).head
       (ledger_of shape (Some (opening shape threads)) events blank).tail
   no_wrap threads events final e =
-      (after_all shape (Base shape) base_table base_begin base_step base_tick events (opening shape threads) final blank
+      (after_all shape (Base shape) base_table base_begin base_step base_outside events (opening shape threads) final blank
       (record { size = opening_size shape threads; holds = base_opening threads })
       e).holds.ends

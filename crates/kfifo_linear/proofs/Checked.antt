@@ -17,13 +17,13 @@ use Rattle.kfifo_linear.specs.Order.{number_at}
 use Rattle.kfifo_linear.proofs.Ring.{place_below}
 use Rattle.kfifo_linear.proofs.Numbers.{number_within}
 use Rattle.kfifo_linear.proofs.Facts.{Stands, puts_standing}
-use Rattle.kfifo_linear.proofs.Abstract.{words_by, noted_tells, noted-same, noted-other, after_all}
+use Rattle.kfifo_linear.proofs.Abstract.{OutsideCalls, words_by, noted_tells, noted-same, noted-other, after_all}
 use Rattle.kfifo_linear.proofs.Base.{Sane, get_or_replicate, opening_size}
 use Rattle.kfifo_linear.proofs.Claims.{IfGoes, EndsChange, ends_change}
 use Rattle.kfifo_linear.proofs.Invariant.{Inv, ThreadOk, InsideOk}
 use Rattle.kfifo_linear.proofs.Threads.{Slots, slots_facts, goes_at}
 use Rattle.kfifo_linear.proofs.Calls.{standing_gone}
-use Rattle.kfifo_linear.proofs.Whole.{begun_standing, inv_table, inv_begin, inv_step, inv_tick, inv_opening}
+use Rattle.kfifo_linear.proofs.Whole.{begun_standing, inv_table, inv_begin, inv_step, inv_outside, inv_opening}
 
 -- at step q the tail had not left visit v
 pub record NotLeft (l : Ledger) (v q : ℕ) : Type 0 where
@@ -172,16 +172,16 @@ module _ (shape : Shape) where
             rw k.5 (on v (l.recheck_before_put c) (h.gone c i v q was.0));
       }
 
-  checks_tick : (w : ℕ → ℕ) (p : ℕ → Option Running) (l : Ledger) → Checks shape w p l
-      → Checks shape (noted w (clock_at shape.k shape.n) (w (clock_at shape.k shape.n) + 1)) p (record l { now = l.now + 1 })
-  checks_tick w p l h =
+  checks_outside : (w v : ℕ → ℕ) (p : ℕ → Option Running) (l : Ledger) → OutsideCalls shape w v → Checks shape w p l
+      → Checks shape v p (record l { now = l.now + 1 })
+  checks_outside w v p l o h =
       let next : Ledger = record l { now = l.now + 1 } in
-      let on = λ (v q : ℕ). same_tail l next v q refl refl (omega arith) in
+      let on = λ (visit q : ℕ). same_tail l next visit q refl refl (omega arith) in
       record {
-        inv = inv_tick shape w p l h.inv;
+        inv = inv_outside shape w v p l o h.inv;
         threads = λ u q f. HasRecheck-others l next u q (on (l.tail_seen u) (l.rechecked u)) (h.threads u q f);
         inside = λ c i f. on (l.tail_at_load i) (l.recheck_before_put c) (h.inside c i f);
-        gone = λ c i v q f. on v (l.recheck_before_put c) (h.gone c i v q f);
+        gone = λ c i u q f. on u (l.recheck_before_put c) (h.gone c i u q f);
       }
 
   checks_opening : (threads : ℕ) → Checks shape (word_at (opening shape threads)) (place_of (opening shape threads)) blank
@@ -197,7 +197,7 @@ module _ (shape : Shape) where
   pub checks : (threads : ℕ) (events : List Event) (final : World) → run shape (Some (opening shape threads)) events ≡ Some final
       → Checks shape (word_at final) (place_of final) (ledger_of shape (Some (opening shape threads)) events blank)
   checks threads events final e =
-      (after_all shape (Checks shape) (λ w p l t r h f. inv_table shape w p l t r h.inv f) checks_begin checks_step checks_tick events
+      (after_all shape (Checks shape) (λ w p l t r h f. inv_table shape w p l t r h.inv f) checks_begin checks_step checks_outside events
       (opening shape threads) final blank
       (record { size = opening_size shape threads; holds = checks_opening threads })
       e).holds

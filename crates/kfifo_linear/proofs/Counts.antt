@@ -1,5 +1,5 @@
 -- The ledger's numbers of head and tail are those of the won head-ons and tail-ons.
-use Rattle.std.proofs.Common.{◌≡◌, ℕ, ◌+◌, List, [], ◌∷◌, Bool, true, false, Option, Some, None, Ok, cond, refl, ap, inl, inr, arith}
+use Rattle.std.proofs.Common.{◌≡◌, ◌⊎◌, ℕ, ◌+◌, List, [], ◌∷◌, Bool, true, false, Option, Some, None, Ok, cond, refl, ap, inl, inr, arith}
 use Rattle.std.proofs.lemmas.Bool.Decides.{nat_tests}
 use Rattle.kfifo_linear.proofs.Types.{Begin, Event, Outcome, Running, Shape}
 use Rattle.kfifo_machine.specs.declared.event.Begin.TheVariants as B
@@ -49,6 +49,7 @@ module _ (shape : Shape) (world : World) (t : ℕ) (l : Ledger) where
       let none = none_counted shape moves_head world (R.Dequeue start turns D.LoadEnds) (may_begin shape b) refl in
       omega (arith, none, head_step shape (word_at world) t (R.Dequeue start turns D.LoadEnds) (called t b l), (called_same t b l).0)
   head_from None (Some B.Tick) r e = absurd (cc)
+  head_from None (Some B.Seal) r e = absurd (cc)
   head_from (Some q) None r e = head_step shape (word_at world) t q l
   head_from (Some q) (Some b) r e = absurd (cc)
 
@@ -65,17 +66,19 @@ module _ (shape : Shape) (world : World) (t : ℕ) (l : Ledger) where
       let none = none_counted shape moves_tail world (R.Dequeue start turns D.LoadEnds) (may_begin shape b) refl in
       omega (arith, none, tail_step shape (word_at world) t (R.Dequeue start turns D.LoadEnds) (called t b l), (called_same t b l).1)
   tail_from None (Some B.Tick) r e = absurd (cc)
+  tail_from None (Some B.Seal) r e = absurd (cc)
   tail_from (Some q) None r e = tail_step shape (word_at world) t q l
   tail_from (Some q) (Some b) r e = absurd (cc)
 
-  ticked_same : (place : Option Running) (begin : Option Begin) → place ≡ None → begin ≡ Some B.Tick
+  outside_same : (place : Option Running) (begin : Option Begin) → place ≡ None → (begin ≡ Some B.Tick) ⊎ (begin ≡ Some B.Seal)
       → ((ledger_from shape (word_at world) t place begin l).head ≡ l.head + counted shape moves_head world (going shape place begin))
       × ((ledger_from shape (word_at world) t place begin l).tail ≡ l.tail + counted shape moves_tail world (going shape place begin))
-  ticked_same None (Some B.Tick) idle begins = (omega arith, omega arith)
-  ticked_same None (Some (B.Enqueue item start turns)) idle begins = absurd (cc)
-  ticked_same None (Some (B.Dequeue start turns)) idle begins = absurd (cc)
-  ticked_same None None idle begins = absurd (cc)
-  ticked_same (Some q) begin idle begins = absurd (cc)
+  outside_same None (Some B.Tick) idle begins = (omega arith, omega arith)
+  outside_same None (Some B.Seal) idle begins = (omega arith, omega arith)
+  outside_same None (Some (B.Enqueue item start turns)) idle begins = absurd (elim begins [ inl e ↦ cc | inr e ↦ cc ])
+  outside_same None (Some (B.Dequeue start turns)) idle begins = absurd (elim begins [ inl e ↦ cc | inr e ↦ cc ])
+  outside_same None None idle begins = absurd (elim begins [ inl e ↦ cc | inr e ↦ cc ])
+  outside_same (Some q) begin idle begins = absurd (cc)
 
 -- an event that was made
 event_counts : (shape : Shape) (world next : World) (e : Event) (l : Ledger)
@@ -89,7 +92,8 @@ event_counts shape world next e l made =
         head_from shape world e.thread l (place_of world e.thread) e.begin s.running s.goes,
         tail_from shape world e.thread l (place_of world e.thread) e.begin s.running s.goes,
       )
-      | inr t ↦ ticked_same shape world e.thread l (place_of world e.thread) e.begin t.idle t.begins
+      | inr o ↦ outside_same shape world e.thread l (place_of world e.thread) e.begin o.idle
+          (elim o.by [ inl t ↦ inl t.begins | inr z ↦ inr z.begins ])
     ]
 
 counts_all : (shape : Shape) (world final : World) (events : List Event) (l : Ledger) → run shape (Some world) events ≡ Some final

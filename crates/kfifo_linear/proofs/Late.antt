@@ -8,14 +8,14 @@ use Rattle.kfifo_machine.specs.declared.place.DequeuePhase.TheVariants as D
 use Rattle.kfifo_machine.specs.declared.place.Running.TheVariants as R
 use Rattle.std.proofs.lemmas.Option.{none-some, same_Some}
 use Rattle.std.proofs.Common.{List}
-use Rattle.kfifo_linear.proofs.Abstract.{after_all, noted-other, noted-same, noted_tells, words_by}
+use Rattle.kfifo_linear.proofs.Abstract.{OutsideCalls, after_all, noted-other, noted-same, noted_tells, words_by}
 use Rattle.kfifo_linear.proofs.Base.{InRing, Sane, ends_in_ring, get_or_replicate, opening_size, scan_index-is_slot}
 use Rattle.kfifo_linear.proofs.Claims.{HasLoaded, IfGoes, Loaded, segment_of, words_rise}
 use Rattle.kfifo_linear.proofs.Invariant.{HasTarget, Inv, ThreadOk, ToTake}
 use Rattle.kfifo_linear.proofs.Ring.{ends_word-above, slot_word-above}
 use Rattle.kfifo_linear.proofs.Slots.{MovesHead, back, back-below, emptied-value, moves_head, scan_index-back}
 use Rattle.kfifo_linear.proofs.Threads.{goes_at}
-use Rattle.kfifo_linear.proofs.Whole.{inv_begin, inv_opening, inv_step, inv_table, inv_tick, ticked_word}
+use Rattle.kfifo_linear.proofs.Whole.{inv_begin, inv_opening, inv_step, inv_table, inv_outside}
 use Rattle.kfifo_linear.specs.Headline.{TakesInTime}
 use Rattle.kfifo_linear.specs.Ledger.{Ledger, blank, called, found_in, ledger_of, noted, stepped}
 use Rattle.kfifo_machine.proofs.NoWrap.{EndsOk}
@@ -171,17 +171,17 @@ begun_late : (shape : Shape) (w : ℕ → ℕ) (l : Ledger) (t : ℕ) (b : Begin
     → HasSeen shape w (called t b l) r × HasChosen shape w (called t b l) t r
 begun_late shape w l t b r g = grind (arith, nat_tests)
 
-tick_seen : (shape : Shape) (w : ℕ → ℕ) (l : Ledger) (x : ℕ) (u : ℕ) (q : Running) → Sane shape q → HasLoaded shape w l u q
+outside_seen : (shape : Shape) (w v : ℕ → ℕ) (l : Ledger) (u : ℕ) (q : Running) → OutsideCalls shape w v → Sane shape q → HasLoaded shape w l u q
     → ((ends : ℕ) → Loaded shape w l u ends → InRing shape ends) → HasSeen shape w l q
-    → HasSeen shape (noted w (clock_at shape.k shape.n) x) (record l { now = l.now + 1 }) q
-tick_seen shape w l x u q s ld in_ring h =
-    HasSeen-others shape w (noted w (clock_at shape.k shape.n) x) l (record l { now = l.now + 1 }) u q
-    (λ ends start offset lo c e o below v.
+    → HasSeen shape v (record l { now = l.now + 1 }) q
+outside_seen shape w v l u q out s ld in_ring h =
+    HasSeen-others shape w v l (record l { now = l.now + 1 }) u q
+    (λ ends start offset lo c e o below filled.
     let i : IsSlotIndex shape (scan_index shape (head_of ends) start o) =
     scan_index-is_slot shape (head_of ends) start o (in_ring ends lo).head in
-    let z : noted w (clock_at shape.k shape.n) x (scan_index shape (head_of ends) start o) ≡ w (scan_index shape (head_of ends) start o) =
-    ticked_word shape w x (scan_index shape (head_of ends) start o) i.below in
-    c (sym (ticked_word shape w x 0 (omega arith)) ∙ e) o below (λ y. v (ap value_of z ∙ y)))
+    let z : v (scan_index shape (head_of ends) start o) ≡ w (scan_index shape (head_of ends) start o) =
+    out.slots (scan_index shape (head_of ends) start o) i.above i.below in
+    c (omega (arith, lo.below, out.rise, e)) o below (λ y. filled (ap value_of z ∙ y)))
     ld h
 
 loaded_in_ring : (shape : Shape) (w : ℕ → ℕ) (l : Ledger) (u ends : ℕ) → Loaded shape w l u ends → InRing shape ends
@@ -251,19 +251,19 @@ module _ (shape : Shape) where
         };
       }
 
-  both_tick : (w : ℕ → ℕ) (p : ℕ → Option Running) (l : Ledger) → Both shape w p l
-      → Both shape (noted w (clock_at shape.k shape.n) (w (clock_at shape.k shape.n) + 1)) p (record l { now = l.now + 1 })
-  both_tick w p l h =
+  both_outside : (w v : ℕ → ℕ) (p : ℕ → Option Running) (l : Ledger) → OutsideCalls shape w v → Both shape w p l
+      → Both shape v p (record l { now = l.now + 1 })
+  both_outside w v p l out h =
       record {
-        inv = inv_tick shape w p l h.inv;
+        inv = inv_outside shape w v p l out h.inv;
         late = record {
           put_to_head = h.late.put_to_head;
-          seen = λ u q f. tick_seen shape w l (w (clock_at shape.k shape.n) + 1) u q (h.inv.base.sane u q f) (h.inv.threads u q f).loaded
+          seen = λ u q f. outside_seen shape w v l u q out (h.inv.base.sane u q f) (h.inv.threads u q f).loaded
               (λ ends ld. loaded_in_ring shape w l u ends ld) (h.late.seen u q f);
-          chosen = λ u q f. HasChosen-others shape w (noted w (clock_at shape.k shape.n) (w (clock_at shape.k shape.n) + 1)) l
+          chosen = λ u q f. HasChosen-others shape w v l
               (record l { now = l.now + 1 }) u q (h.inv.base.sane u q f) (h.inv.threads u q f).target
-              (λ index filled i v tk c.
-              let z = ticked_word shape w (w (clock_at shape.k shape.n) + 1) index i.below in
+              (λ index filled i old tk c.
+              let z = out.slots index i.above i.below in
               record { put = λ e. c.put (sym z ∙ e); near = λ e. c.near (sym z ∙ e) })
               (h.late.chosen u q f);
         };
@@ -284,7 +284,7 @@ module _ (shape : Shape) where
   pub both : (threads : ℕ) (events : List Event) (final : World) → run shape (Some (opening shape threads)) events ≡ Some final
       → Both shape (word_at final) (place_of final) (ledger_of shape (Some (opening shape threads)) events blank)
   both threads events final e =
-      (after_all shape (Both shape) (λ w p l t r h f. inv_table shape w p l t r h.inv f) both_begin both_step both_tick events
+      (after_all shape (Both shape) (λ w p l t r h f. inv_table shape w p l t r h.inv f) both_begin both_step both_outside events
       (opening shape threads) final blank
       (record { size = opening_size shape threads; holds = both_opening threads })
       e).holds

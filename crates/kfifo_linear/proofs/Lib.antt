@@ -26,3 +26,4 @@ pub mod Telling
 pub mod Linearizing
 pub mod Sorting
 pub mod Rows
+pub mod Seals

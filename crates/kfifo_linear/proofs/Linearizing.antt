@@ -31,8 +31,8 @@ use Rattle.kfifo_linear.specs.declared.action.Action.TheVariants.{RecheckEmpty, 
 use Rattle.kfifo_linear.specs.Ledger as ledger
 use Rattle.kfifo_linear.specs.Ledger.{Ledger, blank, called, action, action_if, found_in, ledger_after, ledger_from, ledger_of, noted}
 use Rattle.kfifo_linear.specs.Ledger.{Outside}
-use Rattle.kfifo_linear.specs.Notes.{HasRoom, Notes, begins_call, calls_begun, action_at, fed, marked, no_caller, no_filling, no_notes}
-use Rattle.kfifo_linear.specs.Notes.{noted_event, own_call, slot}
+use Rattle.kfifo_linear.specs.Notes.{later, HasRoom, Notes, begins_call, calls_begun, action_at, fed, marked, no_caller, no_filling, no_notes}
+use Rattle.kfifo_linear.specs.Notes.{later, noted_event, own_call, slot}
 use Rattle.kfifo_linear.specs.declared.notes.Whereabouts.TheVariants.{Nowhere}
 use Rattle.kfifo_linear.specs.Notes as note
 use Rattle.kfifo_linear.specs.Following.{Follower, Follows, IsFollowing, Sizes, Tells, follower}
@@ -43,7 +43,7 @@ use Rattle.kfifo_linear.proofs.Invariant.{FullOk, ThreadOk}
 use Rattle.kfifo_linear.proofs.Late.{Both, both}
 use Rattle.kfifo_linear.proofs.Agrees.{Agrees}
 use Rattle.kfifo_linear.proofs.Schedule.{agreed}
-use Rattle.kfifo_linear.proofs.Telling.{CanTell, told, told_call, told_tick}
+use Rattle.kfifo_linear.proofs.Telling.{CanTell, told, told_call, told_outside}
 
 -- an action that is one where a test holds
 by_test : (P : Action → Type 0) (test : Bool) (what : Action) → P Unnoted → (test ≡ true → P what) → P (action_if test what)
@@ -165,15 +165,8 @@ sizes_called shape threads room n t h less =
       tail = h.tail;
     }
 
-sizes_event : (shape : Shape) (threads room : ℕ) (n : Notes) (t ends : ℕ) (begin : Option Begin) (what : Action) (outcome : Outcome)
-    → Sizes shape threads room n → (begins_call begin ≡ true → n.begun < room)
-    → Sizes shape threads room (noted_event shape t begin ends what outcome n)
-sizes_event shape threads room n t ends None what outcome h less = sizes_marked shape threads room n t ends what outcome h
-sizes_event shape threads room n t ends (Some (B.Enqueue item start turns)) what outcome h less =
-    sizes_marked shape threads room (note.called t n) t ends LoadEnds outcome (sizes_called shape threads room n t h (less refl))
-sizes_event shape threads room n t ends (Some (B.Dequeue start turns)) what outcome h less =
-    sizes_marked shape threads room (note.called t n) t ends LoadEnds outcome (sizes_called shape threads room n t h (less refl))
-sizes_event shape threads room n t ends (Some B.Tick) what outcome h less =
+sizes_later : (shape : Shape) (threads room : ℕ) (n : Notes) → Sizes shape threads room n → Sizes shape threads room (later n)
+sizes_later shape threads room n h =
     record {
       heads = h.heads;
       tails = h.tails;
@@ -184,6 +177,17 @@ sizes_event shape threads room n t ends (Some B.Tick) what outcome h less =
       head = omega (arith, h.head);
       tail = omega (arith, h.tail);
     }
+
+sizes_event : (shape : Shape) (threads room : ℕ) (n : Notes) (t ends : ℕ) (begin : Option Begin) (what : Action) (outcome : Outcome)
+    → Sizes shape threads room n → (begins_call begin ≡ true → n.begun < room)
+    → Sizes shape threads room (noted_event shape t begin ends what outcome n)
+sizes_event shape threads room n t ends None what outcome h less = sizes_marked shape threads room n t ends what outcome h
+sizes_event shape threads room n t ends (Some (B.Enqueue item start turns)) what outcome h less =
+    sizes_marked shape threads room (note.called t n) t ends LoadEnds outcome (sizes_called shape threads room n t h (less refl))
+sizes_event shape threads room n t ends (Some (B.Dequeue start turns)) what outcome h less =
+    sizes_marked shape threads room (note.called t n) t ends LoadEnds outcome (sizes_called shape threads room n t h (less refl))
+sizes_event shape threads room n t ends (Some B.Tick) what outcome h less = sizes_later shape threads room n h
+sizes_event shape threads room n t ends (Some B.Seal) what outcome h less = sizes_later shape threads room n h
 
 begun_is : (test : Bool) (first r : Running) → cond test (Some first) None ≡ Some r → first ≡ r
 begun_is true first r e = Some-injective first r e
@@ -236,6 +240,7 @@ module _ (shape : Shape) (world next : World) (outcome : Outcome) (e : Event) (l
       (sym same) in
       rw went (tells_begin (B.Dequeue start turns) first _ (less (ap begins_call is)) refl refl)
   tells_by_place None (Some B.Tick) r was is goes comes = absurd (cc)
+  tells_by_place None (Some B.Seal) r was is goes comes = absurd (cc)
 
   -- any event that was made
   tells_event : step shape world e ≡ Ok (next, outcome) → Tells (ledger_after shape world e l) (fed shape world e outcome n)
@@ -243,10 +248,16 @@ module _ (shape : Shape) (world next : World) (outcome : Outcome) (e : Event) (l
   tells_event made =
       elim (stepped shape world e next outcome made) [
         | inl s ↦ tells_by_place (place_of world e.thread) e.begin s.running refl refl s.goes s.outcome_is
-        | inr t ↦
-            let goal : Tells (ledger_from shape (word_at world) e.thread None (Some B.Tick) l)
-            (noted_event shape e.thread (Some B.Tick) (word_at world 0) (action_at shape world None) outcome n) = told_tick l n h in
-            rw (t.begins, t.idle) goal
+        | inr o ↦ elim o.by [
+          | inl t ↦
+              let goal : Tells (ledger_from shape (word_at world) e.thread None (Some B.Tick) l)
+              (noted_event shape e.thread (Some B.Tick) (word_at world 0) (action_at shape world None) outcome n) = told_outside l n h in
+              rw (t.begins, o.idle) goal
+          | inr z ↦
+              let goal : Tells (ledger_from shape (word_at world) e.thread None (Some B.Seal) l)
+              (noted_event shape e.thread (Some B.Seal) (word_at world 0) (action_at shape world None) outcome n) = told_outside l n h in
+              rw (z.begins, o.idle) goal
+        ]
       ]
 
 -- the ledger after one event more
@@ -312,7 +323,10 @@ going_on : (shape : Shape) (world : World) (e : Event) (next : World) (outcome :
 going_on shape world e next outcome made none =
     elim (stepped shape world e next outcome made) [
       | inl s ↦ by_place (place_of world e.thread) e.begin s.running refl none s.goes
-      | inr t ↦ absurd (none-some B.Tick (sym none ∙ t.begins))
+      | inr o ↦ absurd (elim o.by [
+        | inl t ↦ none-some B.Tick (sym none ∙ t.begins)
+        | inr z ↦ none-some B.Seal (sym none ∙ z.begins)
+      ])
     ]
   where
     by_place : (place : Option Running) (begin : Option Begin) (r : Running) → place_of world e.thread ≡ place → begin ≡ None

@@ -495,9 +495,9 @@ told_call l n t b h thread outside unended = record {
   ];
 }
 
--- a tick
-pub told_tick : (l : Ledger) (n : Notes) → Tells l n → Tells (record l { now = l.now + 1 }) (later n)
-told_tick l n h = record {
+-- a tick or a seal
+pub told_outside : (l : Ledger) (n : Notes) → Tells l n → Tells (record l { now = l.now + 1 }) (later n)
+told_outside l n h = record {
   step = ap (λ x. x + 1) h.step;
   head = h.head;
   tail = h.tail;

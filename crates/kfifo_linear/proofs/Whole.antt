@@ -4,8 +4,8 @@ use Rattle.std.proofs.lemmas.Bool.{false≢true, cases_eq}
 use Rattle.std.proofs.lemmas.Bool.Decides.{nat_tests}
 use Rattle.std.proofs.lemmas.Option.{none-some, same_Some}
 use Rattle.std.proofs.Common.{List, is_some}
-use Rattle.kfifo_linear.proofs.Abstract.{after_all, noted-other, noted-same, noted_tells, table_size, words_by}
-use Rattle.kfifo_linear.proofs.Base.{Sane, base_begin, base_opening, base_step, base_table, base_tick, get_or_replicate, opening_size}
+use Rattle.kfifo_linear.proofs.Abstract.{OutsideCalls, after_all, noted-other, noted-same, noted_tells, table_size, words_by}
+use Rattle.kfifo_linear.proofs.Base.{Sane, base_begin, base_opening, base_step, base_table, base_outside, get_or_replicate, opening_size}
 use Rattle.kfifo_linear.proofs.Calls.{calls_stay}
 use Rattle.kfifo_linear.proofs.Claims.{HasLoaded-others}
 use Rattle.kfifo_linear.proofs.Invariant.{AtHead, AtTail, Calls, Fits, GoneOk, Inv, SlotOk, StoodOk, ThreadOk, Times, TookOk, is_gone}
@@ -87,15 +87,11 @@ begun_times l t b h = record {
   tail_first = h.tail_first;
 }
 
--- a tick changes no word but the clock
-pub ticked_word : (shape : Shape) (w : ℕ → ℕ) (x i : ℕ) → i < clock_at shape.k shape.n → noted w (clock_at shape.k shape.n) x i ≡ w i
-ticked_word shape w x i h = noted-other w (clock_at shape.k shape.n) i x (λ z. omega (arith, h, z))
-
-tick_thread : (shape : Shape) (w : ℕ → ℕ) (l : Ledger) (u : ℕ) (q : Running) → Sane shape q → ThreadOk shape w l u q
-    → ThreadOk shape (noted w (clock_at shape.k shape.n) (w (clock_at shape.k shape.n) + 1)) (record l { now = l.now + 1 }) u q
-tick_thread shape w l u q s h =
-    let z = ticked_word shape w (w (clock_at shape.k shape.n) + 1) in
-    let z0 : noted w (clock_at shape.k shape.n) (w (clock_at shape.k shape.n) + 1) 0 ≡ w 0 = z 0 (omega arith) in
+-- a tick and a seal leave the slots, and a seal the segments of the ends: what a round loaded first still stands only if it stood
+outside_thread : (shape : Shape) (w v : ℕ → ℕ) (l : Ledger) (u : ℕ) (q : Running) → OutsideCalls shape w v → Sane shape q → ThreadOk shape w l u q
+    → ThreadOk shape v (record l { now = l.now + 1 }) u q
+outside_thread shape w v l u q o s h =
+    let stood : (x : ℕ) → x ≤ w 0 → v 0 ≡ x → w 0 ≡ x = λ x below e. omega (arith, below, o.rise, e) in
     record {
       known = h.known;
       started = omega (arith, h.started);
@@ -108,19 +104,19 @@ tick_thread shape w l u q s h =
         tails_after = r.tails_after;
         heads_after = r.heads_after;
       };
-      loaded = HasLoaded-others shape w (noted w (clock_at shape.k shape.n) (w (clock_at shape.k shape.n) + 1)) l
+      loaded = HasLoaded-others shape w v l
           (record l { now = l.now + 1 }) u q (λ x ld.
           record {
             ends = ld.ends;
-            below = omega (arith, z0, ld.below);
-            head_same = λ e. ld.head_same (sym z0 ∙ e);
-            tail_same = λ e. ld.tail_same (sym z0 ∙ e);
+            below = omega (arith, o.rise, ld.below);
+            head_same = λ e. ld.head_same (stood x ld.below e);
+            tail_same = λ e. ld.tail_same (stood x ld.below e);
           }) h.loaded;
       fresh = h.fresh;
-      own = HasOwn-others shape w (noted w (clock_at shape.k shape.n) (w (clock_at shape.k shape.n) + 1)) l (record l { now = l.now + 1 }) u
+      own = HasOwn-others shape w v l (record l { now = l.now + 1 }) u
           q s refl
           (λ index filled i _ own.
-          let y = z index i.below in
+          let y = o.slots index i.above i.below in
           record {
             below = omega (arith, y, own.below);
             place = own.place;
@@ -130,21 +126,21 @@ tick_thread shape w l u q s h =
             gone = λ n. own.gone (λ e. n (y ∙ e));
           })
           h.own;
-      target = HasTarget-others shape w (noted w (clock_at shape.k shape.n) (w (clock_at shape.k shape.n) + 1)) l
+      target = HasTarget-others shape w v l
           (record l { now = l.now + 1 }) u q s
-          (λ index empty i x. record { place = x.place; below = omega (arith, z index i.below, x.below) })
-          (λ index empty i x untaken e. untaken (sym (z index i.below) ∙ e))
-          (λ index filled i x. record { place = x.place; below = omega (arith, z index i.below, x.below) })
-          (λ index filled i x old e. old (sym (z index i.below) ∙ e))
+          (λ index empty i x. record { place = x.place; below = omega (arith, o.slots index i.above i.below, x.below) })
+          (λ index empty i x untaken e. untaken (sym (o.slots index i.above i.below) ∙ e))
+          (λ index filled i x. record { place = x.place; below = omega (arith, o.slots index i.above i.below, x.below) })
+          (λ index filled i x old e. old (sym (o.slots index i.above i.below) ∙ e))
           (λ y. y) h.target;
-      clear = HasClear-others shape w (noted w (clock_at shape.k shape.n) (w (clock_at shape.k shape.n) + 1)) l
-          (record l { now = l.now + 1 }) u q (λ ends start offset ld x e. x (sym z0 ∙ e)) h.loaded h.clear;
+      clear = HasClear-others shape w v l
+          (record l { now = l.now + 1 }) u q (λ ends start offset ld x e. x (stood ends ld.below e)) h.loaded h.clear;
     }
 
-tick_slot : (shape : Shape) (w : ℕ → ℕ) (l : Ledger) (i : ℕ) → IsSlotIndex shape i → SlotOk shape w l i
-    → SlotOk shape (noted w (clock_at shape.k shape.n) (w (clock_at shape.k shape.n) + 1)) (record l { now = l.now + 1 }) i
-tick_slot shape w l i is_slot h =
-    let z = ticked_word shape w (w (clock_at shape.k shape.n) + 1) i is_slot.below in
+outside_slot : (shape : Shape) (w v : ℕ → ℕ) (l : Ledger) (i : ℕ) → OutsideCalls shape w v → IsSlotIndex shape i → SlotOk shape w l i
+    → SlotOk shape v (record l { now = l.now + 1 }) i
+outside_slot shape w v l i o is_slot h =
+    let z = o.slots i is_slot.above is_slot.below in
     record {
       untaken_to_tail = h.untaken_to_tail;
       empty = λ e. h.empty (ap value_of (sym z) ∙ e);
@@ -339,12 +335,12 @@ begun_calls shape w l t b h =
       once = λ c d o v p u q e f. h.once c d o v p u q (was c (Took o v p) e (λ x. cc)).0 (was d (Took o u q) f (λ x. cc)).0;
     }
 
-tick_at_tail : (l : Ledger) (v p : ℕ) → AtTail l v p → AtTail (record l { now = l.now + 1 }) v p
-tick_at_tail l v p h = record { reached = h.reached; after = h.after; before = h.before; past = omega (arith, h.past) }
+later_at_tail : (l : Ledger) (v p : ℕ) → AtTail l v p → AtTail (record l { now = l.now + 1 }) v p
+later_at_tail l v p h = record { reached = h.reached; after = h.after; before = h.before; past = omega (arith, h.past) }
 
-tick_calls : (shape : Shape) (w : ℕ → ℕ) (l : Ledger) → Calls shape w l
-    → Calls shape (noted w (clock_at shape.k shape.n) (w (clock_at shape.k shape.n) + 1)) (record l { now = l.now + 1 })
-tick_calls shape w l h =
+outside_calls : (shape : Shape) (w v : ℕ → ℕ) (l : Ledger) → OutsideCalls shape w v → Calls shape w l
+    → Calls shape v (record l { now = l.now + 1 })
+outside_calls shape w v l o h =
     let next : Ledger = record l { now = l.now + 1 } in
     record {
       later = h.later;
@@ -352,14 +348,14 @@ tick_calls shape w l h =
           record {
             is_slot = g.is_slot;
             full = λ z.
-                g.full (ap value_of (sym (ticked_word shape w (w (clock_at shape.k shape.n) + 1) i g.is_slot.below)) ∙ z);
+                g.full (ap value_of (sym (o.slots i g.is_slot.above g.is_slot.below)) ∙ z);
             owner = g.owner;
           };
       gone = λ c i v p e. let g = h.gone c i v p e in
           record {
             is_slot = g.is_slot;
             place = g.place;
-            at_tail = tick_at_tail l v p g.at_tail;
+            at_tail = later_at_tail l v p g.at_tail;
             started = g.started;
             ended = g.ended;
             under = g.under;
@@ -382,7 +378,7 @@ tick_calls shape w l h =
           };
       stood = λ c v p e. let g = h.stood c v p e in
           record {
-            at_tail = tick_at_tail l v p g.at_tail;
+            at_tail = later_at_tail l v p g.at_tail;
             head_reached = g.head_reached;
             head_after = g.head_after;
             head_before = g.head_before;
@@ -483,14 +479,14 @@ module _ (shape : Shape) where
         calls = begun_calls shape w l t b h.calls;
       }
 
-  pub inv_tick : (w : ℕ → ℕ) (p : ℕ → Option Running) (l : Ledger) → Inv shape w p l
-      → Inv shape (noted w (clock_at shape.k shape.n) (w (clock_at shape.k shape.n) + 1)) p (record l { now = l.now + 1 })
-  inv_tick w p l h =
+  pub inv_outside : (w v : ℕ → ℕ) (p : ℕ → Option Running) (l : Ledger) → OutsideCalls shape w v → Inv shape w p l
+      → Inv shape v p (record l { now = l.now + 1 })
+  inv_outside w v p l o h =
       record {
-        base = base_tick shape w p l h.base;
-        threads = λ u q f. tick_thread shape w l u q (h.base.sane u q f) (h.threads u q f);
+        base = base_outside shape w v p l o h.base;
+        threads = λ u q f. outside_thread shape w v l u q o (h.base.sane u q f) (h.threads u q f);
         callers = h.callers;
-        slots = λ i is_slot. tick_slot shape w l i is_slot (h.slots i is_slot);
+        slots = λ i is_slot. outside_slot shape w v l i o is_slot (h.slots i is_slot);
         times = record {
           tails_past = λ v z. omega (arith, h.times.tails_past v z);
           tails_rise = h.times.tails_rise;
@@ -498,7 +494,7 @@ module _ (shape : Shape) where
           heads_rise = h.times.heads_rise;
           tail_first = h.times.tail_first;
         };
-        calls = tick_calls shape w l h.calls;
+        calls = outside_calls shape w v l o h.calls;
       }
 
   pub inv_table : (w : ℕ → ℕ) (p : ℕ → Option Running) (l : Ledger) (t : ℕ) (r : Running) → Inv shape w p l → p t ≡ Some r
@@ -547,6 +543,6 @@ module _ (shape : Shape) where
   pub invariant : (threads : ℕ) (events : List Event) (final : World) → run shape (Some (opening shape threads)) events ≡ Some final
       → Inv shape (word_at final) (place_of final) (ledger_of shape (Some (opening shape threads)) events blank)
   invariant threads events final e =
-      (after_all shape (Inv shape) inv_table inv_begin inv_step inv_tick events (opening shape threads) final blank
+      (after_all shape (Inv shape) inv_table inv_begin inv_step inv_outside events (opening shape threads) final blank
       (record { size = opening_size shape threads; holds = inv_opening threads })
       e).holds

@@ -145,6 +145,7 @@ abbrev pub item_of : Begin → ℕ
 item_of (B.Enqueue item start turns) = item
 item_of (B.Dequeue start turns) = 0
 item_of B.Tick = 0
+item_of B.Seal = 0
 
 -- Each thing that is noted, after an action of a thread that found these ends, where `now` is not yet raised.
 abbrev pub head_after : Action → Ledger → ℕ
@@ -313,6 +314,7 @@ ledger_from shape words thread None (Some (B.Enqueue item start turns)) l =
 ledger_from shape words thread None (Some (B.Dequeue start turns)) l =
     stepped shape words thread (R.Dequeue start turns D.LoadEnds) (called thread (B.Dequeue start turns) l)
 ledger_from shape words thread None (Some B.Tick) l = record l { now = l.now + 1 }
+ledger_from shape words thread None (Some B.Seal) l = record l { now = l.now + 1 }
 ledger_from shape words thread (Some running) begin l = stepped shape words thread running l
 
 -- the ledger after an event

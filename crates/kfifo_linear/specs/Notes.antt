@@ -180,6 +180,7 @@ noted_event shape thread (Some (B.Enqueue item start turns)) ends action outcome
 noted_event shape thread (Some (B.Dequeue start turns)) ends action outcome n =
     stepped shape thread ends LoadEnds outcome (called thread n)
 noted_event shape thread (Some B.Tick) ends action outcome n = later n
+noted_event shape thread (Some B.Seal) ends action outcome n = later n
 
 -- there is room for the slot and the call of an action
 abbrev pub HasRoom : Shape → Notes → Action → Type 0
@@ -200,12 +201,13 @@ abbrev pub fed : Shape → World → Event → Outcome → Notes → Notes
 fed shape world event outcome n = noted_event shape event.thread event.begin (word_at world 0)
     (action_at shape world (place_of world event.thread)) outcome n
 
--- an event that begins this begins a call: a tick is none
+-- an event that begins this begins a call: a tick and a seal are none
 abbrev pub begins_call : Option Begin → Bool
 begins_call None = false
 begins_call (Some (B.Enqueue item start turns)) = true
 begins_call (Some (B.Dequeue start turns)) = true
 begins_call (Some B.Tick) = false
+begins_call (Some B.Seal) = false
 
 -- the point that is noted of a slot, of a call by where it stands, and of a call; none where it does not stand in the
 -- order

@@ -19,6 +19,7 @@ ghost use Rattle.kfifo_linear.specs.Points.{Marks, PointsFit, StandsFit, by_poin
 ghost use Rattle.kfifo_linear.specs.Rows.{IsTwoByTwo, RowsHold};
 ghost use Rattle.kfifo_linear.specs.Headline.{HasLegalOrder, FewOvertake, FewCertainlyOvertake, PointsHold, LawsHold};
 ghost use Rattle.kfifo_linear.specs.Headline.{PutsInVisit, NumbersAgree, OneOrder, TakesInTime};
+ghost use Rattle.kfifo_linear.specs.Seals.{StaysEmpty};
 
 pub use linearization::{LinearFault, linearization_points, linearize};
 pub use linearizer::Linearizer;
@@ -64,6 +65,13 @@ pub fn every_schedule_has_a_legal_order()
     ensures numbers { (shape : Shape) (threads : ℕ) → NumbersAgree shape threads }
     ensures one { (shape : Shape) (threads : ℕ) → threads ≤ MAX_THREADS → OneOrder shape threads }
     ensures in_time { (shape : Shape) (threads : ℕ) → TakesInTime shape threads }
+{}
+
+/// A queue that was found empty and then sealed stays empty, whatever calls were in progress or begin later: where all
+/// have ended, no slot holds an item. Found empty means that a dequeue returned Empty; and the ends word did not change
+/// from the last load of that dequeue to the seal.
+pub fn a_queue_sealed_empty_stays_empty()
+    ensures stays { (shape : Shape) (threads : ℕ) → threads ≤ MAX_THREADS → StaysEmpty shape threads }
 {}
 
 /// The orders of three worked schedules of two segments of two slots: an item put behind the head

@@ -68,7 +68,7 @@ fn begins(event: &Event) -> bool
 {
     match event.begin {
         Some(Begin::Enqueue { .. } | Begin::Dequeue { .. }) => true,
-        Some(Begin::Tick) | None => false,
+        Some(Begin::Tick | Begin::Seal) | None => false,
     }
 }
 

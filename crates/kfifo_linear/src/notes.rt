@@ -347,7 +347,7 @@ impl Notes {
         let thread = event.thread as usize;
         match event.begin {
             None => self.step(shape, thread, ends, action, outcome),
-            Some(Begin::Tick) => self.tick(),
+            Some(Begin::Tick | Begin::Seal) => self.tick(),
             Some(Begin::Enqueue { .. } | Begin::Dequeue { .. }) => {
                 self.call(thread);
                 self.step(shape, thread, ends, Action::LoadEnds, outcome);

@@ -1,6 +1,6 @@
 -- The items put are those undone, those taken and those left.
 use Rattle.std.proofs.Common.{◌≡◌, ◌≢◌, ℕ, zero, suc, ◌+◌, ◌*◌, ◌<◌, ◌≤◌, List, [], ◌∷◌, length, get_or, set, replicate, Option, Some, None}
-use Rattle.std.proofs.Common.{Ok, Bool, true, false, refl, sym, ap, ◌∙◌, inl, inr, arith, cond, subst, eqb-true, eq-eqb, ne_eqb}
+use Rattle.std.proofs.Common.{◌⊎◌, Ok, Bool, true, false, refl, sym, ap, ◌∙◌, inl, inr, arith, cond, subst, eqb-true, eq-eqb, ne_eqb}
 use Rattle.std.specs.Prelude.{◌==◌, ◌&&◌}
 use Rattle.std.proofs.lemmas.Bool.{cases_eq}
 use Rattle.std.proofs.lemmas.Bool.Decides.{nat_tests}
@@ -18,14 +18,14 @@ use Rattle.kfifo_machine.specs.declared.place.DequeuePhase.TheVariants as D
 use Rattle.kfifo_machine.specs.declared.place.Running.TheVariants as R
 use Rattle.kfifo_machine.specs.declared.place.Next.TheVariants.{Goes, Answers}
 use Rattle.kfifo_machine.specs.declared.place.Access.TheVariants.{Exchange}
-use Rattle.kfifo_machine.specs.Program.{access, accessed, advance, filled_with, emptied, head_moved, tail_moved, head_held}
-use Rattle.kfifo_machine.specs.Machine.{World, opening, word_at, place_of, place_after, words_after, moved, ticked, found, begun, may_begin}
+use Rattle.kfifo_machine.specs.Program.{access, accessed, advance, filled_with, emptied, head_moved, tail_moved, head_held, sealed_word}
+use Rattle.kfifo_machine.specs.Machine.{World, opening, word_at, place_of, place_after, words_after, moved, sealed, ticked, found, begun, may_begin}
 use Rattle.kfifo_machine.specs.Machine.{step, run}
 use Rattle.kfifo_machine.specs.Runs.{going}
 use Rattle.kfifo_machine.specs.Places.{IsPlace}
 use Rattle.kfifo_machine.specs.Laws.{counted, count}
 use Rattle.kfifo_machine.proofs.Tokens.{EnqueueKnows, value-emptied, value-filled_with}
-use Rattle.kfifo_machine.proofs.Schedules.{Some-injective, first_made, made_within, stepped}
+use Rattle.kfifo_machine.proofs.Schedules.{Some-injective, first_made, made_within, stepped, Ticks, Seals}
 use Rattle.kfifo_machine.proofs.Sound.{IsSound, going_place, place_is, step_sound, opening_sound, sound}
 use Rattle.kfifo_live.specs.Schedule.{world_after}
 use Rattle.kfifo_live.specs.Left.{item_in, items_left}
@@ -217,14 +217,15 @@ moved_know shape here thread running within place knows old t r at =
       | inr ne ↦ old t r (sym (get_or-set_other here.places thread t next None ne) ∙ at)
     ]
 
-ticked_know : (shape : Shape) (here : World) → AllKnow here → AllKnow (ticked shape here)
-unfolding ticked place_of
-ticked_know shape here old t r at = old t r at
+sealed-held : (x : ℕ) (shape : Shape) (here : World) → held x shape (sealed shape here).words ≡ held x shape here.words
+unfolding sealed
+sealed-held x shape here = held-other x shape here.words 0 (sealed_word shape (word_at here 0)) (λ j low high is. absurd (omega arith))
 
-none_counted : (shape : Shape) (moves : Running → ℕ → Bool) (world : World) (place : Option Running) (begin : Option Begin)
-    → begin ≡ Some B.Tick → counted shape moves world (going shape place begin) ≡ 0
-none_counted shape moves world None begin is = ap (λ (b : Option Begin). counted shape moves world (going shape None b)) is
-none_counted shape moves world (Some r) begin is = ap (λ (b : Option Begin). counted shape moves world (going shape (Some r) b)) is
+-- a tick and a seal leave the items
+outside-held : (x : ℕ) (shape : Shape) (here there : World) (begin : Option Begin)
+    → Ticks shape here begin there ⊎ Seals shape here begin there → held x shape there.words ≡ held x shape here.words
+outside-held x shape here there begin (inl t) = ap (λ (w : World). held x shape w.words) t.there_is ∙ ticked-held x shape here
+outside-held x shape here there begin (inr z) = ap (λ (w : World). held x shape w.words) z.there_is ∙ sealed-held x shape here
 
 -- an event
 step_balance : (x : ℕ) (shape : Shape) (here : World) (e : Event) (there : World) (outcome : Outcome) → IsSound shape here → AllKnow here
@@ -249,13 +250,11 @@ step_balance x shape here e there outcome sound know is =
           let p = ap (counted shape (puts_item x) here) s.goes in
           (after, omega arith)
       | inr t ↦
-          let after : AllKnow there = subst AllKnow (sym t.there_is) (ticked_know shape here know) in
-          let all = ticked-held x shape here in
-          let words : held x shape there.words ≡ held x shape (ticked shape here).words =
-          ap (λ (w : World). held x shape w.words) t.there_is in
-          let u = none_counted shape (undoes_item x) here (place_of here e.thread) e.begin t.begins in
-          let k = none_counted shape (takes_item x) here (place_of here e.thread) e.begin t.begins in
-          let p = none_counted shape (puts_item x) here (place_of here e.thread) e.begin t.begins in
+          let after : AllKnow there = λ u r at. know u r (sym (t.leaves u) ∙ at) in
+          let all = outside-held x shape here there e.begin t.by in
+          let u = ap (counted shape (undoes_item x) here) t.begins_none in
+          let k = ap (counted shape (takes_item x) here) t.begins_none in
+          let p = ap (counted shape (puts_item x) here) t.begins_none in
           (after, omega arith)
     ]
 

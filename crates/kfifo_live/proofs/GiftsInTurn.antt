@@ -16,6 +16,7 @@ gift_item None held = refl
 gift_item (Some (B.Enqueue item start turns)) held = refl
 gift_item (Some (B.Dequeue start turns)) held = refl
 gift_item (Some B.Tick) held = refl
+gift_item (Some B.Seal) held = refl
 
 pub in_turn_on : {T : Type 0} (all : List Event) (gifts : Gifts T) (thread : ℕ) (begin : Option Begin) (held : List (ℕ × Option T))
     → InTurn all gifts → InTurn (all ++ event thread begin ∷ []) (gifts ++ gift begin held)

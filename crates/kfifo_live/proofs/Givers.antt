@@ -26,7 +26,7 @@ use Rattle.kfifo_machine.specs.Runs.{event, own, going, AllGoOn, CompleteExecuti
 use Rattle.kfifo_machine.specs.Places.{IsPlace}
 use Rattle.kfifo_machine.specs.Laws.{PutsNext}
 use Rattle.kfifo_machine.specs.Tokens.{AllBeginFree, BeginsFree, IsHeld, IsInSlot, held_at, held_in}
-use Rattle.kfifo_machine.proofs.Budget.{own_first, own_place, tick_leaves}
+use Rattle.kfifo_machine.proofs.Budget.{own_first, own_place}
 use Rattle.kfifo_machine.proofs.Refusals.{Carries, CarriesAt}
 use Rattle.kfifo_machine.proofs.Schedules.{Some-injective, StepsFrom, after-snoc, first_made, made_within, other_place, own-append, stepped}
 use Rattle.kfifo_machine.proofs.Sound.{IsSound, going_place, place_is, sound}
@@ -355,6 +355,7 @@ going_is shape None (Some (B.Dequeue start turns)) r goes = Dequeues start turns
     of_may true e = sym (Some-injective _ _ e)
     of_may false e = absurd (cc)
 going_is shape None (Some B.Tick) r goes = absurd (cc)
+going_is shape None (Some B.Seal) r goes = absurd (cc)
 
 lacks_begun : (shape : Shape) (here : World) (x : ℕ) (begin : Option Begin) → BeginsFree shape here begin
     → IsHeld here x ⊎ IsInSlot shape here x → Lacks x (item_begun begin)
@@ -369,6 +370,7 @@ lacks_begun shape here x (Some (B.Enqueue item start turns)) free there = (
 )
 lacks_begun shape here x (Some (B.Dequeue start turns)) free there = tt
 lacks_begun shape here x (Some B.Tick) free there = tt
+lacks_begun shape here x (Some B.Seal) free there = tt
 
 -- After a schedule: who has a token out, or put the word that stands, began last with it; and so did who put a slot's word
 record Traced (o : Opening) (all : List Event) (world : World) : Type 0 where
@@ -520,7 +522,8 @@ module _ (o : Opening) (done : List Event) (here there : World) (e : Event) (out
             subst (λ (w : ℕ). PutLast o (done ++ e ∷ []) i w (value_of w)) (sym same) (put_on o done e i was (value_of was) old lacks)
         | inr ne ↦ elim ((one_word o.shape here e there outcome is_sound made).only_so i ne) [
           | inl win ↦ newly_put i (word_at there i) above filled win.running win.stands win.exchange
-          | inr tick ↦ absurd (let c = tick.clock in omega (arith, c, below))
+          | inr (inl tick) ↦ absurd (let c = tick.clock in omega (arith, c, below))
+          | inr (inr seal) ↦ absurd (let c = seal.ends in omega (arith, c, above))
         ]
       ]
 
@@ -644,7 +647,7 @@ module _ (o : Opening) (done : List Event) (here there : World) (e : Event) (out
         | inr t ↦
             let apart : (u : ℕ) (q : Running) → place_of there u ≡ Some q → u ≢ e.thread = λ u q is same.
             none_some q
-            (sym (ap (λ (w : World). place_of w u) t.there_is ∙ tick_leaves o.shape here u ∙ ap (place_of here) same ∙ t.idle) ∙ is) in
+            (sym (t.leaves u ∙ ap (place_of here) same ∙ t.idle) ∙ is) in
             record {
               held = λ u q x is out some. held_other u q x (apart u q is) is out some;
               carried = λ u q i word is c stands. carried_other u q i word (apart u q is) is c stands;

@@ -49,6 +49,7 @@ module _ {T : Type 0} (o : Opening) (all : List Event) (world : World) (at : ℕ
   begins_free None r hand held reached goes slots fits begins holders = tt
   begins_free (Some (B.Dequeue start turns)) r hand held reached goes slots fits begins holders = tt
   begins_free (Some B.Tick) r hand held reached goes slots fits begins holders = tt
+  begins_free (Some B.Seal) r hand held reached goes slots fits begins holders = tt
   begins_free (Some (B.Enqueue item start turns)) r hand held reached goes slots fits begins holders =
       let call : Option Begin = Some (B.Enqueue item start turns) in
       let is_r = going_place o.shape (place_of world thread) call r

@@ -40,7 +40,7 @@ begins_on thread seen all more b empty = record {
   no_own = own-append thread b.rest more ∙ (λ i. b.no_own i ++ empty i);
 }
 
-begins_whole : (thread : ℕ) (all : List Event) → Begins thread all all
+pub begins_whole : (thread : ℕ) (all : List Event) → Begins thread all all
 begins_whole thread all = record { rest = []; goes_on = sym (append-nil all); no_own = refl }
 
 -- the parts whose threads are not the one that made the new events

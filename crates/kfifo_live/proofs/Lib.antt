@@ -5,6 +5,7 @@ pub mod Ticks
 pub mod GiftsInTurn
 pub mod Holders
 pub mod Keeps
+pub mod SealSteps
 pub mod Cuts
 pub mod Draws
 pub mod Resting
@@ -13,6 +14,7 @@ pub mod Givers
 pub mod NewPasses
 pub mod Scans
 pub mod Passes
+pub mod Sealed
 pub mod Logs
 pub mod Shuffles
 pub mod Stamping

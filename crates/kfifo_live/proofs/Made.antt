@@ -15,7 +15,7 @@ use Rattle.kfifo_machine.proofs.Causes.{full_has_cause}
 use Rattle.kfifo_machine.proofs.Wear.{worn_has_cause}
 use Rattle.kfifo_machine.proofs.Losses.{busy_has_cause}
 use Rattle.kfifo_machine.proofs.BusyIsDisturbed.{busy_is_disturbed}
-use Rattle.kfifo_progress.specs.Progress.{AllHaveTurns, calls_answered, turns_for_progress}
+use Rattle.kfifo_progress.specs.Progress.{AllHaveTurns, calls_answered, seals_in, turns_for_progress}
 use Rattle.kfifo_progress.proofs.Answers.{busy_means_progress}
 use Rattle.kfifo_live.specs.Pass.{PassView}
 use Rattle.kfifo_live.specs.Schedule.{world_after}
@@ -66,7 +66,7 @@ other_answers : (call : Begin) (answer : Answer) (old new : PassView) → Makes 
 other_answers call answer old new run busy again wide turns =
     let run' = subst (λ (a : Answer). Makes call a old new) busy run in
     let is = added-made call Busy old new run' in
-    subst (λ (es : List Event). 0 < calls_answered old.opened.shape (world_after old.opened old.seen) es) (sym is)
+    subst (λ (es : List Event). 0 < calls_answered old.opened.shape (world_after old.opened old.seen) es + seals_in es) (sym is)
     (busy_means_progress old.opened.shape old.opened.threads again wide old.thread call old.seen new.seen run'
     (subst (AllHaveTurns (turns_for_progress old.opened.shape old.opened.threads)) is turns))
 

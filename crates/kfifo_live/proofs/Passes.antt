@@ -10,7 +10,6 @@ use Rattle.kfifo_machine.specs.declared.event.Begin.TheVariants.{Tick}
 use Rattle.kfifo_machine.specs.declared.place.Next.TheVariants.{Answers}
 use Rattle.kfifo_machine.specs.Machine.{World, opening, place_of, run, ticked, word_at, world_of}
 use Rattle.kfifo_machine.specs.Runs.{Begins, CompleteExecution, event, own}
-use Rattle.kfifo_machine.proofs.Budget.{tick_leaves}
 use Rattle.kfifo_machine.proofs.Schedules.{after-snoc, own-append, run_on, same_place, still_threads}
 use Rattle.kfifo_live.specs.Hands.{Gifts, carrying}
 use Rattle.kfifo_live.specs.Schedule.{gifts_of, hand_of, hand_in, stamped_opening, IsSmall, part, view_of, world_after, thread_in}
@@ -26,6 +25,11 @@ use Rattle.kfifo_linear.proofs.Schedule.{has_legal_order, few_overtake, few_cert
 length-ticked : (shape : Shape) (world : World) → length (ticked shape world).places ≡ length world.places
 unfolding ticked
 length-ticked shape world = refl
+
+-- a tick leaves each thread where it was
+tick_leaves : (shape : Shape) (here : World) (thread : ℕ) → place_of (ticked shape here) thread ≡ place_of here thread
+unfolding ticked place_of
+tick_leaves shape here thread = refl
 
 -- a pass acts for its thread
 pub pass_thread : {T : Type 0} (thread : ℕ) (me : Me (Option T) (View T)) → IsPass thread me → thread_of me.0 ≡ thread
@@ -50,7 +54,7 @@ idle_on o thread seen all here end reached within idle b there =
     (omega (arith, within, still), same_place o.shape here end b.rest thread b.no_own onward ∙ idle)
 
 -- its opening is as small as before
-few_same : {T : Type 0} (v w : View T) (parts : List (Part T)) → w ≡ view_of v.opened parts → IsSmall v.opened → IsSmall w.opened
+pub few_same : {T : Type 0} (v w : View T) (parts : List (Part T)) → w ≡ view_of v.opened parts → IsSmall v.opened → IsSmall w.opened
 few_same {T} v w parts is few = subst IsSmall (sym (ap (λ (x : View T). x.opened) is)) few
 
 passes_on : {T : Type 0} (thread : ℕ) (old new : Me (Option T) (View T)) (all : List Event) (gifts : Gifts T) (end : World)
@@ -79,7 +83,7 @@ passes_on {T} thread old new all gifts end p is held b there =
       few = few_same old.0 new.0 (part thread all gifts _ ∷ []) is p.few;
     }
 
-alone_with : {T : Type 0} (thread : ℕ) (old : Me (Option T) (View T)) (all : List Event) (gifts : Gifts T) (hand : Hand T)
+pub alone_with : {T : Type 0} (thread : ℕ) (old : Me (Option T) (View T)) (all : List Event) (gifts : Gifts T) (hand : Hand T)
     → IsPass thread old → with_seen old.0 all gifts hand ≡ view_of old.0.opened (part thread all gifts hand ∷ [])
 alone_with {T} thread old all gifts hand p =
     ap (λ (ps : List (Part T)). view_of old.0.opened (part (thread_in ps) all gifts hand ∷ more_in ps)) p.alone

@@ -19,6 +19,7 @@ use Rattle.kfifo_machine.specs.Program.{access, accessed}
 use Rattle.kfifo_machine.specs.Machine.{World, opening, moved, ticked, word_at, place_of, words_after, step, run}
 use Rattle.kfifo_machine.specs.Runs.{own, going}
 use Rattle.kfifo_machine.proofs.Places.{in_table}
+use Rattle.kfifo_machine.proofs.Versions.{sealed-other}
 use Rattle.kfifo_machine.proofs.Schedules.{Some-injective, first_made, made_within, own-append, same_threads, stepped}
 use Rattle.kfifo_machine.specs.Places.{IsPlace}
 use Rattle.kfifo_machine.proofs.Sound.{IsSound, going_place, place_is, sound, sound_threads, step_sound}
@@ -42,6 +43,7 @@ pub no_tick : (shape : Shape) (place : Option Running) (begin : Option Begin) (r
 no_tick shape place None running is = refl
 no_tick shape place (Some (B.Enqueue item start turns)) running is = refl
 no_tick shape place (Some (B.Dequeue start turns)) running is = refl
+no_tick shape place (Some B.Seal) running is = refl
 no_tick shape None (Some B.Tick) running is = absurd (cc)
 no_tick shape (Some r) (Some B.Tick) running is = absurd (cc)
 
@@ -128,10 +130,17 @@ clock_on shape here there e outcome sound made =
           let none : ticks (e ∷ []) ≡ 0 = ticks_of_one e
           ∙ ap (λ b. cond b 1 0) (no_tick shape (place_of here e.thread) e.begin s.running s.goes) in
           omega arith
-      | inr t ↦
-          let more = ap (λ (w : World). word_at w (clock_at shape.k shape.n)) t.there_is ∙ clock-ticked shape here sound.size in
-          let one : ticks (e ∷ []) ≡ 1 = ticks_of_one e ∙ ap (λ b. cond (begins_tick b) 1 0) t.begins in
-          omega arith
+      | inr o ↦ elim o.by [
+        | inl t ↦
+            let more = ap (λ (w : World). word_at w (clock_at shape.k shape.n)) t.there_is ∙ clock-ticked shape here sound.size in
+            let one : ticks (e ∷ []) ≡ 1 = ticks_of_one e ∙ ap (λ b. cond (begins_tick b) 1 0) t.begins in
+            omega arith
+        | inr z ↦
+            let same = ap (λ (w : World). word_at w (clock_at shape.k shape.n)) z.there_is
+            ∙ sealed-other shape here (clock_at shape.k shape.n) (λ zero. absurd (omega arith)) in
+            let none : ticks (e ∷ []) ≡ 0 = ticks_of_one e ∙ ap (λ b. cond (begins_tick b) 1 0) z.begins in
+            omega arith
+      ]
     ]
 
 clock_along : (shape : Shape) (here there : World) (events : List Event) → IsSound shape here → run shape (Some here) events ≡ Some there

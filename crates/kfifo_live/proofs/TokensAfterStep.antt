@@ -19,7 +19,7 @@ use Rattle.kfifo_machine.proofs.Losses.{word-moved}
 use Rattle.kfifo_machine.proofs.RoundsUndisturbed.{words_by}
 use Rattle.kfifo_machine.proofs.Schedules.{Some-injective, other_place, steps_on}
 use Rattle.kfifo_machine.proofs.Sound.{IsSound, sound, going_place, place_is}
-use Rattle.kfifo_machine.proofs.Versions.{one_word}
+use Rattle.kfifo_machine.proofs.Versions.{no_going_seal, no_going_tick, one_word}
 use Rattle.kfifo_machine.proofs.Budget.{own_place}
 use Rattle.kfifo_live.specs.Schedule.{world_after}
 use Rattle.kfifo_live.specs.Hands.{Gifts, Homes, Where, Out, Takes, move, gift, carried, beside, begun_hand, hand_after, slot_of, carrying}
@@ -78,6 +78,7 @@ module _ {T : Type 0} (bare : Bool) (shape : Shape) (w : ℕ → ℕ) (gifts : G
       begun_dequeue true e = sym (Some-injective _ _ e)
       begun_dequeue false e = absurd (cc)
   starts_call None (Some B.Tick) goes fits begins = absurd (cc)
+  starts_call None (Some B.Seal) goes fits begins = absurd (cc)
 
   starts_held : (place : Option Running) (begin : Option Begin) (tokens : ℕ) → going shape place begin ≡ Some r → 0 < tokens
       → IsPlace shape r → Carries place tokens hand held → BeginsWith bare begin hand held
@@ -95,6 +96,7 @@ module _ {T : Type 0} (bare : Bool) (shape : Shape) (w : ℕ → ℕ) (gifts : G
   starts_held None (Some (B.Dequeue start turns)) (suc n) goes some is_place c begins =
       c.1 ∙ ap (λ out. slot_of out c.0) begins ∙ sym (ap (λ out. slot_of out hand.payload) begins)
   starts_held None (Some B.Tick) (suc n) goes some is_place c begins = absurd (cc)
+  starts_held None (Some B.Seal) (suc n) goes some is_place c begins = absurd (cc)
 
 -- what begins with a token leaves the gifts of others
 same_gifts : {T : Type 0} (bare : Bool) (gifts : Gifts T) (hand : Hand T) (held : List (ℕ × Option T)) (at : ℕ → Where) (thread : ℕ)
@@ -107,6 +109,7 @@ same_gifts bare gifts hand held at thread (Some (B.Enqueue item start turns)) po
     (λ none_out. absurd (let e = begins.0 in let p = positive item start turns refl in omega arith))))
 same_gifts bare gifts hand held at thread (Some (B.Dequeue start turns)) positive begins out x ne = ap (beside x) (append-nil gifts)
 same_gifts bare gifts hand held at thread (Some B.Tick) positive begins out x ne = ap (beside x) (append-nil gifts)
+same_gifts bare gifts hand held at thread (Some B.Seal) positive begins out x ne = ap (beside x) (append-nil gifts)
 
 pub begun_item : (shape : Shape) (place : Option Running) (begin : Option Begin) (r : Running) → going shape place begin ≡ Some r
     → IsPlace shape r → (item start turns : ℕ) → begin ≡ Some (B.Enqueue item start turns) → 0 < item
@@ -127,15 +130,11 @@ same_home None held hand = (refl, refl)
 same_home (Some (B.Enqueue item start turns)) held hand = (refl, refl)
 same_home (Some (B.Dequeue start turns)) held hand = (refl, refl)
 same_home (Some B.Tick) held hand = (refl, refl)
+same_home (Some B.Seal) held hand = (refl, refl)
 
 found-word : (shape : Shape) (here : World) (r : Running) → found shape here r ≡ word_at here (accessed (access shape r))
 unfolding found word_at
 found-word shape here r = refl
-
-no_tick : (shape : Shape) (place : Option Running) (begin : Option Begin) (r : Running) → begin ≡ Some B.Tick
-    → going shape place begin ≡ Some r → ⊥
-no_tick shape None begin r is goes = absurd (let e = ap (going shape None) (sym is) ∙ goes in cc)
-no_tick shape (Some q) begin r is goes = absurd (let e = ap (going shape (Some q)) (sym is) ∙ goes in cc)
 
 module _ {T : Type 0} (o : Opening) (all : List Event) (world : World) (at : ℕ → Where) (gifts : Gifts T) (homes : Homes T) (thread : ℕ)
     (place : Option Running) (begin : Option Begin) (r : Running) (hand : Hand T) (held : List (ℕ × Option T))
@@ -172,7 +171,8 @@ module _ {T : Type 0} (o : Opening) (all : List Event) (world : World) (at : ℕ
         | inl same ↦ inl (sym now ∙ same)
         | inr ne ↦ elim (one.only_so i ne) [
           | inl won ↦ inr (let up = (one.won i _ won).1 in let e = ap version_of now in omega arith)
-          | inr tick ↦ absurd (no_tick o.shape (place_of world thread) begin r tick.begins goes_now)
+          | inr (inl tick) ↦ absurd (no_going_tick o.shape (place_of world thread) begin r tick.begins goes_now)
+          | inr (inr seal) ↦ absurd (no_going_seal o.shape (place_of world thread) begin r seal.begins goes_now)
         ]
       ]
 

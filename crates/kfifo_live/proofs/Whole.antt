@@ -93,6 +93,7 @@ own_from shape (Some (B.Dequeue start turns)) None running me mine payload stood
     of_may true e = sym (Some-injective _ _ e)
     of_may false e = absurd (cc)
 own_from shape (Some B.Tick) None running me mine payload stood from has = absurd (cc)
+own_from shape (Some B.Seal) None running me mine payload stood from has = absurd (cc)
 own_from shape None place running me mine payload stood from has =
     let p = has.0 in
     let there = has.1 in

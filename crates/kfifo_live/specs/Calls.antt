@@ -10,7 +10,7 @@ use Rattle.kfifo_machine.specs.Runs.{CompleteExecution, own}
 use Rattle.kfifo_machine.specs.Laws.{IsRefusal, PutsNext, most_events}
 use Rattle.kfifo_machine.specs.Causes.{CauseOfFull, CauseOfWorn, looks, start_of}
 use Rattle.kfifo_machine.specs.Rounds.{LosesAll, OtherWins, turns_of}
-use Rattle.kfifo_progress.specs.Progress.{AllHaveTurns, calls_answered, turns_for_progress}
+use Rattle.kfifo_progress.specs.Progress.{AllHaveTurns, calls_answered, seals_in, turns_for_progress}
 use Rattle.kfifo_live.specs.Pass.{PassView}
 use Rattle.kfifo_live.specs.Schedule.{world_after}
 
@@ -44,11 +44,11 @@ IsDisturbed old new = (here : World) → world_after old.opened old.seen ≡ Som
     → OtherWins old.opened.shape old.thread here (added old new)
 
 -- Progress: where the queue holds again and has more segments than threads, and each call that began meanwhile, itself
--- included, has turns enough, another call ended meanwhile with another answer than Busy
+-- included, has turns enough, another call ended meanwhile with another answer than Busy, or the ends were sealed
 abbrev pub OtherAnswers : PassView → PassView → Type 0
 OtherAnswers old new = old.opened.shape.holds_again ≡ true → old.opened.threads < old.opened.shape.n
     → AllHaveTurns (turns_for_progress old.opened.shape old.opened.threads) (added old new)
-    → 0 < calls_answered old.opened.shape (world_after old.opened old.seen) (added old new)
+    → 0 < calls_answered old.opened.shape (world_after old.opened old.seen) (added old new) + seals_in (added old new)
 
 -- a word that the call put into a slot does not stand there when it has ended, nor ever after
 abbrev pub LeavesNoItem : PassView → PassView → Type 0

@@ -13,6 +13,7 @@ pub mod Capacities
 pub mod Handles
 pub mod Balance
 pub mod Calls
+pub mod Seals
 pub mod Stamps
 pub mod Faults
 pub mod Refusals

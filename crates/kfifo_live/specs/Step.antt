@@ -1,13 +1,13 @@
 -- What one atomic step adds to what a seat has seen, and where the steps of a call lead its thread.
 use Rattle.std.specs.Prelude.{◌≡◌, ℕ, ◌+◌, ◌-◌, ◌*◌, ◌<◌, ◌≤◌, List, [], ◌∷◌, ◌++◌, length, get_or, Option, Some, None}
-use Rattle.std.specs.Prelude.{Ok}
+use Rattle.std.specs.Prelude.{Ok, ◌==◌, if◌then◌else◌}
 use Rattle.std.specs.List.{AllByRecursion}
 use Rattle.atomic_table.specs.declared.shared.Seat.{Seat}
 use Rattle.atomic_table.specs.Table.{Me}
 use Rattle.kfifo_words.specs.declared.shape.Shape.{Shape}
 use Rattle.kfifo_words.specs.Ring.{clock_at}
 use Rattle.kfifo_machine.specs.declared.event.Begin.{Begin}
-use Rattle.kfifo_machine.specs.declared.event.Begin.TheVariants.{Tick}
+use Rattle.kfifo_machine.specs.declared.event.Begin.TheVariants.{Tick, Seal}
 use Rattle.kfifo_machine.specs.declared.event.Begin.TheVariants as B
 use Rattle.kfifo_machine.specs.declared.event.Event.{Event}
 use Rattle.kfifo_machine.specs.declared.event.Outcome.TheVariants.{Went}
@@ -16,7 +16,7 @@ use Rattle.kfifo_machine.specs.declared.place.Access.TheVariants.{Load}
 use Rattle.kfifo_machine.specs.declared.place.Running.{Running}
 use Rattle.kfifo_machine.specs.declared.place.Next.{Next}
 use Rattle.kfifo_machine.specs.Program.{access, advance}
-use Rattle.kfifo_machine.specs.Machine.{World, found, ticked, word_at, place_of, place_after, outcome_of, step}
+use Rattle.kfifo_machine.specs.Machine.{World, found, ticked, word_at, place_of, place_after, outcome_of, run, step}
 use Rattle.kfifo_machine.specs.Runs.{event, own, going, AllGoOn, BeginsOnce}
 use Rattle.kfifo_machine.specs.Places.{IsPlace, IsFoundBy}
 use Rattle.kfifo_live.specs.declared.ring.Ring.{Ring}
@@ -79,6 +79,21 @@ module _ {T : Type 0} where
     pub made : step v.opened.shape here (event (thread_of v) (Some Tick)) ≡ Ok (ticked v.opened.shape here, Went)
     pub afterwards : w ≡ with_seen v ((seen_of v ++ between) ++ event (thread_of v) (Some Tick) ∷ [])
         (gifts_of v ++ given) (hand_of v)
+
+  -- A seal that the first part's thread tries, which is in no call: events of others, after which it finds this ends
+  -- word; and where it is the one that it seeks, its own seal
+  pub record TriesSeal (sought : ℕ) (v : View T) (word : ℕ) (w : View T) : Type 0 where
+    pub between : List Event
+    pub given : Gifts T
+    pub here : World
+    pub end : World
+    pub seal : List Event
+    pub others : own (thread_of v) between ≡ []
+    pub reached : world_after v.opened (seen_of v ++ between) ≡ Some here
+    pub word_is : word ≡ word_at here 0
+    pub seal_is : seal ≡ (if word == sought then event (thread_of v) (Some Seal) ∷ [] else [])
+    pub made : run v.opened.shape (Some here) seal ≡ Some end
+    pub afterwards : w ≡ with_seen v ((seen_of v ++ between) ++ seal) (gifts_of v ++ given) (hand_of v)
 
   -- a look at a word, which is no event: the schedule so far was seen
   pub record Looks (index word : ℕ) (v w : View T) : Type 0 where

@@ -5,7 +5,7 @@ ghost use Rattle.kfifo_machine.specs.declared.event.Begin.{Begin};
 ghost use Rattle.kfifo_machine.specs.declared.event.Begin.TheVariants.{Tick};
 ghost use Rattle.kfifo_live.specs.Schedule.{OneSchedule, first_view, first_part, other_parts, no_part, both_parts};
 ghost use Rattle.kfifo_live.specs.Schedule.{view_of, small_opening, less_next, resting_of, with_resting};
-ghost use Rattle.kfifo_live.specs.Step.{Steps, DrawsStamp, DrawsToken, LaysBack, CountsTokens, Looks};
+ghost use Rattle.kfifo_live.specs.Step.{Steps, DrawsStamp, TriesSeal, DrawsToken, LaysBack, CountsTokens, Looks};
 
 use crate::view::{Opening, View};
 use atomic_table::{Join, Play, Split, TableRule};
@@ -52,6 +52,13 @@ pub struct DrawStamp;
 
 impl<T> Play<Option<T>, View<T>> for DrawStamp {
     ghost then = { λ s v found w. DrawsStamp v.0 found w.0 × (w.1 ≡ v.1) };
+}
+
+/// A compare-and-exchange of the ends word by an idle thread, to the same with the last version: a seal where it is won.
+pub struct SealStep;
+
+impl<T> Play<Option<T>, View<T>> for SealStep {
+    ghost then = { λ s v found w. TriesSeal s.first v.0 found w.0 × (w.1 ≡ v.1) };
 }
 
 /// A load that is no step of a call.

@@ -2,12 +2,15 @@
 ghost use Rattle.std.specs.Prelude.{◌≡◌, ◌≢◌, ◌<◌, ◌≤◌, ◌-◌, ℕ, List, [], ◌∷◌, length, None};
 ghost use Rattle.kfifo_live.specs.Schedule.{IsSeated, hand_of, more_in, first_part, other_parts, no_part, both_parts};
 ghost use Rattle.kfifo_live.specs.Schedule.{less_next, resting_of, resting_view, with_resting};
-ghost use Rattle.kfifo_live.specs.Step.{CountsTokens, DrawsToken, IsAt, LaysBack, Looks};
+ghost use Rattle.std.specs.Prelude.{true};
+ghost use Rattle.kfifo_machine.specs.Machine.{may_seal};
+ghost use Rattle.kfifo_live.specs.Step.{CountsTokens, DrawsToken, IsAt, LaysBack, Looks, TriesSeal};
 
 use crate::rule::{
-    AddToken, All, CountTokens, CutToken, DrawToken, Gather, LayBack, Observation, Opened, Rest,
+    AddToken, All, CountTokens, CutToken, DrawToken, Gather, LayBack, Observation, Opened, Rest, SealStep,
 };
 use crate::view::{ThreadSeat, Words};
+use kfifo_words::{ENDS_INDEX, Ends, Shape};
 
 /// One load of a word. All that was done up to now was then seen.
 pub(crate) fn observe<T>(shared: &Words<T>, seat: &mut ThreadSeat<T>, index: usize) -> u64
@@ -17,6 +20,26 @@ pub(crate) fn observe<T>(shared: &Words<T>, seat: &mut ThreadSeat<T>, index: usi
     ensures looks { Looks index result seat.old.me.0 seat.new.me.0 }
 {
     shared.load::<Observation>(seat, index)
+}
+
+/// Exchanges the ends, where they are still these, for the same with the last version, and returns the ends that it
+/// found: `ends` where it was won. That is a seal.
+pub(crate) fn try_seal<T>(
+    shared: &Words<T>,
+    seat: &mut ThreadSeat<T>,
+    shape: &Shape,
+    ends: Ends,
+) -> Ends
+    requires table { (seat.old.table_id ≡ shared.now.table_id) × (0 < shared.now.table_id.words) }
+    requires shape { seat.old.me.0.opened.shape ≡ shape.now }
+    requires idle { IsAt None seat.old.me }
+    requires may { may_seal shape.now ends ≡ true }
+    ensures same { (seat.new.table_id ≡ seat.old.table_id) × (seat.new.me.1 ≡ seat.old.me.1) }
+    ensures tries { TriesSeal ends seat.old.me.0 result seat.new.me.0 }
+{
+    let sealed = Ends::pack(ends.head(), ends.tail(), shape.last());
+    let found = shared.compare_exchange::<SealStep>(seat, ENDS_INDEX, ends.bits(), sealed.bits());
+    Ends::of_bits(found)
 }
 
 /// Takes a token of the thread out, with its slot. It is one load of the ends word, and no event.

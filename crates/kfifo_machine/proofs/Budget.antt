@@ -12,7 +12,7 @@ use Rattle.kfifo_machine.specs.declared.place.DequeuePhase.TheVariants as D
 use Rattle.kfifo_machine.specs.declared.place.Running.TheVariants as R
 use Rattle.kfifo_machine.specs.declared.place.Next.TheVariants.{Goes, Answers}
 use Rattle.kfifo_machine.specs.Program.{advance}
-use Rattle.kfifo_machine.specs.Machine.{World, opening, place_of, place_after, moved, ticked, found, may_begin, step, run}
+use Rattle.kfifo_machine.specs.Machine.{World, opening, place_of, place_after, moved, found, may_begin, step, run}
 use Rattle.kfifo_machine.specs.Runs.{event, own, going, AllGoOn}
 use Rattle.kfifo_machine.specs.Places.{IsPlace}
 use Rattle.kfifo_machine.specs.Laws.{most_events, FewEvents}
@@ -59,13 +59,8 @@ left_falls shape here e there outcome running sound is goes =
           ≡ left_of shape.k (place_after (advance shape s.running (found shape here s.running))) = ap (left_of shape.k) at in
           let e2 : budget shape.k s.running ≡ budget shape.k running = ap (budget shape.k) same in
           omega arith
-      | inr t ↦ absurd (idle_ticks (place_of here e.thread) t.idle t.begins goes)
+      | inr t ↦ absurd (let h : None ≡ Some running = sym t.begins_none ∙ goes in cc)
     ]
-  where
-    idle_ticks : (place : Option Running) → place ≡ None → e.begin ≡ Some B.Tick → going shape place e.begin ≡ Some running → ⊥
-    idle_ticks place idle begins at = let h : going shape None (Some B.Tick) ≡ Some running =
-        ap (λ (b : Option Begin). going shape None b) (sym begins) ∙ ap (λ (p : Option Running). going shape p e.begin) (sym idle) ∙ at in
-        cc
 
 -- an event that begins nothing goes on from its thread's place
 pub goes_on_from : (shape : Shape) (here : World) (e : Event) (there : World) (outcome : Outcome) → step shape here e ≡ Ok (there, outcome)
@@ -74,7 +69,10 @@ pub goes_on_from : (shape : Shape) (here : World) (e : Event) (there : World) (o
 goes_on_from shape here e there outcome is none =
     elim (stepped shape here e there outcome is) [
       | inl s ↦ (s.running, from_place (place_of here e.thread) s.running (ap (going shape (place_of here e.thread)) (sym none) ∙ s.goes))
-      | inr t ↦ absurd (let h : None ≡ Some B.Tick = sym none ∙ t.begins in cc)
+      | inr o ↦ absurd (elim o.by [
+        | inl t ↦ let h : None ≡ Some B.Tick = sym none ∙ t.begins in cc
+        | inr z ↦ let h : None ≡ Some B.Seal = sym none ∙ z.begins in cc
+      ])
     ]
   where
     from_place : (place : Option Running) (running : Running) → going shape place None ≡ Some running → place ≡ Some running
@@ -130,6 +128,7 @@ begun_left : (shape : Shape) (place : Option Running) (call : Begin) (running : 
     → budget shape.k running ≡ most_events shape call
 begun_left shape (Some r) call running is = absurd (cc)
 begun_left shape None B.Tick running is = absurd (cc)
+begun_left shape None B.Seal running is = absurd (cc)
 begun_left shape None (B.Enqueue item start turns) running is = begins (may_begin shape (B.Enqueue item start turns)) refl is
   where
     begins : (m : Bool) → may_begin shape (B.Enqueue item start turns) ≡ m
@@ -152,11 +151,6 @@ begun_left shape None (B.Dequeue start turns) running is = begins (may_begin sha
         dequeue_begin h = budget-begin shape.k 0 start turns h
     begins false may at = absurd (cc)
 
--- a tick leaves each thread where it was
-pub tick_leaves : (shape : Shape) (here : World) (thread : ℕ) → place_of (ticked shape here) thread ≡ place_of here thread
-unfolding ticked place_of
-tick_leaves shape here thread = refl
-
 -- the first event of a call, and what it leaves
 pub begin_left : (shape : Shape) (here : World) (e : Event) (there : World) (outcome : Outcome) (call : Begin) → IsSound shape here
     → step shape here e ≡ Ok (there, outcome) → e.begin ≡ Some call
@@ -170,10 +164,11 @@ begin_left shape here e there outcome call sound is begins =
           begun_left shape (place_of here e.thread) call s.running (ap (going shape (place_of here e.thread)) (sym begins) ∙ s.goes) in
           omega arith
       | inr t ↦
-          let gone : left_of shape.k (place_of there e.thread) ≡ 0 =
-          ap (λ (w : World). left_of shape.k (place_of w e.thread)) t.there_is
-          ∙ ap (left_of shape.k) (tick_leaves shape here e.thread ∙ t.idle) in
-          let one : most_events shape call ≡ 1 = ap (most_events shape) (Some-injective call B.Tick (sym begins ∙ t.begins)) in
+          let gone : left_of shape.k (place_of there e.thread) ≡ 0 = ap (left_of shape.k) (t.leaves e.thread ∙ t.idle) in
+          let one : most_events shape call ≡ 1 = elim t.by [
+            | inl tick ↦ ap (most_events shape) (Some-injective call B.Tick (sym begins ∙ tick.begins))
+            | inr seal ↦ ap (most_events shape) (Some-injective call B.Seal (sym begins ∙ seal.begins))
+          ] in
           omega arith
     ]
 

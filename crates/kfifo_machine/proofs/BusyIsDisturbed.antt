@@ -17,7 +17,7 @@ use Rattle.kfifo_machine.specs.Rounds.{WinsSome, OtherWins, turns_of, BusyIsDist
 use Rattle.kfifo_machine.proofs.Schedules.{Some-injective, run-append, run_on, first_made, made_within, stepped, other_place, own-append}
 use Rattle.kfifo_machine.proofs.Sound.{IsSound, sound, going_place, place_is, step_sound}
 use Rattle.kfifo_machine.proofs.Versions.{ticked-other}
-use Rattle.kfifo_machine.proofs.Budget.{own_place, own_first, tick_leaves}
+use Rattle.kfifo_machine.proofs.Budget.{own_place, own_first}
 use Rattle.kfifo_machine.proofs.Refusals.{own_step}
 use Rattle.kfifo_machine.proofs.Paths.{none_after, answered, begins_from, begun_goes, never_at_once}
 use Rattle.kfifo_machine.proofs.RoundsUndisturbed.{words_by}
@@ -48,9 +48,12 @@ won_or_same shape here next e outcome made =
     elim (stepped shape here e next outcome made) [
       | inl s ↦ elim (moved_wins shape here e.thread s.running) [
         | inl same ↦ inl (λ i below. ap (λ (w : World). word_at w i) s.there_is ∙ same i)
-        | inr k ↦ inr (record { index = k.0; to = k.1.0; wins = record { running = s.running; stands = s.goes; exchange = k.1.1 } })
+        | inr k ↦ inr (record { index = k.0; wins = inl (k.1.0, record { running = s.running; stands = s.goes; exchange = k.1.1 }) })
       ]
-      | inr t ↦ inl (λ i below. ap (λ (w : World). word_at w i) t.there_is ∙ ticked-other shape here i (λ same. absurd (omega arith)))
+      | inr o ↦ elim o.by [
+        | inl t ↦ inl (λ i below. ap (λ (w : World). word_at w i) t.there_is ∙ ticked-other shape here i (λ same. absurd (omega arith)))
+        | inr z ↦ inr (record { index = 0; wins = inr (record { begins = z.begins; ends = refl }) })
+      ]
     ]
 
 -- among these events another thread wins an exchange, before the last own one
@@ -228,8 +231,7 @@ first_alone shape thread call last before there mine ends e es here next outcome
           (ap (place_of next) (sym own_is) ∙ at_next ∙ ap place_after goes.1) so on runs
       | inr t ↦
           let idle : place_of next thread ≡ None =
-          ap (place_of next) (sym own_is) ∙ ap (λ (w : World). place_of w e.thread) t.there_is ∙ tick_leaves shape here e.thread
-          ∙ t.idle in
+          ap (place_of next) (sym own_is) ∙ t.leaves e.thread ∙ t.idle in
           absurd (none_after shape next there thread es last safe idle mine on
           (run-append shape (Some next) es (last ∷ []) ∙ ap (λ (w : Option World). run shape w (last ∷ [])) runs ∙ ap world_of ends))
     ]

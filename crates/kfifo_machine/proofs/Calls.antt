@@ -33,7 +33,7 @@ use Rattle.kfifo_machine.specs.Machine.{after}
 use Rattle.kfifo_machine.specs.Runs.{going}
 use Rattle.kfifo_machine.specs.Calls.{Log, begins, ended, ends, logged, logged_by, log_from, blank, log_of, history_of}
 use Rattle.kfifo_machine.proofs.Schedules.{Some-injective, first_made, made_within, stepped, other_place, same_threads, take-next}
-use Rattle.kfifo_machine.proofs.Budget.{own_place, tick_leaves, goes_on_from}
+use Rattle.kfifo_machine.proofs.Budget.{own_place, goes_on_from}
 
 -- what a thread at this place was asked for
 abbrev pub op_of : Running → Op
@@ -296,7 +296,7 @@ module _ (threads : ℕ) (here there : World) (now thread : ℕ) (op : Op) (runn
     threads_are = still ∙ is.threads_are;
   }
 
--- A thread goes on with its call, or idles and ticks
+-- A thread goes on with its call, or does something outside of calls
 module _ (threads : ℕ) (here there : World) (now thread : ℕ) (log : Log) (is : IsLog threads here now log)
     (apart : (t : ℕ) → t ≢ thread → place_of there t ≡ place_of here t)
     (still : length there.places ≡ length here.places) where
@@ -324,8 +324,8 @@ module _ (threads : ℕ) (here there : World) (now thread : ℕ) (log : Log) (is
     threads_are = still ∙ is.threads_are;
   }
 
-  tick_log : place_of there thread ≡ place_of here thread → IsLog threads there (now + 1) log
-  tick_log same =
+  idle_log : place_of there thread ≡ place_of here thread → IsLog threads there (now + 1) log
+  idle_log same =
       let all : (t : ℕ) → place_of there t ≡ place_of here t =
       λ t. elim (cases_eq t thread) [
         | inl mine ↦ ap (place_of there) mine ∙ same ∙ ap (place_of here) (sym mine)
@@ -514,6 +514,7 @@ first_goes shape (B.Dequeue start turns) running word answer is ends =
     ap (λ (r : Running). advance shape r word) same ∙ ends in
     cc
 first_goes shape B.Tick running word answer is ends = cc
+first_goes shape B.Seal running word answer is ends = cc
 
 -- An event that was made keeps the log
 module _ (shape : Shape) (threads : ℕ) (here : World) (e : Event) (there : World) (outcome : Outcome) (now : ℕ) (log : Log)
@@ -560,6 +561,7 @@ module _ (shape : Shape) (threads : ℕ) (here : World) (e : Event) (there : Wor
       goes_so running (advance shape running (found shape here running)) (was ∙ goes) refl at comes
   steps_so (Some begin) (Some r) running was goes at comes = absurd (cc)
   steps_so (Some B.Tick) None running was goes at comes = absurd (cc)
+  steps_so (Some B.Seal) None running was goes at comes = absurd (cc)
   steps_so (Some (B.Enqueue item start turns)) None running was goes at comes =
       let k = may_begun shape (B.Enqueue item start turns) running (may_begin shape (B.Enqueue item start turns)) refl goes in
       begins_so (B.Enqueue item start turns) (O.Enqueue item) running (advance shape running (found shape here running)) was k.1 k.0
@@ -575,10 +577,13 @@ module _ (shape : Shape) (threads : ℕ) (here : World) (e : Event) (there : Wor
         | inl s ↦ steps_so e.begin (place_of here e.thread) s.running refl s.goes
             (ap (λ (w : World). place_of w e.thread) s.there_is
             ∙ own_place shape here e.thread s.running (made_within shape here e there outcome made)) s.outcome_is
-        | inr t ↦
-            subst (λ (b : Option Begin). IsLog threads there (now + 1) (logged now e.thread b outcome log)) (sym t.begins)
-            (tick_log threads here there now e.thread log is others (same_threads shape here e there outcome made)
-            (ap (λ (w : World). place_of w e.thread) t.there_is ∙ tick_leaves shape here e.thread))
+        | inr o ↦
+            let same : IsLog threads there (now + 1) log =
+            idle_log threads here there now e.thread log is others (same_threads shape here e there outcome made) (o.leaves e.thread) in
+            elim o.by [
+              | inl t ↦ subst (λ (b : Option Begin). IsLog threads there (now + 1) (logged now e.thread b outcome log)) (sym t.begins) same
+              | inr z ↦ subst (λ (b : Option Begin). IsLog threads there (now + 1) (logged now e.thread b outcome log)) (sym z.begins) same
+            ]
       ]
 
 -- a schedule keeps the log

@@ -442,6 +442,7 @@ first_so_far shape (B.Enqueue item start turns) running is =
 first_so_far shape (B.Dequeue start turns) running is =
     subst (λ (r : Running). SoFar shape start r []) (Some-injective (R.Dequeue start turns D.LoadEnds) running is) tt
 first_so_far shape B.Tick running is = absurd (cc)
+first_so_far shape B.Seal running is = absurd (cc)
 
 -- Full has its cause
 pub full_has_cause : (shape : Shape) (threads : ℕ) → FullHasCause shape threads

@@ -16,8 +16,8 @@ use Rattle.kfifo_machine.specs.declared.place.EnqueuePhase.TheVariants as E
 use Rattle.kfifo_machine.specs.declared.place.DequeuePhase.TheVariants as D
 use Rattle.kfifo_machine.specs.declared.place.Access.TheVariants.{Load, Exchange}
 use Rattle.kfifo_machine.specs.declared.place.Next.TheVariants.{Goes, Answers}
-use Rattle.kfifo_machine.specs.Program.{access, accessed, advance}
-use Rattle.kfifo_machine.specs.Machine.{World, opening, word_at, place_of, place_after, outcome_of, moved, ticked, found, begun, may_begin}
+use Rattle.kfifo_machine.specs.Program.{access, accessed, advance, sealed_word}
+use Rattle.kfifo_machine.specs.Machine.{World, opening, word_at, place_of, place_after, outcome_of, moved, ticked, sealed, found, begun, may_begin}
 use Rattle.kfifo_machine.specs.Machine.{step, world_of, run}
 use Rattle.kfifo_machine.specs.Runs.{going}
 use Rattle.kfifo_machine.specs.Places.{IsEnds, IsPlace}
@@ -25,13 +25,14 @@ use Rattle.kfifo_machine.specs.Floor.{NoOverlap, done_with, got_with, answers, F
 use Rattle.kfifo_machine.proofs.Places.{in_table}
 use Rattle.kfifo_machine.proofs.Schedules.{Some-injective, first_made, made_within, stepped, other_place}
 use Rattle.kfifo_machine.proofs.Sound.{IsSound, going_place, place_is, step_sound, opening_sound}
-use Rattle.kfifo_machine.proofs.Versions.{ticked-other, no_going_tick}
-use Rattle.kfifo_machine.proofs.Budget.{own_place, tick_leaves}
+use Rattle.kfifo_machine.proofs.Versions.{ticked-other, sealed-ends, sealed-other, sealed-same, no_going_tick}
+use Rattle.kfifo_machine.proofs.Budget.{own_place}
 use Rattle.kfifo_machine.proofs.Calls.{may_begun}
 use Rattle.kfifo_machine.proofs.RoundsUndisturbed.{words_by}
 use Rattle.kfifo_machine.proofs.Losses.{word-moved}
 use Rattle.kfifo_machine.proofs.BusyIsDisturbed.{sound-ends, found-is}
 use Rattle.kfifo_machine.proofs.Counting.{Rests, Keeps, After, distance-same}
+use Rattle.kfifo_machine.proofs.Between.{items-same, all-same, between-same}
 use Rattle.kfifo_machine.proofs.Filled.{holds, holds-empty, filled_from}
 use Rattle.kfifo_machine.proofs.Paths.{answered}
 use Rattle.kfifo_machine.proofs.StepsWithoutOverlap.{lone_step}
@@ -95,6 +96,7 @@ begins_keeping shape w done got (B.Dequeue start turns) running is r =
     subst (λ x. Keeps shape w x done got) (Some-injective (R.Dequeue start turns D.LoadEnds) running is)
     (record { sees = tt; between = r.between; items = (let c = r.items in omega arith) })
 begins_keeping shape w done got B.Tick running is r = absurd (cc)
+begins_keeping shape w done got B.Seal running is r = absurd (cc)
 
 from_idle : (shape : Shape) (w : ℕ → ℕ) (done got : ℕ) (place : Option Running) (begin : Option Begin) (running : Running) → place ≡ None
     → going shape place begin ≡ Some running → Rests shape w done got → Keeps shape w running done got
@@ -162,6 +164,27 @@ moved_lone shape here next e outcome running done got sound made is goes others 
     subst (λ (v : ℕ → ℕ). After shape v done got (advance shape running (found shape here running))) (sym same)
     (lone_step shape (view shape here) done got running (found shape here running) place ends k word)
 
+-- a seal of the ends leaves head, tail and slots
+sealed_rests : (shape : Shape) (here : World) (done got : ℕ) → IsSound shape here → Rests shape (view shape here) done got
+    → Rests shape (view shape (sealed shape here)) (done + 0) (got + 0)
+sealed_rests shape here done got sound r =
+    let w = view shape here in
+    let v = view shape (sealed shape here) in
+    let below : 0 < clock_at shape.k shape.n = omega arith in
+    let ends : v 0 ≡ sealed_word shape (w 0) =
+    view-below shape (sealed shape here) 0 below ∙ sealed-ends shape here sound
+    ∙ ap (sealed_word shape) (sym (view-below shape here 0 below)) in
+    let same = sealed-same shape (w 0) in
+    let head : head_of (v 0) ≡ head_of (w 0) = ap head_of ends ∙ same.0 in
+    let tail : tail_of (v 0) ≡ tail_of (w 0) = ap tail_of ends ∙ same.1 in
+    let slots : (i : ℕ) → 0 < i → v i ≡ w i =
+    λ i above. ap (λ x. cond (nat_lt i (clock_at shape.k shape.n)) x 0) (sealed-other shape here i (λ e. absurd (omega arith))) in
+    record {
+      between = rw (head, tail) (between-same shape w v (head_of (w 0)) (tail_of (w 0))
+          (λ s less far. let e = items-same shape w v s slots in omega arith) r.between);
+      items = let e = all-same shape w v slots in let i = r.items in omega arith;
+    }
+
 -- an event
 step_lone : (shape : Shape) (here next : World) (e : Event) (outcome : Outcome) (done got : ℕ) → IsSound shape here
     → step shape here e ≡ Ok (next, outcome)
@@ -180,9 +203,16 @@ step_lone shape here next e outcome done got sound made alone lone =
           (after_lone shape next e.thread done got (advance shape s.running (found shape here s.running)) at
           (λ t ne. other_place shape here e next outcome t ne made ∙ others t ne)
           (moved_lone shape here next e outcome s.running done got sound made s.there_is s.goes others lone))
-      | inr t ↦
-          subst (λ (o : Outcome). Lone shape next (done + done_with o) (got + got_with o)) (sym t.outcome_is)
-          (subst (λ (w : World). Lone shape w (done + 0) (got + 0)) (sym t.there_is) (ticked_lone shape here done got lone))
+      | inr o ↦
+          subst (λ (x : Outcome). Lone shape next (done + done_with x) (got + got_with x)) (sym o.outcome_is)
+          (elim o.by [
+            | inl t ↦ same_lone o.leaves (ap (view shape) t.there_is ∙ view-ticked shape here) lone
+            | inr z ↦
+                let others = alone (λ tick. absurd (let h : Some B.Tick ≡ Some B.Seal = sym tick ∙ z.begins in cc)) in
+                Idles (all_idle next e.thread (o.leaves e.thread ∙ o.idle) (λ t ne. o.leaves t ∙ others t ne))
+                (subst (λ (w : World). Rests shape (view shape w) (done + 0) (got + 0)) (sym z.there_is)
+                (sealed_rests shape here done got sound (rests_of others o.idle lone)))
+          ])
     ]
   where
     kept_rests : (shape : Shape) (w : ℕ → ℕ) (done got : ℕ) → Rests shape w done got → Rests shape w (done + 0) (got + 0)
@@ -192,16 +222,20 @@ step_lone shape here next e outcome done got sound made alone lone =
         → Keeps shape w running (done + 0) (got + 0)
     kept shape w running done got k = record { sees = k.sees; between = k.between; items = (let c = k.items in omega arith) }
 
-    ticked_lone : (shape : Shape) (here : World) (done got : ℕ) → Lone shape here done got
-        → Lone shape (ticked shape here) (done + 0) (got + 0)
-    ticked_lone shape here done got (Idles idle r) =
-        Idles (λ t. tick_leaves shape here t ∙ idle t)
-        (subst (λ (w : ℕ → ℕ). Rests shape w (done + 0) (got + 0)) (sym (view-ticked shape here))
-        (kept_rests shape (view shape here) done got r))
-    ticked_lone shape here done got (Calls_one t running at rest k) =
-        Calls_one t running (tick_leaves shape here t ∙ at) (λ u ne. tick_leaves shape here u ∙ rest u ne)
-        (subst (λ (w : ℕ → ℕ). Keeps shape w running (done + 0) (got + 0)) (sym (view-ticked shape here))
-        (kept shape (view shape here) running done got k))
+    same_lone : ((t : ℕ) → place_of next t ≡ place_of here t) → view shape next ≡ view shape here → Lone shape here done got
+        → Lone shape next (done + 0) (got + 0)
+    same_lone leaves same (Idles idle r) =
+        Idles (λ t. leaves t ∙ idle t)
+        (subst (λ (w : ℕ → ℕ). Rests shape w (done + 0) (got + 0)) (sym same) (kept_rests shape (view shape here) done got r))
+    same_lone leaves same (Calls_one t running at rest k) =
+        Calls_one t running (leaves t ∙ at) (λ u ne. leaves u ∙ rest u ne)
+        (subst (λ (w : ℕ → ℕ). Keeps shape w running (done + 0) (got + 0)) (sym same) (kept shape (view shape here) running done got k))
+
+    rests_of : ((t : ℕ) → t ≢ e.thread → place_of here t ≡ None) → place_of here e.thread ≡ None → Lone shape here done got
+        → Rests shape (view shape here) done got
+    rests_of others idle (Idles all r) = r
+    rests_of others idle (Calls_one t running at rest k) =
+        absurd (let h : None ≡ Some running = sym (all_idle here e.thread idle others t) ∙ at in cc)
 
 lone_counts : (shape : Shape) (v w : World) (a b c d : ℕ) → Lone shape v a b → v ≡ w → a ≡ c → b ≡ d → Lone shape w c d
 lone_counts shape v w a b c d lone world ea eb = rw (← world, ← ea, ← eb) lone

@@ -6,7 +6,7 @@ use Rattle.std.proofs.lemmas.Bool.{cases_eq, cases_Bool}
 use Rattle.std.proofs.lemmas.Bool.Decides.{nat_tests}
 use Rattle.std.proofs.lemmas.Grind.{get_or-set_at}
 use Rattle.std.proofs.lemmas.List.{get_or-set_other, append_assoc}
-use Rattle.kfifo_machine.proofs.Types.{Access, Answer, Begin, Event, Next, Outcome, Running, Shape}
+use Rattle.kfifo_machine.proofs.Types.{Access, Begin, Event, Next, Outcome, Running, Shape}
 use Rattle.kfifo_words.specs.Ring.{clock_at}
 use Rattle.kfifo_model.specs.declared.calls.Answer.TheVariants as A
 use Rattle.kfifo_machine.specs.declared.event.Begin.TheVariants as B
@@ -23,12 +23,12 @@ use Rattle.kfifo_machine.specs.Runs.{event, own, going, AllGoOn}
 use Rattle.kfifo_machine.specs.Places.{IsPlace}
 use Rattle.kfifo_machine.specs.Laws.{moves_head, moves_tail}
 use Rattle.kfifo_machine.specs.Causes.{Look, AllOfRound, looks, looks_from, round_of}
-use Rattle.kfifo_machine.specs.Rounds.{WinsSome, Disturbed, LooksAgain, LostRound, LosesAll, reloads_slot, turns_of, BusyHasCause}
+use Rattle.kfifo_machine.specs.Rounds.{WinsSome, Disturbed, LooksAgain, LostRound, LosesAll, turns_of, BusyHasCause}
 use Rattle.kfifo_machine.proofs.Places.{in_table}
 use Rattle.kfifo_machine.proofs.Schedules.{Some-injective, run-append, run_on, first_made, made_within, stepped, other_place}
 use Rattle.kfifo_machine.proofs.Sound.{IsSound, sound, going_place, place_is, step_sound}
 use Rattle.kfifo_machine.proofs.Versions.{one_word}
-use Rattle.kfifo_machine.proofs.Budget.{own_place, own_first, tick_leaves}
+use Rattle.kfifo_machine.proofs.Budget.{own_place, own_first}
 use Rattle.kfifo_machine.proofs.Refusals.{own_step}
 use Rattle.kfifo_machine.proofs.Causes.{all_of_round-append}
 use Rattle.kfifo_machine.proofs.Paths.{looks-own, looks-other, none_after, answered, begins_from, never_at_once}
@@ -174,8 +174,9 @@ won_or_same shape here next e outcome i sound made below =
     elim (cases_eq (word_at next i) (word_at here i)) [
       | inl same ↦ inl same
       | inr ne ↦ elim (one.only_so i ne) [
-        | inl w ↦ inr (record { index = i; to = word_at next i; wins = w })
-        | inr t ↦ absurd (let c = t.clock in omega arith)
+        | inl w ↦ inr (record { index = i; wins = inl (word_at next i, w) })
+        | inr (inl t) ↦ absurd (let c = t.clock in omega arith)
+        | inr (inr z) ↦ inr (record { index = i; wins = inr z })
       ]
     ]
 
@@ -577,6 +578,7 @@ begun_open (B.Dequeue start turns) running is =
     let same : R.Dequeue start turns D.LoadEnds ≡ running = Some-injective _ running is in
     (ap opens_round (sym same), ap round_of (sym same))
 begun_open B.Tick running is = absurd (cc)
+begun_open B.Seal running is = absurd (cc)
 
 -- the first event of the call
 first_own_step : (shape : Shape) (thread : ℕ) (call : Begin) (last : Event) (before there : World) → last.thread ≡ thread
@@ -602,8 +604,7 @@ first_own_step shape thread call last before there mine ends e es here next outc
           )
       | inr t ↦
           let idle : place_of next thread ≡ None =
-          ap (place_of next) (sym own_is) ∙ ap (λ (w : World). place_of w e.thread) t.there_is ∙ tick_leaves shape here e.thread
-          ∙ t.idle in
+          ap (place_of next) (sym own_is) ∙ t.leaves e.thread ∙ t.idle in
           absurd (none_after shape next there thread es last safe idle mine on
           (run-append shape (Some next) es (last ∷ []) ∙ ap (λ (w : Option World). run shape w (last ∷ [])) runs ∙ ap world_of ends))
     ]

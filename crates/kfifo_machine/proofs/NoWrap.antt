@@ -1,6 +1,6 @@
 -- Head and tail are where the numbers of their won moves say, and the tail is never a whole round ahead.
-use Rattle.std.proofs.Common.{◌≡◌, ◌≢◌, ℕ, zero, suc, ◌+◌, ◌*◌, ◌%◌, ◌<◌, ◌≤◌, List, [], ◌∷◌, length, get_or, set, replicate, Option, Some}
-use Rattle.std.proofs.Common.{None, Ok, Bool, true, false, refl, sym, ap, ◌∙◌, inl, inr, arith, cond}
+use Rattle.std.proofs.Common.{◌≡◌, ◌≢◌, ◌⊎◌, ℕ, zero, suc, ◌+◌, ◌*◌, ◌%◌, ◌<◌, ◌≤◌, List, [], ◌∷◌, length, get_or, set, replicate, Option}
+use Rattle.std.proofs.Common.{Some, None, Ok, Bool, true, false, refl, sym, ap, ◌∙◌, inl, inr, arith, cond}
 use Rattle.std.specs.Prelude.{◌==◌}
 use Rattle.std.proofs.Math.Nat.{zero-mod, mod-lt}
 use Rattle.std.proofs.lemmas.Bool.{cases_eq, cases_lt}
@@ -10,21 +10,20 @@ use Rattle.std.proofs.lemmas.List.{get_or-set_other}
 use Rattle.kfifo_machine.proofs.Types.{Access, Begin, DequeuePhase, EnqueuePhase, Event, Next, Outcome, Running, Shape}
 use Rattle.kfifo_words.specs.Words.{ends_word, head_of, tail_of}
 use Rattle.kfifo_words.specs.Ring.{next_segment, clock_at}
-use Rattle.kfifo_machine.specs.declared.event.Begin.TheVariants as B
 use Rattle.kfifo_machine.specs.declared.place.EnqueuePhase.TheVariants as E
 use Rattle.kfifo_machine.specs.declared.place.DequeuePhase.TheVariants as D
 use Rattle.kfifo_machine.specs.declared.place.Running.TheVariants as R
 use Rattle.kfifo_machine.specs.declared.place.Next.TheVariants.{Goes, Answers}
 use Rattle.kfifo_machine.specs.declared.place.Access.TheVariants.{Load, Exchange}
-use Rattle.kfifo_machine.specs.Program.{access, accessed, advance}
+use Rattle.kfifo_machine.specs.Program.{access, accessed, advance, sealed_word}
 use Rattle.kfifo_machine.specs.Machine.{World, opening, word_at, place_of, place_after, words_after, moved, ticked, found, begun, may_begin}
 use Rattle.kfifo_machine.specs.Machine.{step, run}
 use Rattle.kfifo_machine.specs.Runs.{going}
 use Rattle.kfifo_machine.specs.Places.{IsPlace}
 use Rattle.kfifo_machine.specs.Laws.{moves_head, moves_tail, counted, count, NoWrap}
-use Rattle.kfifo_machine.proofs.Schedules.{Some-injective, first_made, made_within, stepped}
+use Rattle.kfifo_machine.proofs.Schedules.{Some-injective, first_made, made_within, stepped, Ticks, Seals}
 use Rattle.kfifo_machine.proofs.Sound.{IsSound, going_place, place_is, step_sound, opening_sound}
-use Rattle.kfifo_machine.proofs.Versions.{next_segment-below}
+use Rattle.kfifo_machine.proofs.Versions.{next_segment-below, sealed-ends, sealed-same}
 use Rattle.kfifo_machine.proofs.Ring.{same_place, next_place, not_next_place, next-mod}
 
 -- why a thread moves the head or the tail: what it saw of the ends
@@ -204,10 +203,17 @@ moved_aims shape here thread running within aims old t r at =
       | inr ne ↦ old t r (sym (get_or-set_other here.places thread t next None ne) ∙ at)
     ]
 
-ticked_aims : (shape : Shape) (here : World) → ((t : ℕ) (r : Running) → place_of here t ≡ Some r → Aims shape r) → (t : ℕ) (r : Running)
-    → place_of (ticked shape here) t ≡ Some r → Aims shape r
-unfolding ticked place_of
-ticked_aims shape here old t r at = old t r at
+-- outside of calls the ends keep their segments
+seal_keeps : (shape : Shape) (ends a b : ℕ) → EndsOk shape ends a b → EndsOk shape (sealed_word shape ends) a b
+seal_keeps shape ends a b ok =
+    let k = sealed-same shape ends in
+    record { head = k.0 ∙ ok.head; tail = k.1 ∙ ok.tail; ordered = ok.ordered; no_wrap = ok.no_wrap }
+
+outside_ends : (shape : Shape) (here there : World) (begin : Option Begin) (a b : ℕ) → IsSound shape here
+    → Ticks shape here begin there ⊎ Seals shape here begin there → EndsOk shape (word_at here 0) a b → EndsOk shape (word_at there 0) a b
+outside_ends shape here there begin a b sound (inl t) ok = rw t.there_is (rw (ends-ticked shape here) ok)
+outside_ends shape here there begin a b sound (inr z) ok =
+    rw z.there_is (rw (sealed-ends shape here sound) (seal_keeps shape (word_at here 0) a b ok))
 
 found-ends : (shape : Shape) (here : World) (running : Running) → accessed (access shape running) ≡ 0
     → found shape here running ≡ word_at here 0
@@ -226,9 +232,8 @@ moved_counted shape here thread running a b sound at place aims within =
     }
 
 none_counted : (shape : Shape) (moves : Running → ℕ → Bool) (world : World) (place : Option Running) (begin : Option Begin)
-    → begin ≡ Some B.Tick → counted shape moves world (going shape place begin) ≡ 0
-none_counted shape moves world None begin is = ap (λ (b : Option Begin). counted shape moves world (going shape None b)) is
-none_counted shape moves world (Some r) begin is = ap (λ (b : Option Begin). counted shape moves world (going shape (Some r) b)) is
+    → going shape place begin ≡ None → counted shape moves world (going shape place begin) ≡ 0
+none_counted shape moves world place begin is = ap (counted shape moves world) is
 
 -- an event
 step_counted : (shape : Shape) (here : World) (e : Event) (there : World) (outcome : Outcome) (a b : ℕ) → IsSound shape here
@@ -249,13 +254,16 @@ step_counted shape here e there outcome a b sound at is =
           (ap (λ (p : Option Running). a + counted shape moves_head here p) (sym s.goes))
           (ap (λ (p : Option Running). b + counted shape moves_tail here p) (sym s.goes))
       | inr t ↦
-          let same : Counted shape (ticked shape here) a b =
-          record { ends = rw (ends-ticked shape here) at.ends; aims = ticked_aims shape here at.aims } in
+          let same : Counted shape there a b =
+          record {
+            ends = outside_ends shape here there e.begin a b sound t.by at.ends;
+            aims = λ u r is_at. at.aims u r (sym (t.leaves u) ∙ is_at);
+          } in
           let none_a : a ≡ a + counted shape moves_head here (going shape (place_of here e.thread) e.begin) =
-          omega (arith, none_counted shape moves_head here (place_of here e.thread) e.begin t.begins) in
+          omega (arith, none_counted shape moves_head here (place_of here e.thread) e.begin t.begins_none) in
           let none_b : b ≡ b + counted shape moves_tail here (going shape (place_of here e.thread) e.begin) =
-          omega (arith, none_counted shape moves_tail here (place_of here e.thread) e.begin t.begins) in
-          same_counts shape (ticked shape here) there a b _ _ same (sym t.there_is) none_a none_b
+          omega (arith, none_counted shape moves_tail here (place_of here e.thread) e.begin t.begins_none) in
+          same_counts shape there there a b _ _ same refl none_a none_b
     ]
 
 -- a schedule

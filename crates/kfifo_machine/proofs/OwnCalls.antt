@@ -4,21 +4,21 @@ use Rattle.std.proofs.Common.{sym, ap, ◌∙◌, subst, inl, inr, arith, length
 use Rattle.std.proofs.lemmas.Bool.{cases_eq, cases_lt}
 use Rattle.std.proofs.lemmas.Grind.{get_or-set_at}
 use Rattle.std.proofs.lemmas.List.{get_or-set_other, length-set}
-use Rattle.kfifo_machine.proofs.Types.{Answer, Begin, Event, NotEnabled, Outcome, Running, Shape}
+use Rattle.kfifo_machine.proofs.Types.{Answer, Begin, Event, NotEnabled, Outcome, Shape}
 use Rattle.kfifo_model.specs.declared.calls.Op.TheVariants as O
 use Rattle.kfifo_model.specs.declared.calls.Call.{Call}
 use Rattle.kfifo_model.specs.Histories.{call, no_call}
 use Rattle.kfifo_machine.specs.declared.event.Begin.TheVariants as B
 use Rattle.kfifo_machine.specs.declared.event.Outcome.TheVariants.{Went, Ended}
 use Rattle.kfifo_machine.specs.Program.{advance}
-use Rattle.kfifo_machine.specs.Machine.{World, opening, place_of, place_after, found, step, world_of, run, after}
+use Rattle.kfifo_machine.specs.Machine.{World, opening, place_of, place_after, found, begun, step, world_of, run, after}
 use Rattle.kfifo_machine.specs.Runs.{event, own, going, AllGoOn, CompleteExecution}
 use Rattle.kfifo_machine.specs.Calls.{Log, ended, logged, logged_by, log_from, blank, log_of, history_of, op_asked}
 use Rattle.kfifo_machine.proofs.Schedules.{Some-injective, run_on, run_before, own-append, first_made, made_within, stepped, own_none}
-use Rattle.kfifo_machine.proofs.Budget.{own_place, own_first, tick_leaves, goes_on_from}
+use Rattle.kfifo_machine.proofs.Budget.{own_place, own_first, goes_on_from}
 use Rattle.kfifo_machine.proofs.Sound.{IsSound, step_sound, sound}
 use Rattle.kfifo_machine.proofs.Calls.{opened, call-before, call-new, length-more, IsLog, step_log, run_log, log_is, log-snoc}
-use Rattle.kfifo_machine.proofs.Paths.{answered, none_after, never_at_once}
+use Rattle.kfifo_machine.proofs.Paths.{answered, none_after, begins_from, never_at_once}
 use Rattle.kfifo_machine.proofs.BusyIsDisturbed.{own_single}
 
 -- The calls of a thread stay as they were, and none comes: neither behind the old ones nor, as `mine` says, in place of another's.
@@ -121,6 +121,7 @@ logged_keeps thread now by (Some (B.Enqueue item start turns)) outcome log apart
 logged_keeps thread now by (Some (B.Dequeue start turns)) outcome log apart its =
     begin_keeps thread log.calls (opened now by O.Dequeue) apart
 logged_keeps thread now by (Some B.Tick) outcome log apart its = keeps_same thread log.calls
+logged_keeps thread now by (Some B.Seal) outcome log apart its = keeps_same thread log.calls
 logged_keeps thread now by None Went log apart its = keeps_same thread log.calls
 logged_keeps thread now by None (Ended answer) log apart its =
     end_keeps thread (get_or log.latest by 0) now log.calls answer (λ same. apart (same ∙ its refl))
@@ -216,18 +217,15 @@ ended_idle shape here e there answer made =
       | inr t ↦ absurd (let h : Ended answer ≡ Went = t.outcome_is in cc)
     ]
 
--- a thread that has ticked is idle
-tick_idle : (shape : Shape) (here : World) (e : Event) (there : World) (outcome : Outcome) → step shape here e ≡ Ok (there, outcome)
-    → e.begin ≡ Some B.Tick → place_of there e.thread ≡ None
-tick_idle shape here e there outcome made ticks =
+-- a thread that has ticked or sealed is idle
+outside_idle : (shape : Shape) (here : World) (e : Event) (there : World) (outcome : Outcome) (begin : Begin)
+    → step shape here e ≡ Ok (there, outcome) → e.begin ≡ Some begin → begun begin ≡ None → place_of there e.thread ≡ None
+outside_idle shape here e there outcome begin made begins none =
     elim (stepped shape here e there outcome made) [
-      | inl s ↦ absurd (no_place (place_of here e.thread) s.running (ap (going shape (place_of here e.thread)) (sym ticks) ∙ s.goes))
-      | inr t ↦ ap (λ (w : World). place_of w e.thread) t.there_is ∙ tick_leaves shape here e.thread ∙ t.idle
+      | inl s ↦ absurd (let h : None ≡ Some s.running = sym none
+          ∙ begins_from shape (place_of here e.thread) begin s.running (ap (going shape (place_of here e.thread)) (sym begins) ∙ s.goes) in cc)
+      | inr t ↦ t.leaves e.thread ∙ t.idle
     ]
-  where
-    no_place : (place : Option Running) (running : Running) → going shape place (Some B.Tick) ≡ Some running → ⊥
-    no_place None running goes = cc
-    no_place (Some r) running goes = cc
 
 -- The events of a call up to its last, which is still to come
 module _ (shape : Shape) (threads thread : ℕ) (few : threads ≤ 64) (last : Event) (there : World) (mine : last.thread ≡ thread) where
@@ -306,11 +304,12 @@ begun_stands thread b c open_call its keeps =
     keeps.same (length b) (omega arith) (ap (λ (x : Call). x.thread) at ∙ its) ∙ at
 
 -- the first event of a call adds it
-begin_adds : (now thread : ℕ) (begin : Begin) (outcome : Outcome) (log : Log) → begin ≢ B.Tick
+begin_adds : (now thread : ℕ) (begin : Begin) (outcome : Outcome) (log : Log) → begun begin ≢ None
     → (logged now thread (Some begin) outcome log).calls ≡ log.calls ++ opened now thread (op_asked begin) ∷ []
 begin_adds now thread (B.Enqueue item start turns) outcome log call_is = refl
 begin_adds now thread (B.Dequeue start turns) outcome log call_is = refl
 begin_adds now thread B.Tick outcome log call_is = absurd (call_is refl)
+begin_adds now thread B.Seal outcome log call_is = absurd (call_is refl)
 
 -- the last event of a call sets it
 end_sets : (now thread number : ℕ) (begin : Option Begin) (answer : Answer) (log : Log) (c : Call) → begin ≡ None
@@ -341,20 +340,20 @@ call_adds shape threads thread here next before there begin outcome answer rest 
     keeps =
     let first : Event = event thread (Some begin) in
     let asked : Call = opened now thread (op_asked begin) in
-    let begun : Log = logged now thread (Some begin) outcome log in
+    let begun_log : Log = logged now thread (Some begin) outcome log in
     let end_place : ℕ = (now + 1) + length rest in
-    let log_before : Log = log_from shape (Some next) (now + 1) rest begun in
+    let log_before : Log = log_from shape (Some next) (now + 1) rest begun_log in
     let next_safe : IsSound shape next = step_sound shape here first next outcome safe made in
-    let is_begun : IsLog threads next (now + 1) begun = step_log shape threads here first next outcome now log is few made in
-    let is_before : IsLog threads before end_place log_before = run_log shape threads next before rest (now + 1) begun few is_begun runs in
+    let is_begun : IsLog threads next (now + 1) begun_log = step_log shape threads here first next outcome now log is few made in
+    let is_before : IsLog threads before end_place log_before = run_log shape threads next before rest (now + 1) begun_log few is_begun runs in
     let to_end : run shape (Some next) (rest ++ last ∷ []) ≡ Some there =
     run_on shape (Some next) before rest (last ∷ []) runs ∙ ap world_of ends in
-    let no_tick : begin ≢ B.Tick = λ ticks. none_after shape next there thread rest last next_safe
-    (tick_idle shape here first next outcome made (ap (λ (b : Begin). Some b) ticks)) mine on to_end in
-    let added : begun.calls ≡ log.calls ++ asked ∷ [] = begin_adds now thread begin outcome log no_tick in
+    let is_call : begun begin ≢ None = λ none. none_after shape next there thread rest last next_safe
+    (outside_idle shape here first next outcome begin made refl none) mine on to_end in
+    let added : begun_log.calls ≡ log.calls ++ asked ∷ [] = begin_adds now thread begin outcome log is_call in
     let stays : KeepsCalls thread (log.calls ++ asked ∷ []) log_before.calls =
     subst (λ (calls : List Call). KeepsCalls thread calls log_before.calls) added
-    (call_from shape threads thread few last there mine next rest (now + 1) begun next_safe is_begun on to_end) in
+    (call_from shape threads thread few last there mine next rest (now + 1) begun_log next_safe is_begun on to_end) in
     let stands : call log_before.calls (length log.calls) ≡ asked = begun_stands thread log.calls log_before.calls asked refl stays in
     let within : length log.calls < length log_before.calls = let l = stays.longer in let s = length-more log.calls asked in omega arith in
     let number : get_or log_before.latest last.thread 0 ≡ length log.calls =
@@ -364,7 +363,7 @@ call_adds shape threads thread here next before there begin outcome answer rest 
     ≡ set log_before.calls (length log.calls) (ended asked end_place answer) =
     ap (λ (r : Result (World × Outcome) NotEnabled).
     (log_from shape (world_of r) (now + 1) (rest ++ last ∷ []) (logged_by now first r log)).calls) made
-    ∙ ap (λ (x : Log). x.calls) (log-snoc shape next before (now + 1) rest last begun runs)
+    ∙ ap (λ (x : Log). x.calls) (log-snoc shape next before (now + 1) rest last begun_log runs)
     ∙ ap (λ (r : Result (World × Outcome) NotEnabled). (logged_by end_place last r log_before).calls) ends
     ∙ end_sets end_place last.thread (length log.calls) last.begin answer log_before asked none number stands in
     subst (λ (calls : List Call). AddsCall thread a calls (ended asked end_place answer)) (sym at_end)

@@ -13,7 +13,7 @@ use Rattle.kfifo_machine.specs.Causes.{Look, looks_from, looks, looks_of}
 use Rattle.kfifo_machine.proofs.Schedules.{Some-injective, run_before, run-append, first_made, made_within, stepped, other_place}
 use Rattle.kfifo_machine.proofs.Schedules.{own-append}
 use Rattle.kfifo_machine.proofs.Sound.{IsSound, sound, step_sound}
-use Rattle.kfifo_machine.proofs.Budget.{left_of, own_place, own_first, few_left, tick_leaves}
+use Rattle.kfifo_machine.proofs.Budget.{left_of, own_place, own_first, few_left}
 use Rattle.kfifo_machine.proofs.Refusals.{own_step}
 use Rattle.kfifo_machine.proofs.Calls.{first_goes, may_begun}
 
@@ -197,8 +197,7 @@ first_step shape here there thread call es last before answer e next outcome saf
           }
       | inr t ↦
           let idle : place_of next thread ≡ None =
-          ap (place_of next) (sym own_is) ∙ ap (λ (w : World). place_of w e.thread) t.there_is ∙ tick_leaves shape here e.thread
-          ∙ t.idle in
+          ap (place_of next) (sym own_is) ∙ t.leaves e.thread ∙ t.idle in
           absurd (none_after shape next there thread es last safe idle mine on
           (run-append shape (Some next) es (last ∷ []) ∙ ap (λ (w : Option World). run shape w (last ∷ [])) runs ∙ ap world_of ends))
     ]

@@ -13,7 +13,7 @@ use Rattle.kfifo_machine.specs.declared.place.Access.TheVariants.{Load, Exchange
 use Rattle.std.proofs.lemmas.Bool.Decides.{nat_tests}
 use Rattle.kfifo_words.specs.Words.{slot_word, value_of, version_of, ends_word, head_of, tail_of}
 use Rattle.kfifo_words.specs.Ring.{next_segment, clock_at}
-use Rattle.kfifo_machine.specs.Program.{access, accessed, advance, scan_index, filled_with, emptied}
+use Rattle.kfifo_machine.specs.Program.{access, accessed, advance, scan_index, filled_with, emptied, sealed_word}
 use Rattle.kfifo_machine.specs.Machine.{World, opening, moved, found, word_at, words_after, place_after, outcome_of}
 use Rattle.kfifo_machine.specs.Places.{IsSlotIndex, IsEnds, IsPlace, IsSlotWord, IsFoundBy, IsState}
 use Rattle.kfifo_machine.specs.declared.place.EnqueuePhase.TheVariants as E
@@ -251,6 +251,24 @@ tick_stays shape words places time h =
       size = length-set words (clock_at shape.k shape.n) time ∙ h.size;
       ends = rw (get_or-set_other words (clock_at shape.k shape.n) 0 time 0 (λ e. absurd (omega arith))) h.ends;
       each_slot = λ i above below. rw (get_or-set_other words (clock_at shape.k shape.n) i time 0 (λ e. absurd (omega arith)))
+          (h.each_slot i above below);
+      each_place = h.each_place;
+    }
+
+-- the sealed ends name the same segments
+seal_ends : (shape : Shape) (ends : ℕ) → IsEnds shape ends → IsEnds shape (sealed_word shape ends)
+unfolding head_of tail_of version_of ends_word
+seal_ends shape ends h = record { head = omega (arith, h.head, h.tail); tail = omega (arith, h.head, h.tail); version = omega (arith, h.head, h.tail) }
+
+-- a seal leaves the state sound
+pub seal_stays : (shape : Shape) (words : List ℕ) (places : List (Option Running)) → IsState shape words places
+    → IsState shape (set words 0 (sealed_word shape (get_or words 0 0))) places
+seal_stays shape words places h =
+    let word = sealed_word shape (get_or words 0 0) in
+    record {
+      size = length-set words 0 word ∙ h.size;
+      ends = rw (get_or-set_at words 0 0 word 0 refl (omega (arith, h.size))) (seal_ends shape (get_or words 0 0) h.ends);
+      each_slot = λ i above below. rw (get_or-set_other words 0 i word 0 (λ e. absurd (omega arith)))
           (h.each_slot i above below);
       each_place = h.each_place;
     }

@@ -9,13 +9,14 @@ use Rattle.std.proofs.Math.Seq.{take-suc}
 use Rattle.kfifo_machine.proofs.Types.{Begin, Event, NotEnabled, Outcome, Running, Shape}
 use Rattle.kfifo_machine.specs.declared.event.Begin.TheVariants as B
 use Rattle.kfifo_machine.specs.declared.event.Outcome.TheVariants.{Went}
-use Rattle.kfifo_machine.specs.declared.event.NotEnabled.TheVariants.{NoSuchThread, BadCall, ClockSpent}
+use Rattle.kfifo_machine.specs.declared.event.NotEnabled.TheVariants.{NoSuchThread, BadCall, ClockSpent, NotSealable}
 use Rattle.kfifo_machine.specs.declared.place.Running.TheVariants as R
 use Rattle.kfifo_machine.specs.declared.place.EnqueuePhase.TheVariants as E
 use Rattle.kfifo_machine.specs.declared.place.DequeuePhase.TheVariants as D
 use Rattle.kfifo_words.specs.Ring.{clock_at}
 use Rattle.kfifo_machine.specs.Program.{advance}
-use Rattle.kfifo_machine.specs.Machine.{World, word_at, opening, moved, ticked, found, place_of, place_after, outcome_of, begun, may_begin}
+use Rattle.kfifo_machine.specs.Machine.{World, word_at, opening, moved, ticked, sealed, found, place_of, place_after, outcome_of, begun, may_begin}
+use Rattle.kfifo_machine.specs.Machine.{may_seal}
 use Rattle.kfifo_machine.specs.Machine.{step_from, step, world_of, run, after, IsFirstRefused}
 use Rattle.kfifo_machine.specs.Runs.{own, going}
 
@@ -89,7 +90,7 @@ stops shape threads events place d s here fault within same is refused = record 
   refused = ap (λ (x : Shape). step x here (get_or events place d)) (sym same) ∙ refused;
 }
 
--- how an event was made: a thread's step from a place, or a tick
+-- how an event was made: a thread's step from a place; or, outside of calls, a tick or a seal
 pub record StepsFrom (shape : Shape) (here : World) (thread : ℕ) (place : Option Running) (begin : Option Begin) (there : World)
     (outcome : Outcome) : Type 0 where
   pub running : Running
@@ -97,12 +98,48 @@ pub record StepsFrom (shape : Shape) (here : World) (thread : ℕ) (place : Opti
   pub there_is : there ≡ moved shape here thread running
   pub outcome_is : outcome ≡ outcome_of (advance shape running (found shape here running))
 
-pub record Ticks (shape : Shape) (here : World) (place : Option Running) (begin : Option Begin) (there : World)
-    (outcome : Outcome) : Type 0 where
-  pub idle : place ≡ None
+pub record Ticks (shape : Shape) (here : World) (begin : Option Begin) (there : World) : Type 0 where
   pub begins : begin ≡ Some B.Tick
   pub there_is : there ≡ ticked shape here
+
+pub record Seals (shape : Shape) (here : World) (begin : Option Begin) (there : World) : Type 0 where
+  pub begins : begin ≡ Some B.Seal
+  pub may : may_seal shape (word_at here 0) ≡ true
+  pub there_is : there ≡ sealed shape here
+
+pub record Outside (shape : Shape) (here : World) (place : Option Running) (begin : Option Begin) (there : World)
+    (outcome : Outcome) : Type 0 where
+  pub idle : place ≡ None
+  pub begins_none : going shape place begin ≡ None
   pub outcome_is : outcome ≡ Went
+  pub stays : there.places ≡ here.places
+  pub leaves : (thread : ℕ) → place_of there thread ≡ place_of here thread
+  pub by : Ticks shape here begin there ⊎ Seals shape here begin there
+
+ticks_outside : (shape : Shape) (here there : World) (outcome : Outcome) → there ≡ ticked shape here → outcome ≡ Went
+    → Outside shape here None (Some B.Tick) there outcome
+unfolding ticked place_of
+ticks_outside shape here there outcome is came = record {
+  idle = refl;
+  begins_none = refl;
+  outcome_is = came;
+  stays = ap (λ (w : World). w.places) is;
+  leaves = λ t. ap (λ (w : World). place_of w t) is;
+  by = inl record { begins = refl; there_is = is };
+}
+
+seals_outside : (shape : Shape) (here there : World) (outcome : Outcome) → may_seal shape (word_at here 0) ≡ true
+    → there ≡ sealed shape here → outcome ≡ Went
+    → Outside shape here None (Some B.Seal) there outcome
+unfolding sealed place_of
+seals_outside shape here there outcome may is came = record {
+  idle = refl;
+  begins_none = refl;
+  outcome_is = came;
+  stays = ap (λ (w : World). w.places) is;
+  leaves = λ t. ap (λ (w : World). place_of w t) is;
+  by = inr record { begins = refl; may = may; there_is = is };
+}
 
 abbrev Made : Type 0
 Made = Result (World × Outcome) NotEnabled
@@ -124,9 +161,14 @@ may_have_ticked : (m : Bool) (x y : World) (o p : Outcome) → ◌≡◌ {A = Ma
 may_have_ticked false x y o p e = parts_of x y o p e
 may_have_ticked true x y o p e = absurd (cc)
 
+may_have_sealed : (m : Bool) (x y : World) (o p : Outcome) → ◌≡◌ {A = Made} (cond m (Ok (x, o)) (Err NotSealable)) (Ok (y, p)) → (m ≡ true)
+    × (y ≡ x) × (p ≡ o)
+may_have_sealed true x y o p e = let k = parts_of x y o p e in (refl, k.0, k.1)
+may_have_sealed false x y o p e = absurd (cc)
+
 by_place : (shape : Shape) (here : World) (thread : ℕ) (place : Option Running) (begin : Option Begin) (there : World) (outcome : Outcome)
     → step_from shape here thread place begin ≡ Ok (there, outcome) → StepsFrom shape here thread place begin there outcome
-    ⊎ Ticks shape here place begin there outcome
+    ⊎ Outside shape here place begin there outcome
 by_place shape here thread None None there outcome is = absurd (cc)
 by_place shape here thread None (Some (B.Enqueue item start turns)) there outcome is =
     let k = may_have_begun (may_begin shape (B.Enqueue item start turns)) _ there _ outcome is in
@@ -146,7 +188,10 @@ by_place shape here thread None (Some (B.Dequeue start turns)) there outcome is 
     }
 by_place shape here thread None (Some B.Tick) there outcome is =
     let k = may_have_ticked (word_at here (clock_at shape.k shape.n) == 18446744073709551615) _ there _ outcome is in
-    inr record { idle = refl; begins = refl; there_is = k.0; outcome_is = k.1 }
+    inr (ticks_outside shape here there outcome k.0 k.1)
+by_place shape here thread None (Some B.Seal) there outcome is =
+    let k = may_have_sealed (may_seal shape (word_at here 0)) _ there _ outcome is in
+    inr (seals_outside shape here there outcome k.0 k.1 k.2)
 by_place shape here thread (Some running) None there outcome is =
     let k = parts_of _ there _ outcome is in
     inl record { running = running; goes = refl; there_is = k.0; outcome_is = k.1 }
@@ -165,10 +210,10 @@ pub made_within : (shape : Shape) (here : World) (e : Event) (there : World) (ou
 unfolding step
 made_within shape here e there outcome is = (in_range shape here e there outcome (nat_lt e.thread (length here.places)) refl is).0
 
--- and is a step from a place, or a tick
+-- and is a step from a place, or outside of calls
 pub stepped : (shape : Shape) (here : World) (e : Event) (there : World) (outcome : Outcome) → step shape here e ≡ Ok (there, outcome)
     → StepsFrom shape here e.thread (place_of here e.thread) e.begin there outcome
-    ⊎ Ticks shape here (place_of here e.thread) e.begin there outcome
+    ⊎ Outside shape here (place_of here e.thread) e.begin there outcome
 unfolding step
 stepped shape here e there outcome is =
     by_place shape here e.thread (place_of here e.thread) e.begin there outcome
@@ -180,6 +225,7 @@ first_steps : (shape : Shape) (here : World) (thread : ℕ) (place : Option Runn
     ≡ made (moved shape here thread running) (outcome_of (advance shape running (found shape here running)))
 first_steps shape here thread None None running is = absurd (cc)
 first_steps shape here thread None (Some B.Tick) running is = absurd (cc)
+first_steps shape here thread None (Some B.Seal) running is = absurd (cc)
 first_steps shape here thread None (Some (B.Enqueue item start turns)) running is = begins (may_begin shape (B.Enqueue item start turns)) is
   where
     begins : (m : Bool) → cond m (Some (R.Enqueue item start turns E.LoadEnds)) None ≡ Some running
@@ -214,23 +260,23 @@ steps_on shape here e running within goes =
 pub other_place : (shape : Shape) (here : World) (e : Event) (there : World) (outcome : Outcome) (thread : ℕ) → thread ≢ e.thread
     → step shape here e ≡ Ok (there, outcome)
     → place_of there thread ≡ place_of here thread
-unfolding moved ticked place_of
+unfolding moved place_of
 other_place shape here e there outcome thread apart is =
     elim (stepped shape here e there outcome is) [
       | inl s ↦ ap (λ (w : World). place_of w thread) s.there_is
           ∙ get_or-set_other here.places e.thread thread (place_after (advance shape s.running (found shape here s.running))) None apart
-      | inr t ↦ ap (λ (w : World). place_of w thread) t.there_is
+      | inr t ↦ t.leaves thread
     ]
 
 -- the number of threads stays
 pub same_threads : (shape : Shape) (here : World) (e : Event) (there : World) (outcome : Outcome) → step shape here e ≡ Ok (there, outcome)
     → length there.places ≡ length here.places
-unfolding moved ticked
+unfolding moved
 same_threads shape here e there outcome is =
     elim (stepped shape here e there outcome is) [
       | inl s ↦ ap (λ (w : World). length w.places) s.there_is
           ∙ length-set here.places e.thread (place_after (advance shape s.running (found shape here s.running)))
-      | inr t ↦ ap (λ (w : World). length w.places) t.there_is
+      | inr t ↦ ap length t.stays
     ]
 
 -- the event that a longer schedule begins with was made

@@ -6,10 +6,10 @@ use Rattle.std.proofs.lemmas.Bool.Decides.{nat_tests}
 use Rattle.std.proofs.lemmas.List.{length-replicate}
 use Rattle.kfifo_machine.proofs.Types.{Begin, Event, Outcome, Running, Shape}
 use Rattle.kfifo_words.specs.Ring.{clock_at}
-use Rattle.kfifo_machine.specs.Machine.{World, opening, word_at, place_of, moved, ticked, found, begun, may_begin, step, run, after}
+use Rattle.kfifo_machine.specs.Machine.{World, opening, word_at, place_of, moved, ticked, sealed, found, begun, may_begin, step, run, after}
 use Rattle.kfifo_machine.specs.Runs.{going}
 use Rattle.kfifo_machine.specs.Places.{IsEnds, IsPlace, IsState}
-use Rattle.kfifo_machine.proofs.Places.{state_stays, tick_stays, opens}
+use Rattle.kfifo_machine.proofs.Places.{state_stays, tick_stays, seal_stays, opens}
 use Rattle.kfifo_machine.proofs.Schedules.{Some-injective, first_made, made_within, still_threads, stepped}
 
 -- a world whose steps can be computed
@@ -52,6 +52,11 @@ pub ticked_sound : (shape : Shape) (here : World) → IsSound shape here → IsS
 unfolding ticked
 ticked_sound shape here sound = tick_stays shape here.words here.places (word_at here (clock_at shape.k shape.n) + 1) sound
 
+-- and so does a seal
+pub sealed_sound : (shape : Shape) (here : World) → IsSound shape here → IsSound shape (sealed shape here)
+unfolding sealed word_at
+sealed_sound shape here sound = seal_stays shape here.words here.places sound
+
 -- an event that was made keeps a world sound
 pub step_sound : (shape : Shape) (here : World) (e : Event) (there : World) (outcome : Outcome) → IsSound shape here
     → step shape here e ≡ Ok (there, outcome) → IsSound shape there
@@ -61,7 +66,10 @@ step_sound shape here e there outcome sound is =
           (moved_sound shape here e.thread s.running sound
           (going_place shape (place_of here e.thread) e.begin s.running (λ r at. place_is shape here e.thread r sound at) s.goes)
           (made_within shape here e there outcome is))
-      | inr t ↦ subst (IsSound shape) (sym t.there_is) (ticked_sound shape here sound)
+      | inr o ↦ elim o.by [
+        | inl t ↦ subst (IsSound shape) (sym t.there_is) (ticked_sound shape here sound)
+        | inr z ↦ subst (IsSound shape) (sym z.there_is) (sealed_sound shape here sound)
+      ]
     ]
 
 -- so does a schedule

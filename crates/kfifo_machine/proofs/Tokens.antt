@@ -22,10 +22,11 @@ use Rattle.kfifo_machine.specs.Runs.{going}
 use Rattle.kfifo_machine.specs.Places.{IsPlace}
 use Rattle.kfifo_machine.specs.Tokens.{AllBeginFree, BeginsFree, ItemsAreTokens, held_at, held_in}
 use Rattle.kfifo_machine.proofs.EndsUndisturbed.{slots_stay}
-use Rattle.kfifo_machine.proofs.Budget.{own_place, tick_leaves}
+use Rattle.kfifo_machine.proofs.Budget.{own_place}
 use Rattle.kfifo_machine.proofs.Losses.{word-moved}
 use Rattle.kfifo_machine.proofs.RoundsUndisturbed.{words_by}
-use Rattle.kfifo_machine.proofs.Schedules.{Some-injective, first_made, made_within, other_place, stepped}
+use Rattle.kfifo_machine.proofs.Schedules.{Some-injective, first_made, made_within, other_place, stepped, Ticks, Seals}
+use Rattle.kfifo_machine.proofs.Versions.{sealed-other}
 use Rattle.kfifo_machine.proofs.Sound.{IsSound, going_place, place_is, sound, step_sound}
 
 -- what a thread knows of the value of a slot's word that it has read or put
@@ -373,6 +374,7 @@ holds_free shape here t None (Some (B.Enqueue item start turns)) r free at goes 
     begun_enqueue true e = sym (Some-injective _ _ e)
     begun_enqueue false e = absurd (cc)
 holds_free shape here t None (Some B.Tick) r free at goes fits begins = absurd (cc)
+holds_free shape here t None (Some B.Seal) r free at goes fits begins = absurd (cc)
 
 -- the same words and places
 free_same : (c : ℕ) (w v : ℕ → ℕ) (place later : ℕ → Option Running) → IsFree c w place → ((i : ℕ) → 0 < i → i < c → v i ≡ w i)
@@ -391,6 +393,12 @@ word-ticked : (shape : Shape) (here : World) (i : ℕ) → i < clock_at shape.k 
 unfolding word_at ticked
 word-ticked shape here i below = get_or-set_other here.words (clock_at shape.k shape.n) i
     (get_or here.words (clock_at shape.k shape.n) 0 + 1) 0 (λ same. absurd (omega arith))
+
+word-outside : (shape : Shape) (here there : World) (begin : Option Begin) (i : ℕ) → 0 < i → i < clock_at shape.k shape.n
+    → Ticks shape here begin there ⊎ Seals shape here begin there → word_at there i ≡ word_at here i
+word-outside shape here there begin i above below (inl t) = ap (λ (x : World). word_at x i) t.there_is ∙ word-ticked shape here i below
+word-outside shape here there begin i above below (inr z) =
+    ap (λ (x : World). word_at x i) z.there_is ∙ sealed-other shape here i (λ same. absurd (omega arith))
 
 -- an event keeps it
 free_event : (shape : Shape) (here there : World) (e : Event) (outcome : Outcome) → IsSound shape here
@@ -420,8 +428,7 @@ free_event shape here there e outcome is_sound made begins free =
           (λ i above below. ap (λ (x : World). word_at x i) s.there_is ∙ word-moved shape here e.thread r i is_sound fits) (λ u. refl)
       | inr t ↦
           free_same (clock_at shape.k shape.n) (word_at here) (word_at there) (place_of here) (place_of there) free
-          (λ i above below. ap (λ (x : World). word_at x i) t.there_is ∙ word-ticked shape here i below)
-          (λ u. ap (λ (x : World). place_of x u) t.there_is ∙ tick_leaves shape here u)
+          (λ i above below. word-outside shape here there e.begin i above below t.by) t.leaves
     ]
   where
     found-word : (shape : Shape) (here : World) (r : Running) → found shape here r ≡ word_at here (accessed (access shape r))

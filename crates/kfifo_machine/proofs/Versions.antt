@@ -1,17 +1,17 @@
 -- What an event changes: one word at most, which rises.
 use Rattle.std.proofs.Common.{◌≡◌, ◌≢◌, ◌⊎◌, ℕ, ◌+◌, ◌<◌, ◌≤◌, List, [], ◌∷◌, length, get_or, Option, Some, None, Ok, refl, sym, ap, ◌∙◌}
-use Rattle.std.proofs.Common.{subst, inl, inr, arith, eq-eqb}
-use Rattle.std.proofs.lemmas.Bool.{cases_eq}
+use Rattle.std.proofs.Common.{subst, inl, inr, arith, true, eq-eqb}
+use Rattle.std.proofs.lemmas.Bool.{cases_eq, and_parts}
 use Rattle.std.proofs.lemmas.Bool.Decides.{nat_tests}
 use Rattle.std.proofs.lemmas.Grind.{get_or-set_at}
 use Rattle.std.proofs.lemmas.List.{get_or-set_other}
 use Rattle.kfifo_machine.proofs.Types.{Access, Begin, Event, Outcome, Running, Shape}
-use Rattle.kfifo_words.specs.Words.{slot_word, version_of, ends_word}
+use Rattle.kfifo_words.specs.Words.{slot_word, version_of, ends_word, head_of, tail_of}
 use Rattle.kfifo_words.specs.Ring.{next_segment, clock_at}
 use Rattle.kfifo_machine.specs.declared.event.Begin.TheVariants as B
 use Rattle.kfifo_machine.specs.declared.place.Access.TheVariants.{Exchange}
-use Rattle.kfifo_machine.specs.Program.{access, accessed}
-use Rattle.kfifo_machine.specs.Machine.{World, word_at, place_of, words_after, moved, ticked, step, run}
+use Rattle.kfifo_machine.specs.Program.{access, accessed, sealed_word}
+use Rattle.kfifo_machine.specs.Machine.{World, word_at, place_of, words_after, moved, ticked, sealed, may_seal, step, run}
 use Rattle.kfifo_machine.specs.Runs.{going}
 use Rattle.kfifo_machine.specs.Places.{IsPlace}
 use Rattle.kfifo_machine.specs.Laws.{NoneFalls, OneWord}
@@ -88,6 +88,49 @@ no_going_tick shape None begin running b is = let e : going shape None (Some B.T
 no_going_tick shape (Some r) begin running b is = let e : going shape (Some r) (Some B.Tick) ≡ Some running =
     ap (going shape (Some r)) (sym b) ∙ is in cc
 
+pub no_going_seal : (shape : Shape) (place : Option Running) (begin : Option Begin) (running : Running) → begin ≡ Some B.Seal
+    → going shape place begin ≡ Some running → ⊥
+no_going_seal shape None begin running b is = let e : going shape None (Some B.Seal) ≡ Some running = ap (going shape None) (sym b) ∙ is in
+    cc
+no_going_seal shape (Some r) begin running b is = let e : going shape (Some r) (Some B.Seal) ≡ Some running =
+    ap (going shape (Some r)) (sym b) ∙ is in cc
+
+-- the sealed ends
+pub sealed-ends : (shape : Shape) (here : World) → IsSound shape here → word_at (sealed shape here) 0 ≡ sealed_word shape (word_at here 0)
+unfolding sealed word_at
+sealed-ends shape here sound =
+    let within : 0 < length here.words = omega (arith, sound.size) in
+    get_or-set_at here.words 0 0 (sealed_word shape (get_or here.words 0 0)) 0 refl within
+
+pub sealed-other : (shape : Shape) (here : World) (i : ℕ) → i ≢ 0 → word_at (sealed shape here) i ≡ word_at here i
+unfolding sealed word_at
+sealed-other shape here i ne = get_or-set_other here.words 0 i (sealed_word shape (get_or here.words 0 0)) 0 ne
+
+sealed-only : (shape : Shape) (here : World) (i : ℕ) → word_at (sealed shape here) i ≢ word_at here i → i ≡ 0
+sealed-only shape here i ne = elim (cases_eq i 0) [ inl e ↦ e | inr apart ↦ absurd (ne (sealed-other shape here i apart)) ]
+
+-- where the ends may be sealed, head and tail are in one segment, and a seal raises the word
+pub sealable : (shape : Shape) (ends : ℕ) → may_seal shape ends ≡ true → (head_of ends ≡ tail_of ends)
+    × (version_of ends < shape.last)
+sealable shape ends may = grind (arith, nat_tests, and_parts)
+
+ends_word-later : (word head tail version : ℕ) → head < 4096 → tail < 4096 → version_of word < version → word < ends_word head tail version
+unfolding version_of ends_word
+ends_word-later word head tail version h t up = omega arith
+
+seal-rises : (shape : Shape) (ends : ℕ) → version_of ends < shape.last → ends < sealed_word shape ends
+unfolding head_of tail_of
+seal-rises shape ends up = ends_word-later ends _ _ shape.last (omega arith) (omega arith) up
+
+pub seal-above : (shape : Shape) (ends : ℕ) → may_seal shape ends ≡ true → ends < sealed_word shape ends
+seal-above shape ends may = seal-rises shape ends (sealable shape ends may).1
+
+-- the sealed ends name the same segments, with the last version
+pub sealed-same : (shape : Shape) (ends : ℕ) → (head_of (sealed_word shape ends) ≡ head_of ends)
+    × (tail_of (sealed_word shape ends) ≡ tail_of ends) × (version_of (sealed_word shape ends) ≡ shape.last)
+unfolding head_of tail_of version_of ends_word
+sealed-same shape ends = (omega arith, omega arith, omega arith)
+
 -- the clock
 ticked-clock : (shape : Shape) (here : World) → IsSound shape here
     → word_at (ticked shape here) (clock_at shape.k shape.n) ≡ word_at here (clock_at shape.k shape.n) + 1
@@ -121,18 +164,32 @@ one_word_moved shape here e running sound place goes =
           let is : access shape running ≡ Exchange i (word_at here i) to = ap (access shape) (sym same) ∙ w.exchange in
           (won_word shape here e.thread running i to sound place is, raises shape running i (word_at here i) to place is);
       ticked = λ i t. absurd (no_going_tick shape (place_of here e.thread) e.begin running t.begins goes);
+      sealed = λ i z. absurd (no_going_seal shape (place_of here e.thread) e.begin running z.begins goes);
     }
 
 one_word_ticked : (shape : Shape) (here : World) (e : Event) → IsSound shape here → e.begin ≡ Some B.Tick
     → OneWord shape here (ticked shape here) e
 one_word_ticked shape here e sound begins = record {
   at_most_one = λ i j ni nj. ticked-only shape here i ni ∙ sym (ticked-only shape here j nj);
-  only_so = λ i ne. inr record { begins = begins; clock = ticked-only shape here i ne };
+  only_so = λ i ne. inr (inl record { begins = begins; clock = ticked-only shape here i ne });
   won = λ i to w. absurd (no_going_tick shape (place_of here e.thread) e.begin w.running begins w.stands);
   ticked = λ i t. ap (word_at (ticked shape here)) t.clock ∙ ticked-clock shape here sound ∙ ap (λ j. word_at here j + 1) (sym t.clock);
+  sealed = λ i z. absurd (let e : Some B.Tick ≡ Some B.Seal = sym begins ∙ z.begins in cc);
 }
 
--- An event changes one word at most, by a won exchange or a tick
+one_word_sealed : (shape : Shape) (here : World) (e : Event) → IsSound shape here → may_seal shape (word_at here 0) ≡ true
+    → e.begin ≡ Some B.Seal → OneWord shape here (sealed shape here) e
+one_word_sealed shape here e sound may begins = record {
+  at_most_one = λ i j ni nj. sealed-only shape here i ni ∙ sym (sealed-only shape here j nj);
+  only_so = λ i ne. inr (inr record { begins = begins; ends = sealed-only shape here i ne });
+  won = λ i to w. absurd (no_going_seal shape (place_of here e.thread) e.begin w.running begins w.stands);
+  ticked = λ i t. absurd (let e : Some B.Seal ≡ Some B.Tick = sym begins ∙ t.begins in cc);
+  sealed = λ i z.
+      let k = sealable shape (word_at here 0) may in
+      rw z.ends (k.0, k.1, sealed-ends shape here sound);
+}
+
+-- An event changes one word at most, by a won exchange, a tick or a seal
 pub one_word : (shape : Shape) (here : World) (e : Event) (there : World) (outcome : Outcome) → IsSound shape here
     → step shape here e ≡ Ok (there, outcome) → OneWord shape here there e
 one_word shape here e there outcome sound is =
@@ -140,7 +197,10 @@ one_word shape here e there outcome sound is =
       | inl s ↦ subst (λ (w : World). OneWord shape here w e) (sym s.there_is)
           (one_word_moved shape here e s.running sound
           (going_place shape (place_of here e.thread) e.begin s.running (λ r at. place_is shape here e.thread r sound at) s.goes) s.goes)
-      | inr t ↦ subst (λ (w : World). OneWord shape here w e) (sym t.there_is) (one_word_ticked shape here e sound t.begins)
+      | inr o ↦ elim o.by [
+        | inl t ↦ subst (λ (w : World). OneWord shape here w e) (sym t.there_is) (one_word_ticked shape here e sound t.begins)
+        | inr z ↦ subst (λ (w : World). OneWord shape here w e) (sym z.there_is) (one_word_sealed shape here e sound z.may z.begins)
+      ]
     ]
 
 -- No word falls
@@ -155,7 +215,10 @@ word_rises shape here e there outcome i sound is =
             let place : IsPlace shape w.running = going_place shape (place_of here e.thread) e.begin w.running
             (λ r at. place_is shape here e.thread r sound at) w.stands in
             omega (arith, rises shape w.running i (word_at here i) (word_at there i) place w.exchange)
-        | inr t ↦ omega (arith, one.ticked i t)
+        | inr (inl t) ↦ omega (arith, one.ticked i t)
+        | inr (inr z) ↦
+            let k = one.sealed i z in
+            omega (arith, k.2, seal-rises shape (word_at here i) k.1)
       ]
     ]
 

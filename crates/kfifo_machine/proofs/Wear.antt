@@ -375,6 +375,7 @@ first_worn shape (B.Enqueue item start turns) running is =
 first_worn shape (B.Dequeue start turns) running is =
     subst (λ (r : Running). SoWorn shape r []) (Some-injective (R.Dequeue start turns D.LoadEnds) running is) tt
 first_worn shape B.Tick running is = absurd (cc)
+first_worn shape B.Seal running is = absurd (cc)
 
 -- Worn has its cause
 pub worn_has_cause : (shape : Shape) (threads : ℕ) → WornHasCause shape threads

@@ -28,11 +28,12 @@ begins place thread op log =
       latest = set log.latest thread (length log.calls);
     }
 
--- what a call asks for. A tick is no call
+-- what a call asks for. A tick and a seal are no calls
 abbrev pub op_asked : Begin → Op
 op_asked (B.Enqueue item start turns) = O.Enqueue item
 op_asked (B.Dequeue start turns) = O.Dequeue
 op_asked B.Tick = O.Dequeue
+op_asked B.Seal = O.Dequeue
 
 -- a call with this end
 abbrev pub ended : Call → ℕ → Answer → Call
@@ -52,11 +53,12 @@ ends place thread answer log =
       latest = log.latest;
     }
 
--- the event at this place was made, and came to this. A tick is no call
+-- the event at this place was made, and came to this. A tick and a seal are no calls
 abbrev pub logged : ℕ → ℕ → Option Begin → Outcome → Log → Log
 logged place thread (Some (B.Enqueue item start turns)) outcome log = begins place thread (O.Enqueue item) log
 logged place thread (Some (B.Dequeue start turns)) outcome log = begins place thread O.Dequeue log
 logged place thread (Some B.Tick) outcome log = log
+logged place thread (Some B.Seal) outcome log = log
 logged place thread None Went log = log
 logged place thread None (Ended answer) log = ends place thread answer log
 

@@ -104,6 +104,7 @@ abbrev pub start_of : Begin → ℕ
 start_of (B.Enqueue item start turns) = start
 start_of (B.Dequeue start turns) = start
 start_of B.Tick = 0
+start_of B.Seal = 0
 
 -- the looks of a complete execution
 abbrev pub looks_of : (shape : Shape) (threads thread : ℕ) (call : Begin) (answer : Answer) (old new : List Event)

@@ -28,3 +28,4 @@ not_enabled_number N.Idle = 2
 not_enabled_number N.InCall = 3
 not_enabled_number N.BadCall = 4
 not_enabled_number N.ClockSpent = 5
+not_enabled_number N.NotSealable = 6

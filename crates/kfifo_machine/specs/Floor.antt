@@ -9,7 +9,7 @@ use Rattle.kfifo_machine.specs.declared.event.Outcome.TheVariants.{Ended}
 use Rattle.kfifo_machine.specs.declared.event.NotEnabled.{NotEnabled}
 use Rattle.kfifo_machine.specs.Machine.{World, place_of, opening, step, world_of, after}
 
--- no two calls overlap: at each event of a call every other thread is idle
+-- no two calls overlap: at each event but a tick every other thread is idle
 abbrev pub NoOverlap : Shape → Option World → List Event → Type 0
 NoOverlap shape world [] = Unit {0}
 NoOverlap shape None (event ∷ events) = Unit {0}

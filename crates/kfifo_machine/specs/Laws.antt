@@ -2,7 +2,7 @@
 use Rattle.std.specs.Prelude.{◌≡◌, ◌≢◌, ℕ, ◌+◌, ◌*◌, ◌<◌, ◌≤◌, ◌⊎◌, ◌==◌, if◌then◌else◌, Bool, false, List, [], ◌∷◌}
 use Rattle.std.specs.Prelude.{◌++◌, length, Option, Some, None}
 use Rattle.kfifo_words.specs.declared.shape.Shape.{Shape}
-use Rattle.kfifo_words.specs.Words.{version_of}
+use Rattle.kfifo_words.specs.Words.{version_of, head_of, tail_of}
 use Rattle.kfifo_words.specs.Ring.{clock_at}
 use Rattle.kfifo_model.specs.declared.calls.Answer.{Answer}
 use Rattle.kfifo_model.specs.declared.calls.Answer.TheVariants.{Full, Busy, Worn}
@@ -14,7 +14,7 @@ use Rattle.kfifo_machine.specs.declared.place.Access.TheVariants.{Exchange}
 use Rattle.kfifo_machine.specs.declared.event.Begin.{Begin}
 use Rattle.kfifo_machine.specs.declared.event.Begin.TheVariants as B
 use Rattle.kfifo_machine.specs.declared.event.Event.{Event}
-use Rattle.kfifo_machine.specs.Program.{access, filled_with}
+use Rattle.kfifo_machine.specs.Program.{access, filled_with, sealed_word}
 use Rattle.kfifo_machine.specs.Machine.{World, word_at, place_of, found, opening, world_of, step, after}
 use Rattle.kfifo_machine.specs.Runs.{own, going, BeginsOnce, CompleteExecution}
 
@@ -38,14 +38,22 @@ pub record IsTick (shape : Shape) (event : Event) (index : ℕ) : Type 0 where
   pub begins : event.begin ≡ Some B.Tick
   pub clock : index ≡ clock_at shape.k shape.n
 
--- An event changes one word at most: by a won exchange, which raises its version by 1, or by a tick, which adds 1 to
--- the clock
+-- the event is a seal, and this is the index of the ends word
+pub record IsSeal (event : Event) (index : ℕ) : Type 0 where
+  pub begins : event.begin ≡ Some B.Seal
+  pub ends : index ≡ 0
+
+-- An event changes one word at most: by a won exchange, which raises its version by 1; by a tick, which adds 1 to the
+-- clock; or by a seal, which leaves head and tail in the one segment where they are and makes the version the last
 pub record OneWord (shape : Shape) (old new : World) (event : Event) : Type 0 where
   pub at_most_one : (i j : ℕ) → word_at new i ≢ word_at old i → word_at new j ≢ word_at old j → i ≡ j
-  pub only_so : (i : ℕ) → word_at new i ≢ word_at old i → Wins shape old event i (word_at new i) ⊎ IsTick shape event i
+  pub only_so : (i : ℕ) → word_at new i ≢ word_at old i
+      → Wins shape old event i (word_at new i) ⊎ IsTick shape event i ⊎ IsSeal event i
   pub won : (i to : ℕ) → Wins shape old event i to → (word_at new i ≡ to)
       × (version_of to ≡ version_of (word_at old i) + 1)
   pub ticked : (i : ℕ) → IsTick shape event i → word_at new i ≡ word_at old i + 1
+  pub sealed : (i : ℕ) → IsSeal event i → (head_of (word_at old i) ≡ tail_of (word_at old i))
+      × (version_of (word_at old i) < shape.last) × (word_at new i ≡ sealed_word shape (word_at old i))
 
 -- a step from this place that finds this word moves the head on, or the tail
 abbrev pub moves_head : Running → ℕ → Bool
@@ -84,11 +92,12 @@ NoWrap shape threads = (events : List Event) (here : World) → after shape thre
     → (head_ons shape threads events ≤ tail_ons shape threads events)
     × (tail_ons shape threads events < head_ons shape threads events + shape.n)
 
--- the most events of a call; a tick has one
+-- the most events of a call; a tick and a seal have one
 abbrev pub most_events : Shape → Begin → ℕ
 most_events shape (B.Enqueue item start turns) = turns * (2 * shape.k + 9)
 most_events shape (B.Dequeue start turns) = turns * (2 * shape.k + 9)
 most_events shape B.Tick = 1
+most_events shape B.Seal = 1
 
 -- A call of `turns` rounds has at most `turns * (2k + 9)` own events in every schedule, finished or not
 abbrev pub FewEvents : Shape → ℕ → Type 0

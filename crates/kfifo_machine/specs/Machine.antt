@@ -5,6 +5,7 @@ use Rattle.std.specs.Prelude.{get_or, set, replicate, Option, Some, None, Result
 use Rattle.std.specs.Prelude.{slice_get}
 use Rattle.kfifo_words.specs.declared.word.TheConstants.{VALUES}
 use Rattle.kfifo_words.specs.declared.shape.Shape.{Shape}
+use Rattle.kfifo_words.specs.Words.{version_of, head_of, tail_of}
 use Rattle.kfifo_words.specs.Ring.{clock_at}
 use Rattle.kfifo_machine.specs.declared.place.EnqueuePhase.TheVariants as E
 use Rattle.kfifo_machine.specs.declared.place.DequeuePhase.TheVariants as D
@@ -20,8 +21,8 @@ use Rattle.kfifo_machine.specs.declared.event.Event.{Event}
 use Rattle.kfifo_machine.specs.declared.event.Outcome.{Outcome}
 use Rattle.kfifo_machine.specs.declared.event.Outcome.TheVariants.{Went, Ended}
 use Rattle.kfifo_machine.specs.declared.event.NotEnabled.{NotEnabled}
-use Rattle.kfifo_machine.specs.declared.event.NotEnabled.TheVariants.{NoSuchThread, Idle, InCall, BadCall, ClockSpent}
-use Rattle.kfifo_machine.specs.Program.{access, accessed, advance}
+use Rattle.kfifo_machine.specs.declared.event.NotEnabled.TheVariants.{NoSuchThread, Idle, InCall, BadCall, ClockSpent, NotSealable}
+use Rattle.kfifo_machine.specs.Program.{access, accessed, advance, sealed_word}
 
 -- the words of the table, and each thread's place in its call
 pub record World : Type 0 where
@@ -74,11 +75,24 @@ ticked shape world =
       places = world.places;
     }
 
+-- The ends may be sealed: head and tail are in one segment, and the version is below the last
+abbrev pub may_seal : Shape → ℕ → Bool
+may_seal shape ends = (head_of ends == tail_of ends) && nat_lt (version_of ends) shape.last
+
+-- the words after a seal: the ends have their last version
+unfoldable pub sealed : Shape → World → World
+sealed shape world =
+    record {
+      words = set world.words 0 (sealed_word shape (word_at world 0));
+      places = world.places;
+    }
+
 -- what begins, where it is a call that may begin
 abbrev pub begun : Begin → Option Running
 begun (B.Enqueue item start turns) = Some (R.Enqueue item start turns E.LoadEnds)
 begun (B.Dequeue start turns) = Some (R.Dequeue start turns D.LoadEnds)
 begun B.Tick = None
+begun B.Seal = None
 
 -- a call has its start below k, at least one round, and an item in range
 abbrev pub may_begin : Shape → Begin → Bool
@@ -86,6 +100,7 @@ may_begin shape (B.Enqueue item start turns) =
     nat_lt start shape.k && nat_lt 0 turns && nat_lt 0 item && nat_lt item VALUES
 may_begin shape (B.Dequeue start turns) = nat_lt start shape.k && nat_lt 0 turns
 may_begin shape B.Tick = true
+may_begin shape B.Seal = true
 
 -- the step of a thread at this place, which begins this
 abbrev pub step_from : Shape → World → ℕ → Option Running → Option Begin → Result (World × Outcome) NotEnabled
@@ -102,6 +117,8 @@ step_from shape world thread None (Some B.Tick) =
     if word_at world (clock_at shape.k shape.n) == 18446744073709551615
     then Err ClockSpent
     else Ok (ticked shape world, Went)
+step_from shape world thread None (Some B.Seal) =
+    if may_seal shape (word_at world 0) then Ok (sealed shape world, Went) else Err NotSealable
 step_from shape world thread (Some running) None =
     Ok (moved shape world thread running, outcome_of (advance shape running (found shape world running)))
 step_from shape world thread (Some running) (Some begin) = Err InCall

@@ -31,6 +31,10 @@ tail_moved shape ends = ends_word (head_of ends) (next_segment shape.n (tail_of 
 abbrev pub head_held : ℕ → ℕ
 head_held ends = ends_word (head_of ends) (tail_of ends) (version_of ends + 1)
 
+-- the ends' word with its last version: no end moves after it
+abbrev pub sealed_word : Shape → ℕ → ℕ
+sealed_word shape ends = ends_word (head_of ends) (tail_of ends) shape.last
+
 -- a slot's word filled with an item, and emptied
 abbrev pub filled_with : ℕ → ℕ → ℕ
 filled_with item empty = slot_word item (version_of empty + 1)

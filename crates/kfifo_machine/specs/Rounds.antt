@@ -10,7 +10,7 @@ use Rattle.kfifo_machine.specs.declared.event.Begin.TheVariants as B
 use Rattle.kfifo_machine.specs.declared.event.Event.{Event}
 use Rattle.kfifo_machine.specs.Machine.{World, place_of, found, run, after}
 use Rattle.kfifo_machine.specs.Runs.{own, going, CompleteExecution}
-use Rattle.kfifo_machine.specs.Laws.{Wins, moves_head, moves_tail}
+use Rattle.kfifo_machine.specs.Laws.{Wins, IsSeal, moves_head, moves_tail}
 use Rattle.kfifo_machine.specs.Causes.{AllOfRound, looks}
 
 -- the thread is about to load its slot again, the item being put
@@ -25,11 +25,10 @@ pub record MovesOn (shape : Shape) (here : World) (event : Event) : Type 0 where
   pub moves : (moves_head running (found shape here running) ≡ true)
       ⊎ (moves_tail running (found shape here running) ≡ true)
 
--- the event is an exchange that is won
+-- the event is an exchange that is won, by a step of a call or by a seal
 pub record WinsSome (shape : Shape) (here : World) (event : Event) : Type 0 where
   pub index : ℕ
-  pub to : ℕ
-  pub wins : Wins shape here event index to
+  pub wins : ((to : ℕ) × Wins shape here event index to) ⊎ IsSeal event index
 
 -- among these events the thread wins a head-on or tail-on, or another thread wins an exchange
 pub record Disturbed (shape : Shape) (thread : ℕ) (here : World) (events : List Event) : Type 0 where
@@ -89,6 +88,7 @@ abbrev pub turns_of : Begin → ℕ
 turns_of (B.Enqueue item start turns) = turns
 turns_of (B.Dequeue start turns) = turns
 turns_of B.Tick = 0
+turns_of B.Seal = 0
 
 -- Busy: the call has all its rounds behind it, and lost each of them
 abbrev pub BusyHasCause : Shape → ℕ → Type 0

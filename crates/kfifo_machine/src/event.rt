@@ -14,6 +14,9 @@ pub enum Begin {
     Dequeue { start: u32, turns: u16 },
     /// One fetch-and-add of 1 on the clock. It is no call.
     Tick,
+    /// One compare-and-exchange of the ends word that is won, from a word whose head and tail are in one segment to the
+    /// same with the last version. No end moves after it. It is no call, and where it would be lost it is no event.
+    Seal,
 }
 
 /// One atomic step of one thread. A dequeue of an empty queue with k = 1 loads the ends word, a slot and the ends word:
@@ -40,7 +43,7 @@ pub struct Event {
 /// What an event that was made comes to.
 #[derive(Clone, Copy, PartialEq, Eq, Debug)]
 pub enum Outcome {
-    /// The call goes on, or the clock has ticked.
+    /// The call goes on, the clock has ticked, or the ends are sealed.
     Went,
     /// The call ended with this answer.
     Ended(Answer),
@@ -64,12 +67,15 @@ pub enum NotEnabled {
     /// 5: a tick, where the clock is 2^64 - 1.
     #[error("the clock stands at its greatest value, 2^64 - 1")]
     ClockSpent,
+    /// 6: a seal, where head and tail are in two segments or the ends word has its last version.
+    #[error("the head and the tail are in two segments, or the ends word has its last version")]
+    NotSealable,
 }
 
 impl NotEnabled {
     ghost use Rattle.kfifo_machine.specs.Faults.{not_enabled_number};
 
-    /// The fault's number, from 1 to 5.
+    /// The fault's number, from 1 to 6.
     pub fn number(self) -> u32
         ensures { result ≡ not_enabled_number self }
     {
@@ -79,6 +85,7 @@ impl NotEnabled {
             NotEnabled::InCall => 3,
             NotEnabled::BadCall => 4,
             NotEnabled::ClockSpent => 5,
+            NotEnabled::NotSealable => 6,
         }
     }
 }

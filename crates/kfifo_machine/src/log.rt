@@ -88,7 +88,7 @@ impl Log {
                 Op::Enqueue(item),
             ),
             (Some(Begin::Dequeue { .. }), _) => self.begin(place, event.thread, Op::Dequeue),
-            (Some(Begin::Tick), _) | (None, Outcome::Went) => Ok(()),
+            (Some(Begin::Tick | Begin::Seal), _) | (None, Outcome::Went) => Ok(()),
             (None, Outcome::Ended(answer)) => {
                 self.end(place, event.thread, answer);
                 Ok(())

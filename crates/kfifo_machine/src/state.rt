@@ -13,7 +13,7 @@ use crate::fault::StartFault;
 use crate::place::idle_places;
 use crate::{Access, Begin, DequeuePhase, EnqueuePhase, Event, Next, NotEnabled, Outcome, Running};
 use kfifo_model::{MAX_ITEM, MAX_THREADS};
-use kfifo_words::{Shape, Word};
+use kfifo_words::{ENDS_INDEX, Ends, Shape, Word};
 use std::alloc::Global;
 use std::marker::Model;
 
@@ -131,7 +131,7 @@ fn make_step(state: &mut State, thread: usize, running: Running) -> Outcome
 }
 
 /// The place from which a call makes its first step; none, where it may not begin: its start is not
-/// below k, it has no turns, or its item is out of range. A tick has none.
+/// below k, it has no turns, or its item is out of range. A tick and a seal have none.
 fn first_place(shape: &Shape, begin: Begin) -> Option<Running>
     ensures { result ≡ going shape.now None (Some begin) }
 {
@@ -155,7 +155,7 @@ fn first_place(shape: &Shape, begin: Begin) -> Option<Running>
                 phase,
             })
         }
-        Begin::Tick => None,
+        Begin::Tick | Begin::Seal => None,
     }
 }
 
@@ -178,6 +178,25 @@ fn tick(state: &mut State) -> Result<Outcome, NotEnabled>
     Ok(Outcome::Went)
 }
 
+/// Gives the ends word its last version where head and tail are in one segment, or refuses.
+#[tactic(auto, unfolding(crate::specs::Machine::word_at, crate::specs::Machine::sealed))]
+fn seal(state: &mut State) -> Result<Outcome, NotEnabled>
+    ensures shape { state.new.shape ≡ state.old.shape }
+    ensures made { IfOk result (λ outcome. step_from state.old.shape state.old.world 0 None (Some Begin.Seal)
+        ≡ Ok (state.new.world, outcome)) }
+    ensures refused { IfErr result (λ fault. step_from state.old.shape state.old.world 0 None (Some Begin.Seal)
+        ≡ Err fault) }
+    ensures unchanged { OnErr result (state.new ≡ state.old) }
+{
+    let ends = Ends::from(state.words[ENDS_INDEX]);
+    let last = state.shape.last();
+    if ends.head() != ends.tail() || ends.version() >= last {
+        return Err(NotEnabled::NotSealable);
+    }
+    state.words[ENDS_INDEX] = Ends::pack(ends.head(), ends.tail(), last).into();
+    Ok(Outcome::Went)
+}
+
 /// Makes one event, or says why it cannot be made and leaves the state as it was.
 #[tactic(auto, unfolding(crate::specs::Machine::step, crate::specs::Machine::place_of, crate::specs::Machine::found, crate::specs::Machine::word_at))]
 fn make_event(state: &mut State, event: Event) -> Result<Outcome, NotEnabled>
@@ -196,6 +215,7 @@ fn make_event(state: &mut State, event: Event) -> Result<Outcome, NotEnabled>
     match (state.places[thread], event.begin) {
         (None, None) => Err(NotEnabled::Idle),
         (None, Some(Begin::Tick)) => tick(state),
+        (None, Some(Begin::Seal)) => seal(state),
         (None, Some(begin)) => match first_place(&state.shape, begin) {
             Some(running) => Ok(make_step(state, thread, running)),
             None => Err(NotEnabled::BadCall),
@@ -211,7 +231,7 @@ fn make_event(state: &mut State, event: Event) -> Result<Outcome, NotEnabled>
 /// kfifo_machine::step(state, event)
 /// ```
 ///
-/// Each other thread stays at its place. One word changes at most, by a won exchange or a tick, and
+/// Each other thread stays at its place. One word changes at most, by a won exchange, a tick or a seal, and
 /// no word and no version falls.
 pub fn step(state: &mut State, event: Event) -> Result<Outcome, NotEnabled>
     ensures shape { state.new.shape ≡ state.old.shape }

@@ -25,11 +25,11 @@ use Rattle.kfifo_machine.specs.Runs.{going}
 use Rattle.kfifo_progress.proofs.Counting.{few_old, fewer_old, old_threads}
 use Rattle.kfifo_progress.proofs.Live.{Begun}
 use Rattle.kfifo_progress.proofs.Rounds.{disturbed, disturbed_bound, rounds_left}
-use Rattle.kfifo_progress.proofs.Schedule.{Fair, LiveAt, UndosAt, at_begin, names_of, spare_of, begins, busy_live, enough_prices, event_live, fair_begin, live_begins, live_changed}
+use Rattle.kfifo_progress.proofs.Schedule.{with_seals, Fair, LiveAt, UndosAt, at_begin, names_of, spare_of, begins, busy_live, enough_prices, event_live, fair_begin, live_begins, live_changed}
 use Rattle.kfifo_progress.proofs.Schedule.{live_spent, prices, undos_after}
-use Rattle.kfifo_progress.proofs.Undos.{Undos, undos_begin, undos_step, undos_table, undos_tick}
+use Rattle.kfifo_progress.proofs.Undos.{Undos, undos_begin, undos_step, undos_table, undos_outside}
 use Rattle.kfifo_progress.specs.Progress.{AllHaveTurns, BusyMeansProgress, HasTurns, SomeCallAnswers, answers_of, call_steps, calls_answered, turns_for_progress}
-use Rattle.kfifo_progress.specs.Progress.{is_wide, most_changes, most_steps, steps_of, steps_to_answer}
+use Rattle.kfifo_progress.specs.Progress.{is_wide, most_changes, most_steps, seals_in, seals_of, steps_of, steps_to_answer}
 
 -- a call that ends with Busy was in its last round
 busy_last : (shape : Shape) (r : Running) (word : ℕ) → Ended Busy ≡ outcome_of (advance shape r word) → rounds_left r ≡ 1
@@ -121,7 +121,7 @@ module _ (shape : Shape) (again : shape.holds_again ≡ true) (threads : ℕ) (w
       → LiveAt shape threads (prices shape threads) b old world l spent → step shape world e ≡ Ok (next, outcome)
       → UndosAt shape again threads next (ledger_after shape world e l)
   undos_next world next outcome e l b old spent h made =
-      event_at shape (Undos shape) (undos_table shape again) (undos_begin shape again) (undos_step shape again) (undos_tick shape again)
+      event_at shape (Undos shape) (undos_table shape again) (undos_begin shape again) (undos_step shape again) (undos_outside shape again)
       world next outcome e l (record { size = h.size; holds = h.live.undos }) made
 
   changed : (world : World) (l : Ledger) (steps : ℕ) (h : Stretched shape threads wide watched world l steps)
@@ -284,15 +284,16 @@ module _ (shape : Shape) (again : shape.holds_again ≡ true) (threads : ℕ) (w
   one_step begin = grind arith
 
   stretched_event : (world next : World) (outcome : Outcome) (e : Event) (l : Ledger) (steps : ℕ) → Stretched shape threads wide watched world l steps
-      → HasTurns (turns_in shape threads wide) e.begin → step shape world e ≡ Ok (next, outcome) → answers_of (Ok (next, outcome)) ≡ 0
+      → HasTurns (turns_in shape threads wide) e.begin → seals_of e.begin ≡ 0 → step shape world e ≡ Ok (next, outcome)
+      → answers_of (Ok (next, outcome)) ≡ 0
       → Stretched shape threads wide watched next (ledger_after shape world e l) (steps + steps_of e.begin)
-  stretched_event world next Went e l steps h turns made none = record {
+  stretched_event world next Went e l steps h turns unsealed made none = record {
     busy = h.busy;
     b = h.b;
     old = h.old;
     spent = h.spent + steps_of e.begin;
     live = event_live shape again threads (prices shape threads) (enough_prices shape threads) h.b h.old world next e l h.spent h.live
-        (rw h.turns turns) made;
+        (rw h.turns turns) unsealed made;
     fair = h.fair;
     count = h.count;
     names = h.names;
@@ -302,23 +303,24 @@ module _ (shape : Shape) (again : shape.holds_again ≡ true) (threads : ℕ) (w
     all = omega (arith, h.all);
     new = h.new;
   }
-  stretched_event world next (Ended Busy) e l steps h turns made none =
+  stretched_event world next (Ended Busy) e l steps h turns unsealed made none =
       fewer_steps next (ledger_after shape world e l) (steps + steps_of e.begin) (steps + 1) (omega (arith, one_step e.begin))
       (busy_event world next e l steps h made)
-  stretched_event world next (Ended answer) e l steps h turns made none = absurd (omega (arith, none))
+  stretched_event world next (Ended answer) e l steps h turns unsealed made none = absurd (omega (arith, none))
 
   stretched : (stretch : List Event) (here there : World) (l : Ledger) (steps : ℕ) → Stretched shape threads wide watched here l steps
-      → AllHaveTurns (turns_in shape threads wide) stretch → run shape (Some here) stretch ≡ Some there
+      → AllHaveTurns (turns_in shape threads wide) stretch → seals_in stretch ≡ 0 → run shape (Some here) stretch ≡ Some there
       → calls_answered shape (Some here) stretch ≡ 0
       → Stretched shape threads wide watched there (ledger_of shape (Some here) stretch l) (steps + call_steps stretch)
-  stretched [] here there l steps h turns is none =
+  stretched [] here there l steps h turns unsealed is none =
       subst (λ w. Stretched shape threads wide watched w l (steps + 0)) (same_Some here there is)
       (fewer_steps here l (steps + 0) steps (omega arith) h)
-  stretched (e ∷ es) here there l steps h turns is none =
+  stretched (e ∷ es) here there l steps h turns unsealed is none =
       let m = first_made shape here e there es is in
       let answers : answers_of (Ok (m.0, m.1.0)) + calls_answered shape (Some m.0) es ≡ 0 = rw m.1.1.0 at none in
-      let k = stretched_event here m.0 m.1.0 e l steps h turns.0 m.1.1.0 (omega (arith, answers)) in
-      let all = stretched es m.0 there (ledger_after shape here e l) (steps + steps_of e.begin) k turns.1 m.1.1.1 (omega (arith, answers)) in
+      let k = stretched_event here m.0 m.1.0 e l steps h turns.0 (omega arith) m.1.1.0 (omega (arith, answers)) in
+      let all = stretched es m.0 there (ledger_after shape here e l) (steps + steps_of e.begin) k turns.1 (omega arith) m.1.1.1
+      (omega (arith, answers)) in
       let z : steps + steps_of e.begin + call_steps es ≡ steps + call_steps (e ∷ es) = omega arith in
       rw m.1.1.0 (subst (λ n. Stretched shape threads wide watched there (ledger_of shape (Some m.0) es (ledger_after shape here e l)) n) z all)
 
@@ -369,15 +371,23 @@ steps_in shape threads = elim (cases_Bool (is_wide shape threads)) [
   | inr narrow ↦ rw narrow (omega arith)
 ]
 
-pub some_call_answers : (shape : Shape) (threads : ℕ) → shape.holds_again ≡ true → threads < shape.n → SomeCallAnswers shape threads
-some_call_answers shape threads again few events stretch here there is made turns none =
+unsealed_answers : (shape : Shape) (threads : ℕ) → shape.holds_again ≡ true → threads < shape.n → (events stretch : List Event)
+    (here there : World) → after shape threads events ≡ Some here → run shape (Some here) stretch ≡ Some there
+    → AllHaveTurns (turns_for_progress shape threads) stretch → seals_in stretch ≡ 0 → calls_answered shape (Some here) stretch ≡ 0
+    → call_steps stretch ≤ steps_to_answer shape threads
+unsealed_answers shape threads again few events stretch here there is made turns unsealed none =
     let l = ledger_after_all shape threads events in
     let wide = is_wide shape threads in
     let room = room_in shape threads few in
     let begun = stretched_begins shape again threads wide room None events here is (λ t is. absurd (none-some t is)) in
     let bound = stretched_bound shape again threads wide room None there (ledger_of shape (Some here) stretch l) (0 + call_steps stretch)
-    (stretched shape again threads wide room None stretch here there l 0 begun turns made none) in
+    (stretched shape again threads wide room None stretch here there l 0 begun turns unsealed made none) in
     omega (arith, bound, steps_in shape threads)
+
+pub some_call_answers : (shape : Shape) (threads : ℕ) → shape.holds_again ≡ true → threads < shape.n → SomeCallAnswers shape threads
+some_call_answers shape threads again few events stretch here there is made turns none =
+    with_seals shape threads (steps_to_answer shape threads) (turns_for_progress shape threads) answers_of
+    (unsealed_answers shape threads again few) (seals_in stretch) events stretch here there is made turns refl none
 
 -- a thread is idle before a call begins
 going_idle : (shape : Shape) (place : Option Running) (call : Begin) (r : Running) → going shape place (Some call) ≡ Some r → place ≡ None
@@ -407,6 +417,10 @@ turns_before : (least : ℕ) (xs ys : List Event) → AllHaveTurns least (xs ++ 
 turns_before least [] ys h = tt
 turns_before least (e ∷ xs) ys h = (h.0, turns_before least xs ys h.1)
 
+seals_before : (xs ys : List Event) → seals_in xs ≤ seals_in (xs ++ ys)
+seals_before [] ys = omega arith
+seals_before (e ∷ xs) ys = omega (arith, seals_before xs ys)
+
 counted_before : (shape : Shape) (world : Option World) (xs ys : List Event)
     → calls_answered shape world xs ≤ calls_answered shape world (xs ++ ys)
 counted_before shape world [] ys = omega arith
@@ -416,7 +430,7 @@ counted_before shape (Some world) (e ∷ xs) ys = omega (arith, counted_before s
 pub busy_means_progress : (shape : Shape) (threads : ℕ) → shape.holds_again ≡ true → threads < shape.n → BusyMeansProgress shape threads
 busy_means_progress shape threads again few thread call old new whole turns =
     let k = run_before shape (Some (opening shape threads)) whole.before old whole.between whole.reached in
-    rw k.1 (elim (cases_lt 0 (calls_answered shape (Some k.0) (whole.between ++ whole.last ∷ []))) [
+    rw k.1 (elim (cases_lt 0 (calls_answered shape (Some k.0) (whole.between ++ whole.last ∷ []) + seals_in (whole.between ++ whole.last ∷ []))) [
       | inl some ↦ some
       | inr none ↦
           let all : run shape (Some k.0) (whole.between ++ whole.last ∷ []) ≡ Some whole.world =
@@ -429,8 +443,9 @@ busy_means_progress shape threads again few thread call old new whole turns =
           (λ t is. ap (place_of k.0) (sym (same_Some thread t is)) ∙ idle) in
           let quiet : calls_answered shape (Some k.0) whole.between ≡ 0 =
           omega (arith, none, counted_before shape (Some k.0) whole.between (whole.last ∷ [])) in
+          let unsealed : seals_in whole.between ≡ 0 = omega (arith, none, seals_before whole.between (whole.last ∷ [])) in
           let h = stretched shape again threads wide room (Some thread) whole.between k.0 whole.before (ledger_after_all shape threads old) 0 begun
-          (turns_before (turns_for_progress shape threads) whole.between (whole.last ∷ []) turns) k.2 quiet in
+          (turns_before (turns_for_progress shape threads) whole.between (whole.last ∷ []) turns) unsealed k.2 quiet in
           let was = busy_old shape again threads wide room (Some thread) whole.before whole.world whole.last
           (ledger_of shape (Some k.0) whole.between (ledger_after_all shape threads old)) (0 + call_steps whole.between) h whole.ends in
           absurd (false≢true (sym (ap h.old whole.last_own ∙ h.new thread refl) ∙ was))

@@ -7,11 +7,10 @@ use Rattle.std.proofs.lemmas.Option.{none-some, same_Some}
 use Rattle.kfifo_model.specs.declared.calls.Answer.TheVariants.{Busy}
 use Rattle.kfifo_machine.specs.declared.place.Next.TheVariants.{Answers}
 use Rattle.kfifo_linear.proofs.Types.{Begin, Running, Shape}
-use Rattle.kfifo_linear.proofs.Abstract.{noted-other, noted-same, words_by}
+use Rattle.kfifo_linear.proofs.Abstract.{tick_outside, noted-other, noted-same, words_by}
 use Rattle.kfifo_linear.proofs.Base.{Sane}
 use Rattle.kfifo_linear.proofs.Claims.{ends_change, at_load}
 use Rattle.kfifo_linear.proofs.Threads.{goes_at}
-use Rattle.kfifo_linear.proofs.Whole.{ticked_word}
 use Rattle.kfifo_linear.specs.Ledger.{Ledger, called, found_in, noted, stepped}
 use Rattle.kfifo_machine.specs.Machine.{begun, may_begin, place_after}
 use Rattle.kfifo_machine.specs.Places.{IsPlace, IsSlotIndex}
@@ -28,7 +27,7 @@ use Rattle.kfifo_progress.proofs.Spending.{move_price, others_disturbed, own_rou
 use Rattle.kfifo_progress.proofs.Spending.{spends, won_by}
 use Rattle.kfifo_progress.proofs.Stretches.{Stretch, stretch_ends, stretch_step}
 use Rattle.kfifo_progress.specs.Progress.{HasTurns}
-use Rattle.kfifo_progress.proofs.Undos.{Undos, undos_begin, undos_step, undos_tick}
+use Rattle.kfifo_progress.proofs.Undos.{Undos, undos_begin, undos_step, undos_outside}
 
 -- the stretch: the visit in which the tail was at its begin, the sum of the visits of both ends, and what the threads had.
 -- A thread that is not old makes a call that began with at least so many turns, and lost at most so many rounds before
@@ -56,6 +55,10 @@ pub record Live (shape : Shape) (threads : ℕ) (x : Prices) (b : Begun) (old : 
       ≤ b.to_change + (l.head + l.tail) + threads * 2 * top b.tail l
   pub young : (t : ℕ) (r : Running) → p t ≡ Some r → old t ≡ false
       → b.turns + disturbed w r ≤ rounds_left r + b.lost + 1 + changed
+
+-- a tick changes no word but the clock
+ticked_word : (shape : Shape) (w : ℕ → ℕ) (x i : ℕ) → i < clock_at shape.k shape.n → noted w (clock_at shape.k shape.n) x i ≡ w i
+ticked_word shape w x i h = noted-other w (clock_at shape.k shape.n) i x (λ z. omega (arith, h, z))
 
 kept_same : (shape : Shape) (w w' : ℕ → ℕ) (charge : ℕ → Option ℕ) (Slots : ℕ → Type 0) (v : ℕ)
     → ((i : ℕ) → IsSlotIndex shape i → w' i ≡ w i) → Kept shape w charge Slots v → Kept shape w' charge Slots v
@@ -241,7 +244,7 @@ module _ (shape : Shape) (again : shape.holds_again ≡ true) (threads : ℕ) (x
       let z = ticked_word shape w (w (clock_at shape.k shape.n) + 1) in
       record {
         names = h.names;
-        undos = undos_tick shape again w p l h.undos;
+        undos = undos_outside shape again w _ p l (tick_outside shape w _) h.undos;
         charge = h.charge;
         stretch = record {
           kept = λ v f a c. kept_same shape w (noted w (clock_at shape.k shape.n) (w (clock_at shape.k shape.n) + 1)) h.charge Every v

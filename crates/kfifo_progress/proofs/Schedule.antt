@@ -2,7 +2,7 @@
 use Rattle.std.proofs.Common.{◌≡◌, ℕ, zero, suc, ◌+◌, ◌*◌, ◌<◌, ◌≤◌, Bool, true, false, cond, inl, inr, refl, sym, ◌∙◌, ap, subst}
 use Rattle.std.specs.Prelude.{if◌then◌else◌}
 use Rattle.std.proofs.Math.Nat.{mul-le-mul_left}
-use Rattle.std.proofs.Common.{arith, List, [], ◌∷◌, length, get_or, Option, Some, None, Ok}
+use Rattle.std.proofs.Common.{arith, List, [], ◌∷◌, ◌++◌, length, get_or, Option, Some, None, Ok, Result}
 use Rattle.std.proofs.lemmas.Bool.{cases_eq, false≢true}
 use Rattle.std.proofs.lemmas.Grind.{get_or-set_at}
 use Rattle.std.proofs.lemmas.List.{get_or-set_other, length-set}
@@ -23,10 +23,11 @@ use Rattle.kfifo_linear.proofs.Base.{opening_size}
 use Rattle.kfifo_linear.specs.Ledger.{Ledger, blank, called, found_in, ledger_after, ledger_from, ledger_of, noted, stepped}
 use Rattle.kfifo_linear.specs.Order.{ledger_after_all}
 use Rattle.kfifo_machine.proofs.NoWrap.{EndsOk}
-use Rattle.kfifo_machine.proofs.Schedules.{first_made, made_within, same_threads, stepped as steps_by}
+use Rattle.kfifo_machine.proofs.Schedules.{after-snoc, first_made, made_within, run_before, run_on, same_threads, stepped as steps_by}
+use Rattle.kfifo_machine.specs.declared.event.NotEnabled.{NotEnabled}
 use Rattle.kfifo_machine.proofs.Sound.{IsSound, going_place, place_is, sound, sound_threads, step_sound}
 use Rattle.kfifo_machine.specs.Machine.{World, after, begun, found, may_begin, moved, opening, outcome_of, place_after, place_of, run, step}
-use Rattle.kfifo_machine.specs.Machine.{ticked, word_at}
+use Rattle.kfifo_machine.specs.Machine.{ticked, word_at, world_of}
 use Rattle.kfifo_machine.specs.Places.{IsPlace}
 use Rattle.kfifo_machine.specs.Program.{access, accessed, advance}
 use Rattle.kfifo_machine.specs.Runs.{going}
@@ -40,9 +41,9 @@ use Rattle.kfifo_progress.proofs.Rounds.{disturbed, rounds_left}
 use Rattle.kfifo_progress.proofs.Spending.{move_price, purse, sum}
 use Rattle.kfifo_progress.proofs.Changing.{changes_at, changes_bound, has_passed, to_change, top}
 use Rattle.kfifo_progress.proofs.Stretches.{Stretch, head_bound}
-use Rattle.kfifo_progress.proofs.Undos.{Undos, undos_begin, undos_opening, undos_step, undos_table, undos_tick}
+use Rattle.kfifo_progress.proofs.Undos.{Undos, undos_begin, undos_opening, undos_step, undos_table, undos_outside}
 use Rattle.kfifo_progress.specs.Progress.{AllHaveTurns, HasTurns, SomeCallEnds, call_steps, calls_ended, ends_of, most_changes, most_moves, most_steps}
-use Rattle.kfifo_progress.specs.Progress.{steps_of}
+use Rattle.kfifo_progress.specs.Progress.{counted, seals_in, seals_of, steps_of}
 
 -- the stretch at a world
 pub record LiveAt (shape : Shape) (threads : ℕ) (x : Prices) (b : Begun) (old : ℕ → Bool) (world : World) (l : Ledger) (spent : ℕ) : Type 0 where
@@ -130,6 +131,7 @@ module _ (shape : Shape) (again : shape.holds_again ≡ true) (threads : ℕ) (x
       (subst (IsPlace shape) (sym same) place)
       (subst (λ q. goes (advance shape q (found_in shape (word_at world) q)) ≡ true) (sym same) calm))
   by_place None (Some B.Tick) r h at g turns place calm = absurd (none-some r g)
+  by_place None (Some B.Seal) r h at g turns place calm = absurd (none-some r g)
   by_place (Some q) None r h at g turns place calm =
       let same : q ≡ r = same_Some q r g in
       rw same (step_live r l (subst (λ p. Live shape threads x b old (word_at world) p l spent)
@@ -191,9 +193,10 @@ module _ (shape : Shape) (again : shape.holds_again ≡ true) (threads : ℕ) (x
 
   -- an event that ends no call
   pub event_live : (world next : World) (e : Event) (l : Ledger) (spent : ℕ) → LiveAt shape threads x b old world l spent
-      → HasTurns b.turns e.begin → step shape world e ≡ Ok (next, Went) → LiveAt shape threads x b old next (ledger_after shape world e l) (spent + steps_of e.begin)
+      → HasTurns b.turns e.begin → seals_of e.begin ≡ 0 → step shape world e ≡ Ok (next, Went)
+      → LiveAt shape threads x b old next (ledger_after shape world e l) (spent + steps_of e.begin)
   unfolding ledger_after found
-  event_live world next e l spent h turns made =
+  event_live world next e l spent h turns unsealed made =
       let within : e.thread < length world.places = made_within shape world e next Went made in
       let sound : IsSound shape next = step_sound shape world e next Went h.sound made in
       let count : length next.places ≡ threads = same_threads shape world e next Went made ∙ h.count in
@@ -212,14 +215,17 @@ module _ (shape : Shape) (again : shape.holds_again ≡ true) (threads : ℕ) (x
                   (ledger_from shape (word_at world) e.thread (place_of world e.thread) e.begin l) (spent + steps_of e.begin))
                   (sym s.there_is) k;
             }
-        | inr t ↦ record {
-          size = ap (λ (z : World). length z.words) t.there_is ∙ ticked_size shape world ∙ h.size;
-          count = count;
-          sound = sound;
-          live = subst (λ z. Live shape threads x b old (word_at z) (place_of z)
-              (ledger_from shape (word_at world) e.thread (place_of world e.thread) e.begin l) (spent + steps_of e.begin))
-              (sym t.there_is) (by_tick world l spent e.thread h (place_of world e.thread) e.begin t.idle t.begins);
-        }
+        | inr o ↦ elim o.by [
+          | inl t ↦ record {
+            size = ap (λ (z : World). length z.words) t.there_is ∙ ticked_size shape world ∙ h.size;
+            count = count;
+            sound = sound;
+            live = subst (λ z. Live shape threads x b old (word_at z) (place_of z)
+                (ledger_from shape (word_at world) e.thread (place_of world e.thread) e.begin l) (spent + steps_of e.begin))
+                (sym t.there_is) (by_tick world l spent e.thread h (place_of world e.thread) e.begin o.idle t.begins);
+          }
+          | inr z ↦ absurd (let sealed : seals_of e.begin ≡ 1 = ap seals_of z.begins in omega arith)
+        ]
       ]
 
   -- one with which a thread's first call in the stretch ends, with Busy
@@ -245,17 +251,19 @@ module _ (shape : Shape) (again : shape.holds_again ≡ true) (threads : ℕ) (x
 
   -- and a stretch of such events
   stretch_live : (stretch : List Event) (here there : World) (l : Ledger) (spent : ℕ) → LiveAt shape threads x b old here l spent
-      → AllHaveTurns b.turns stretch → run shape (Some here) stretch ≡ Some there → calls_ended shape (Some here) stretch ≡ 0
+      → AllHaveTurns b.turns stretch → seals_in stretch ≡ 0 → run shape (Some here) stretch ≡ Some there
+      → calls_ended shape (Some here) stretch ≡ 0
       → LiveAt shape threads x b old there (ledger_of shape (Some here) stretch l) (spent + call_steps stretch)
-  stretch_live [] here there l spent h turns is none =
+  stretch_live [] here there l spent h turns unsealed is none =
       let z : spent ≡ spent + 0 = omega arith in
       subst (λ n. LiveAt shape threads x b old there l n) z (subst (λ w. LiveAt shape threads x b old w l spent) (same_Some here there is) h)
-  stretch_live (e ∷ es) here there l spent h turns is none =
+  stretch_live (e ∷ es) here there l spent h turns unsealed is none =
       let m = first_made shape here e there es is in
       let ends : ends_of (Ok (m.0, m.1.0)) + calls_ended shape (Some m.0) es ≡ 0 = rw m.1.1.0 at none in
       let went : m.1.0 ≡ Went = no_end m.1.0 m.0 (omega (arith, ends)) in
-      let k = event_live here m.0 e l spent h turns.0 (m.1.1.0 ∙ ap (λ o. Ok (m.0, o)) went) in
-      let all = stretch_live es m.0 there (ledger_after shape here e l) (spent + steps_of e.begin) k turns.1 m.1.1.1 (omega (arith, ends)) in
+      let k = event_live here m.0 e l spent h turns.0 (omega arith) (m.1.1.0 ∙ ap (λ o. Ok (m.0, o)) went) in
+      let all = stretch_live es m.0 there (ledger_after shape here e l) (spent + steps_of e.begin) k turns.1 (omega arith) m.1.1.1
+      (omega (arith, ends)) in
       let z : spent + steps_of e.begin + call_steps es ≡ spent + call_steps (e ∷ es) = omega arith in
       rw m.1.1.0 (subst (λ n. LiveAt shape threads x b old there (ledger_of shape (Some m.0) es (ledger_after shape here e l)) n) z all)
 
@@ -318,12 +326,12 @@ begin_changes from l p threads spare ordered = let e : top from l ≡ from = ome
 module _ (shape : Shape) (again : shape.holds_again ≡ true) (threads : ℕ) where
   abbrev pub UndosAt : World → Ledger → Type 0
   UndosAt world l = At shape (Undos shape) (undos_table shape again) (undos_begin shape again) (undos_step shape again)
-      (undos_tick shape again) world l
+      (undos_outside shape again) world l
 
   pub undos_after : (events : List Event) (here : World) → after shape threads events ≡ Some here
       → UndosAt here (ledger_after_all shape threads events)
   undos_after events here is =
-      after_all shape (Undos shape) (undos_table shape again) (undos_begin shape again) (undos_step shape again) (undos_tick shape again)
+      after_all shape (Undos shape) (undos_table shape again) (undos_begin shape again) (undos_step shape again) (undos_outside shape again)
       events (opening shape threads) here blank
       (record { size = opening_size shape threads; holds = undos_opening shape again threads }) is
 
@@ -442,8 +450,103 @@ no_turns (e ∷ es) = (by_begin e.begin, no_turns es)
     by_begin : (begin : Option Begin) → HasTurns 0 begin
     by_begin begin = grind arith
 
-pub some_call_ends : (shape : Shape) (threads : ℕ) → shape.holds_again ≡ true → threads < shape.n → SomeCallEnds shape threads
-some_call_ends shape threads again few events stretch here there is made none =
+-- a schedule up to its first seal, and from there on
+pub record SplitAt (stretch : List Event) (more : ℕ) : Type 0 where
+  pub before : List Event
+  pub seal : Event
+  pub later : List Event
+  pub split : stretch ≡ before ++ seal ∷ later
+  pub no_seal : seals_in before ≡ 0
+  pub is_seal : seals_of seal.begin ≡ 1
+  pub left : seals_in later ≡ more
+
+first_seal : (stretch : List Event) (more : ℕ) → seals_in stretch ≡ suc more → SplitAt stretch more
+first_seal [] more is = absurd (omega (arith, is))
+first_seal (e ∷ es) more is = by_begin (λ none. first_seal es more (omega (arith, is, none))) e.begin refl
+  where
+    after_first : seals_of e.begin ≡ 0 → SplitAt es more → SplitAt (e ∷ es) more
+    after_first none s =
+        record {
+          before = e ∷ s.before;
+          seal = s.seal;
+          later = s.later;
+          split = ap (λ xs. e ∷ xs) s.split;
+          no_seal = omega (arith, none, s.no_seal);
+          is_seal = s.is_seal;
+          left = s.left;
+        }
+
+    by_begin : (seals_of e.begin ≡ 0 → SplitAt es more) → (begin : Option Begin) → e.begin ≡ begin → SplitAt (e ∷ es) more
+    by_begin rest None at = after_first (ap seals_of at) (rest (ap seals_of at))
+    by_begin rest (Some B.Tick) at = after_first (ap seals_of at) (rest (ap seals_of at))
+    by_begin rest (Some (B.Enqueue item start turns)) at = after_first (ap seals_of at) (rest (ap seals_of at))
+    by_begin rest (Some (B.Dequeue start turns)) at = after_first (ap seals_of at) (rest (ap seals_of at))
+    by_begin rest (Some B.Seal) at =
+        let one : seals_of e.begin ≡ 1 = ap seals_of at in
+        record { before = []; seal = e; later = es; split = refl; no_seal = refl; is_seal = one; left = omega (arith, is, one) }
+
+seal_steps : (begin : Option Begin) → seals_of begin ≡ 1 → steps_of begin ≡ 0
+seal_steps begin is = grind arith
+
+steps-append : (xs ys : List Event) → call_steps (xs ++ ys) ≡ call_steps xs + call_steps ys
+steps-append [] ys = omega arith
+steps-append (e ∷ xs) ys = omega (arith, steps-append xs ys)
+
+turns-append : (least : ℕ) (xs ys : List Event) → AllHaveTurns least (xs ++ ys) → AllHaveTurns least xs × AllHaveTurns least ys
+turns-append least [] ys h = (tt, h)
+turns-append least (e ∷ xs) ys h = let k = turns-append least xs ys h.1 in ((h.0, k.0), k.1)
+
+counted-append : (shape : Shape) (count : Result (World × Outcome) NotEnabled → ℕ) (here there : World) (xs ys : List Event)
+    → run shape (Some here) xs ≡ Some there
+    → counted count shape (Some here) (xs ++ ys) ≡ counted count shape (Some here) xs + counted count shape (Some there) ys
+counted-append shape count here there [] ys is =
+    ap (λ (w : World). counted count shape (Some w) ys) (same_Some here there is) ∙ sum_zero (counted count shape (Some there) ys)
+  where
+    sum_zero : (n : ℕ) → n ≡ 0 + n
+    sum_zero n = omega arith
+counted-append shape count here there (e ∷ xs) ys is =
+    let m = first_made shape here e there xs is in
+    let rest = counted-append shape count m.0 there xs ys m.1.1.1 in
+    rw m.1.1.0 (omega (arith, rest))
+
+-- What bounds the steps of each stretch without a seal bounds those of any stretch: each seal begins it anew
+module _ (shape : Shape) (threads most least : ℕ) (count : Result (World × Outcome) NotEnabled → ℕ)
+    (unsealed : (events stretch : List Event) (here there : World) → after shape threads events ≡ Some here
+    → run shape (Some here) stretch ≡ Some there → AllHaveTurns least stretch → seals_in stretch ≡ 0
+    → counted count shape (Some here) stretch ≡ 0 → call_steps stretch ≤ most) where
+  pub with_seals : (seals : ℕ) (events stretch : List Event) (here there : World) → after shape threads events ≡ Some here
+      → run shape (Some here) stretch ≡ Some there → AllHaveTurns least stretch → seals_in stretch ≡ seals
+      → counted count shape (Some here) stretch ≡ 0 → call_steps stretch ≤ (seals + 1) * most
+  with_seals zero events stretch here there is made turns none ends =
+      omega (arith, unsealed events stretch here there is made turns none ends)
+  with_seals (suc seals) events stretch here there is made turns some ends =
+      let s = first_seal stretch seals some in
+      let k = run_before shape (Some here) there s.before (s.seal ∷ s.later) (ap (run shape (Some here)) (sym s.split) ∙ made) in
+      let m = first_made shape k.0 s.seal there s.later k.2 in
+      let both = turns-append least s.before (s.seal ∷ s.later) (subst (AllHaveTurns least) s.split turns) in
+      let parts : counted count shape (Some here) stretch
+      ≡ counted count shape (Some here) s.before + counted count shape (Some k.0) (s.seal ∷ s.later) =
+      ap (counted count shape (Some here)) s.split ∙ counted-append shape count here k.0 s.before (s.seal ∷ s.later) k.1 in
+      let rest : counted count shape (Some k.0) (s.seal ∷ s.later) ≡ count (Ok (m.0, m.1.0)) + counted count shape (Some m.0) s.later =
+      ap (λ r. count r + counted count shape (world_of r) s.later) m.1.1.0 in
+      let before_at : after shape threads (events ++ s.before) ≡ Some k.0 =
+      run_on shape (Some (opening shape threads)) here events s.before is ∙ k.1 in
+      let sealed_at : after shape threads ((events ++ s.before) ++ s.seal ∷ []) ≡ Some m.0 =
+      after-snoc shape threads (events ++ s.before) k.0 s.seal before_at ∙ ap world_of m.1.1.0 in
+      let first : call_steps s.before ≤ most =
+      unsealed events s.before here k.0 is k.1 both.0 s.no_seal (omega (arith, ends, parts)) in
+      let others : call_steps s.later ≤ (seals + 1) * most =
+      with_seals seals ((events ++ s.before) ++ s.seal ∷ []) s.later m.0 there sealed_at m.1.1.1 both.1.1 s.left
+      (omega (arith, ends, parts, rest)) in
+      let steps : call_steps stretch ≡ call_steps s.before + call_steps (s.seal ∷ s.later) =
+      ap call_steps s.split ∙ steps-append s.before (s.seal ∷ s.later) in
+      let none : steps_of s.seal.begin ≡ 0 = seal_steps s.seal.begin s.is_seal in
+      omega (arith, first, others, steps, none)
+
+unsealed_ends : (shape : Shape) (threads : ℕ) → shape.holds_again ≡ true → threads < shape.n → (events stretch : List Event)
+    (here there : World) → after shape threads events ≡ Some here → run shape (Some here) stretch ≡ Some there → AllHaveTurns 0 stretch
+    → seals_in stretch ≡ 0 → calls_ended shape (Some here) stretch ≡ 0 → call_steps stretch ≤ most_steps shape threads threads
+unsealed_ends shape threads again few events stretch here there is made turns unsealed none =
     let l = ledger_after_all shape threads events in
     let old : ℕ → Bool = λ _. true in
     let undos = undos_after shape again threads events here is in
@@ -453,5 +556,10 @@ some_call_ends shape threads again few events stretch here there is made none =
     let spent = live_spent shape threads b old few (fair_begin shape threads l here false old 0 0 undos.holds.inv.base.ends)
     (ledger_of shape (Some here) stretch l) there (0 + call_steps stretch)
     (stretch_live shape again threads (prices shape threads) (enough_prices shape threads) b old stretch here there l 0 begun
-    (no_turns stretch) made none) in
+    turns unsealed made none) in
     omega (arith, spent)
+
+pub some_call_ends : (shape : Shape) (threads : ℕ) → shape.holds_again ≡ true → threads < shape.n → SomeCallEnds shape threads
+some_call_ends shape threads again few events stretch here there is made none =
+    with_seals shape threads (most_steps shape threads threads) 0 ends_of (unsealed_ends shape threads again few) (seals_in stretch) events
+    stretch here there is made (no_turns stretch) refl none

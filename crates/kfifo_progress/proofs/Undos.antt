@@ -8,13 +8,13 @@ use Rattle.std.proofs.lemmas.Option.{none-some, same_Some}
 use Rattle.kfifo_linear.proofs.Types.{Begin, Running, Shape}
 use Rattle.kfifo_machine.specs.declared.place.EnqueuePhase.TheVariants as E
 use Rattle.kfifo_machine.specs.declared.place.Running.TheVariants as R
-use Rattle.kfifo_linear.proofs.Abstract.{noted-other, noted-same, table_size, words_by}
+use Rattle.kfifo_linear.proofs.Abstract.{OutsideCalls, noted-other, noted-same, table_size, words_by}
 use Rattle.kfifo_linear.proofs.Base.{Sane, get_or_replicate}
 use Rattle.kfifo_linear.proofs.Claims.{EndsChange, IfGoes, Loaded, Round, ends_change}
 use Rattle.kfifo_linear.proofs.Invariant.{Inv, ThreadOk}
 use Rattle.kfifo_linear.proofs.Ring.{distance-mod}
 use Rattle.kfifo_linear.proofs.Threads.{goes_at}
-use Rattle.kfifo_linear.proofs.Whole.{inv_begin, inv_opening, inv_step, inv_table, inv_tick}
+use Rattle.kfifo_linear.proofs.Whole.{inv_begin, inv_opening, inv_step, inv_table, inv_outside}
 use Rattle.kfifo_linear.specs.Ledger.{Ledger, blank, called, found_in, noted, stepped}
 use Rattle.kfifo_machine.proofs.NoWrap.{EndsOk}
 use Rattle.kfifo_machine.specs.Machine.{begun, may_begin, opening, place_after, place_of, word_at}
@@ -102,10 +102,10 @@ module _ (shape : Shape) (again : shape.holds_again ≡ true) where
         ];
       }
 
-  pub undos_tick : (w : ℕ → ℕ) (p : ℕ → Option Running) (l : Ledger) → Undos shape w p l
-      → Undos shape (noted w (clock_at shape.k shape.n) (w (clock_at shape.k shape.n) + 1)) p (record l { now = l.now + 1 })
-  undos_tick w p l h = record {
-    inv = inv_tick shape w p l h.inv;
+  pub undos_outside : (w v : ℕ → ℕ) (p : ℕ → Option Running) (l : Ledger) → OutsideCalls shape w v → Undos shape w p l
+      → Undos shape v p (record l { now = l.now + 1 })
+  undos_outside w v p l o h = record {
+    inv = inv_outside shape w v p l o h.inv;
     passed = λ u q f. HasPassed-others l (record l { now = l.now + 1 }) u q (omega arith) refl (h.passed u q f);
   }
 

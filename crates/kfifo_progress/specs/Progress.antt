@@ -11,15 +11,25 @@ use Rattle.kfifo_machine.specs.declared.event.NotEnabled.{NotEnabled}
 use Rattle.kfifo_machine.specs.Machine.{World, world_of, step, run, after}
 use Rattle.kfifo_machine.specs.Runs.{CompleteExecution}
 
--- an event is a step of a call, unless it is a tick
+-- an event is a step of a call, unless it is a tick or a seal
 abbrev pub steps_of : Option Begin → ℕ
 steps_of (Some B.Tick) = 0
+steps_of (Some B.Seal) = 0
 steps_of other = 1
 
 -- how many events are steps of calls
 abbrev pub call_steps : List Event → ℕ
 call_steps [] = 0
 call_steps (event ∷ events) = steps_of event.begin + call_steps events
+
+-- how many events are seals
+abbrev pub seals_of : Option Begin → ℕ
+seals_of (Some B.Seal) = 1
+seals_of other = 0
+
+abbrev pub seals_in : List Event → ℕ
+seals_in [] = 0
+seals_in (event ∷ events) = seals_of event.begin + seals_in events
 
 -- whether an event that was made ends a call, and whether with another answer than Busy
 abbrev pub ends_of : Result (World × Outcome) NotEnabled → ℕ
@@ -74,13 +84,14 @@ most_steps shape threads past =
     threads * (round_steps shape * (5 * threads + 3))
     + most_moves shape past * (threads * (round_steps shape * (4 * threads + 3)) + 1)
 
--- Where no call ends, few steps are made, whatever the turns of the calls
+-- Where no call ends, few steps are made, whatever the turns of the calls. Where the ends are sealed meanwhile, as many
+-- may be made again
 abbrev pub SomeCallEnds : Shape → ℕ → Type 0
 SomeCallEnds shape threads = (events stretch : List Event) (here there : World)
     → after shape threads events ≡ Some here
     → run shape (Some here) stretch ≡ Some there
     → calls_ended shape (Some here) stretch ≡ 0
-    → call_steps stretch ≤ most_steps shape threads threads
+    → call_steps stretch ≤ (seals_in stretch + 1) * most_steps shape threads threads
 
 -- Turns that no call loses before some call answers, and the steps until then. A call loses at most one round for each
 -- word that changes, and one more, until a call ends; and each thread may have one call that ends with Busy, as it began
@@ -99,19 +110,22 @@ steps_to_answer shape threads =
     if is_wide shape threads then most_steps shape threads (2 * threads)
     else (threads + 1) * (most_steps shape threads threads + 1)
 
--- Where calls begin with enough turns, and none ends with another answer than Busy, few steps are made
+-- Where calls begin with enough turns, and none ends with another answer than Busy, few steps are made; where the ends
+-- are sealed meanwhile, as many again
 abbrev pub SomeCallAnswers : Shape → ℕ → Type 0
 SomeCallAnswers shape threads = (events stretch : List Event) (here there : World)
     → after shape threads events ≡ Some here
     → run shape (Some here) stretch ≡ Some there
     → AllHaveTurns (turns_for_progress shape threads) stretch
     → calls_answered shape (Some here) stretch ≡ 0
-    → call_steps stretch ≤ steps_to_answer shape threads
+    → call_steps stretch ≤ (seals_in stretch + 1) * steps_to_answer shape threads
 
 -- Busy means progress: where each call that begins between the first and the last event of a call has enough turns, the
--- call itself included, it ends with Busy only if another call ended with another answer in between
+-- call itself included, it ends with Busy only if another call ended with another answer in between, or the ends were
+-- sealed
 abbrev pub BusyMeansProgress : Shape → ℕ → Type 0
 BusyMeansProgress shape threads = (thread : ℕ) (call : Begin) (old new : List Event)
     (whole : CompleteExecution shape threads thread call Busy old new)
     → AllHaveTurns (turns_for_progress shape threads) (whole.between ++ whole.last ∷ [])
     → 0 < calls_answered shape (after shape threads old) (whole.between ++ whole.last ∷ [])
+    + seals_in (whole.between ++ whole.last ∷ [])

@@ -34,6 +34,7 @@ less_shifted : (by most : ℕ) (call : Begin) → by ≤ most → item_of (shift
 less_shifted by most (B.Enqueue item start turns) le less = omega (arith, le, less)
 less_shifted by most (B.Dequeue start turns) le less = less
 less_shifted by most B.Tick le less = less
+less_shifted by most B.Seal le less = less
 
 pub fits_before : (step n count : ℕ) (script : List Begin) → n < count → FitsTo ((count - 1) * step) script → FitsTo (n * step) script
 fits_before step n count script less fits =
@@ -48,6 +49,7 @@ call_shifted : (shape : Shape) (by : ℕ) (call : Begin) → IsCall shape call �
 call_shifted shape by (B.Enqueue item start turns) is less = (let h = is.0 in omega (arith, h), less, is.2, is.3)
 call_shifted shape by (B.Dequeue start turns) is less = is
 call_shifted shape by B.Tick is less = is
+call_shifted shape by B.Seal is less = is
 
 all_shifted : (shape : Shape) (by : ℕ) (script : List Begin) → All (IsCall shape) script → FitsTo by script
     → All (IsCall shape) (map (shifted by) script)

@@ -19,6 +19,7 @@ abbrev pub shifted : ℕ → Begin → Begin
 shifted by (B.Enqueue item start turns) = B.Enqueue (item + by) start turns
 shifted by (B.Dequeue start turns) = B.Dequeue start turns
 shifted by B.Tick = B.Tick
+shifted by B.Seal = B.Seal
 
 -- the script made so many times over, its items greater by one step more each time
 abbrev pub repeated : ℕ → ℕ → List Begin → List Begin

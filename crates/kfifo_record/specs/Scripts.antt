@@ -13,11 +13,13 @@ use Rattle.kfifo_live.specs.Schedule.{stamped_opening}
 use Rattle.kfifo_live.specs.Pass.{IsPassOf, IsSamePass, OpenQueue, new_passes}
 use Rattle.kfifo_live.specs.Stamps.{Gathers, Logged, MakesStamped, calls_by, new_logs}
 
--- a call with its start below k, at least one round, and an item from 1 to 2^24 - 1. A tick is none
+-- a call with its start below k, at least one round, and an item from 1 to 2^24 - 1. A tick and a
+-- seal are none
 abbrev pub IsCall : Shape → Begin → Type 0
 IsCall shape (B.Enqueue item start turns) = (1 ≤ item) × (item < VALUES) × (start < shape.k) × (1 ≤ turns)
 IsCall shape (B.Dequeue start turns) = (start < shape.k) × (1 ≤ turns)
 IsCall shape B.Tick = ⊥
+IsCall shape B.Seal = ⊥
 
 -- the calls of each script
 abbrev pub scripts_in : {A : Type 0} → List (Vec Begin A) → List (List Begin)

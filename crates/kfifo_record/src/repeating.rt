@@ -73,7 +73,7 @@ fn item_of(call: Begin) -> u32
 {
     match call {
         Begin::Enqueue { item, .. } => item,
-        Begin::Dequeue { .. } | Begin::Tick => 0,
+        Begin::Dequeue { .. } | Begin::Tick | Begin::Seal => 0,
     }
 }
 
@@ -90,7 +90,7 @@ fn is_small(call: Begin, by: u64) -> bool
 {
     match call {
         Begin::Enqueue { item, .. } => u64::from(item).saturating_add(by) <= u64::from(MAX_ITEM),
-        Begin::Dequeue { .. } | Begin::Tick => true,
+        Begin::Dequeue { .. } | Begin::Tick | Begin::Seal => true,
     }
 }
 

@@ -152,6 +152,6 @@ fn make(queue: &StampQueue, pass: &mut StampPass, begin: Begin)
         Begin::Dequeue { start, turns } => {
             pass.dequeue(queue, start, turns);
         }
-        Begin::Tick => unreachable!(),
+        Begin::Tick | Begin::Seal => unreachable!(),
     }
 }

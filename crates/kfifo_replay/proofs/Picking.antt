@@ -12,7 +12,7 @@ use Rattle.kfifo_machine.specs.Machine.{World, place_of, found, opening, outcome
 use Rattle.kfifo_machine.specs.Runs.{event, going}
 use Rattle.kfifo_machine.specs.Laws.{counted}
 use Rattle.kfifo_machine.specs.Calls.{Log, logged, log_of}
-use Rattle.kfifo_machine.proofs.Schedules.{Some-injective, StepsFrom, Ticks, stepped}
+use Rattle.kfifo_machine.proofs.Schedules.{Some-injective, StepsFrom, Outside, stepped}
 use Rattle.kfifo_machine.proofs.Calls.{log_thread, log_call}
 use Rattle.kfifo_linear.specs.Notes.{begins_call}
 use Rattle.kfifo_linear.specs.Following.{Follower, Follows}
@@ -86,16 +86,16 @@ module _ (shape : Shape) (scripts : List (List Begin)) (picks : List ℕ) (p : P
       ap (λ (x : Shape). step x p.follower.world e) s.follower_shape ∙ makes_event.made,
     )
 
-    never_ticks : e.begin ≡ Some B.Tick → ⊥
-    never_ticks ticks =
+    begins_call_only : (begin : Begin) → e.begin ≡ Some begin → IsCall shape begin
+    begins_call_only begin at =
         elim (how_made thread (place_of p.follower.world thread) (next_call scripts thread s.events) e (sym (sees_is thread) ∙ picks_e)) [
           | inl on ↦
               let none : e.begin ≡ None = ap (λ (x : Event). x.begin) on.is in
-              let h : None ≡ Some B.Tick = sym none ∙ ticks in
+              let h : None ≡ Some begin = sym none ∙ at in
               absurd (cc)
           | inr begins ↦
               let some : e.begin ≡ Some begins.call = ap (λ (x : Event). x.begin) begins.is in
-              subst (IsCall shape) (Some-injective begins.call B.Tick (sym some ∙ ticks))
+              subst (IsCall shape) (Some-injective begins.call begin (sym some ∙ at))
               (next_is_call shape scripts thread s.events begins.call s.are_scripts begins.next_is)
         ]
 
@@ -103,7 +103,10 @@ module _ (shape : Shape) (scripts : List (List Begin)) (picks : List ℕ) (p : P
     goes =
         elim (stepped p.follower.shape p.follower.world e enabled.0 enabled.1 enabled.2) [
           | inl from ↦ (from.running, from.goes)
-          | inr ticks ↦ absurd (never_ticks ticks.begins)
+          | inr outside ↦ absurd (elim outside.by [
+            | inl t ↦ begins_call_only B.Tick t.begins
+            | inr z ↦ begins_call_only B.Seal z.begins
+          ])
         ]
 
     pub room_for_call : begins_call e.begin ≡ true → p.follower.notes.begun < length p.follower.notes.calls
@@ -175,17 +178,11 @@ module _ (shape : Shape) (scripts : List (List Begin)) (picks : List ℕ) (p : P
 
       came_to : (r : Running) → going shape (place_of p.follower.world e.thread) e.begin ≡ Some r
           → StepsFrom shape p.follower.world e.thread (place_of p.follower.world e.thread) e.begin there outcome
-          ⊎ Ticks shape p.follower.world (place_of p.follower.world e.thread) e.begin there outcome
+          ⊎ Outside shape p.follower.world (place_of p.follower.world e.thread) e.begin there outcome
           → outcome ≡ outcome_of (advance shape r (found shape p.follower.world r))
       came_to r goes (inl t) = subst (λ (q : Running). outcome ≡ outcome_of (advance shape q (found shape p.follower.world q)))
           (Some-injective t.running r (sym t.goes ∙ goes)) t.outcome_is
-      came_to r goes (inr t) = absurd (no_tick (place_of p.follower.world e.thread) t.idle t.begins goes)
-        where
-          no_tick : (place : Option Running) → place ≡ None → e.begin ≡ Some B.Tick → going shape place e.begin ≡ Some r → ⊥
-          no_tick place idle begins at =
-              let h : going shape None (Some B.Tick) ≡ Some r =
-              ap (λ (b : Option Begin). going shape None b) (sym begins) ∙ ap (λ (q : Option Running). going shape q e.begin) (sym idle)
-              ∙ at in cc
+      came_to r goes (inr t) = absurd (let h : None ≡ Some r = sym t.begins_none ∙ goes in cc)
 
       -- it is a won undo where its thread's place says so
       rollbacks_then : p.rollbacks + cond (takes_back (is_undoing (place_of p.follower.world thread)) outcome) 1 0

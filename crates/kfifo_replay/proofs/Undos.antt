@@ -120,3 +120,8 @@ first_no_undo shape world B.Tick = none (may_begin shape B.Tick)
     none : (may : Bool) → counted shape undoes world (cond may None None) ≡ 0
     none true = refl
     none false = refl
+first_no_undo shape world B.Seal = none (may_begin shape B.Seal)
+  where
+    none : (may : Bool) → counted shape undoes world (cond may None None) ≡ 0
+    none true = refl
+    none false = refl

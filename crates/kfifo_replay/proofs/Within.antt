@@ -50,6 +50,7 @@ few_calls_events shape (B.Dequeue start turns) is = few shape turns (omega (arit
         let first : turns * (2 * shape.k + 9) ≤ 65536 * (2 * shape.k + 9) = mul-le-mul_right (2 * shape.k + 9) low in
         omega (arith, first, slots)
 few_calls_events shape B.Tick is = absurd is
+few_calls_events shape B.Seal is = absurd is
 
 -- a call of a script may begin
 call_begins : (shape : Shape) (call : Begin) → IsCall shape call → (running : Running) × (going shape None (Some call) ≡ Some running)
@@ -62,11 +63,13 @@ call_begins shape (B.Dequeue start turns) is =
     let first : Running = R.Dequeue start turns D.LoadEnds in
     (first, ap (λ b. cond b (Some first) None) may)
 call_begins shape B.Tick is = absurd is
+call_begins shape B.Seal is = absurd is
 
 begins_a_call : (shape : Shape) (call : Begin) → IsCall shape call → begins_call (Some call) ≡ true
 begins_a_call shape (B.Enqueue item start turns) is = refl
 begins_a_call shape (B.Dequeue start turns) is = refl
 begins_a_call shape B.Tick is = absurd is
+begins_a_call shape B.Seal is = absurd is
 
 -- how many calls of its script a thread has not begun, and how many events it may still have
 abbrev pub left_calls : List (List Begin) → List Event → ℕ → ℕ
@@ -125,6 +128,7 @@ length-logged : (place thread : ℕ) (begin : Option Begin) (outcome : Outcome) 
 length-logged place thread (Some (B.Enqueue item start turns)) outcome log = length-append log.calls _
 length-logged place thread (Some (B.Dequeue start turns)) outcome log = length-append log.calls _
 length-logged place thread (Some B.Tick) outcome log = let z : length log.calls ≡ length log.calls + 0 = omega arith in z
+length-logged place thread (Some B.Seal) outcome log = let z : length log.calls ≡ length log.calls + 0 = omega arith in z
 length-logged place thread None Went log = let z : length log.calls ≡ length log.calls + 0 = omega arith in z
 length-logged place thread None (Ended answer) log =
     let z : length log.calls ≡ length log.calls + 0 = omega arith in

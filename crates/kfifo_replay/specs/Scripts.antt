@@ -7,12 +7,14 @@ use Rattle.kfifo_words.specs.declared.word.TheConstants.{VALUES}
 use Rattle.kfifo_machine.specs.declared.event.Begin.{Begin}
 use Rattle.kfifo_machine.specs.declared.event.Begin.TheVariants as B
 
--- a call with its start below k, 1 to 65,535 rounds, and an item from 1 to 2^24 - 1. A tick is none
+-- a call with its start below k, 1 to 65,535 rounds, and an item from 1 to 2^24 - 1. A tick and a
+-- seal are none
 abbrev pub IsCall : Shape → Begin → Type 0
 IsCall shape (B.Enqueue item start turns) = (start < shape.k) × (0 < turns) × (turns < 2 ^ 16) × (0 < item)
     × (item < VALUES)
 IsCall shape (B.Dequeue start turns) = (start < shape.k) × (0 < turns) × (turns < 2 ^ 16)
 IsCall shape B.Tick = ⊥
+IsCall shape B.Seal = ⊥
 
 -- one script of at most 64 calls
 pub record IsScript (shape : Shape) (script : List Begin) : Type 0 where

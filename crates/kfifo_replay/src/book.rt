@@ -91,7 +91,7 @@ impl Book {
                 Op::Enqueue(item),
             ),
             (Some(Begin::Dequeue { .. }), _) => self.begin(place, event.thread, Op::Dequeue),
-            (Some(Begin::Tick), _) | (None, Outcome::Went) => {}
+            (Some(Begin::Tick | Begin::Seal), _) | (None, Outcome::Went) => {}
             (None, Outcome::Ended(answer)) => self.end(place, event.thread, answer),
         }
     }

@@ -15,7 +15,7 @@ pub enum ReplayFault {
     /// 2: an allocation failed.
     #[error("out of memory")]
     Memory,
-    /// 3: there is no script, or there are over 64; a script has over 64 calls, a tick, or a call out of
+    /// 3: there is no script, or there are over 64; a script has over 64 calls, a tick or a seal, or a call out of
     /// range: its start has to be below k, its turns at least 1, its item 1 to 2^24 - 1. Or no script
     /// has the number of the thread that is to be stopped.
     #[error("the scripts are not 1 to 64 of up to 64 calls in range, or the stopped thread has none")]

@@ -79,7 +79,7 @@ impl Model for Replay {
 }
 
 /// Whether a call is in range: its start below k, 1 to 65,535 rounds, an item from 1 to 2^24 - 1. A
-/// tick is none.
+/// tick and a seal are none.
 fn is_call(shape: &Shape, call: Begin) -> bool
     ensures { IsTrue result ↔ IsCall shape.now call }
 {
@@ -88,7 +88,7 @@ fn is_call(shape: &Shape, call: Begin) -> bool
             start < shape.k() && 0 < turns && 0 < item && item <= MAX_ITEM
         }
         Begin::Dequeue { start, turns } => start < shape.k() && 0 < turns,
-        Begin::Tick => false,
+        Begin::Tick | Begin::Seal => false,
     }
 }
 
@@ -169,7 +169,7 @@ impl Replay {
     /// ```
     ///
     /// `alloc`, the runtime's allocator, makes all the room. Refuses: BadScript where there is no script, or there are
-    /// over 64, or one has over 64 calls, a tick, or a call out of range; then Memory where an allocation failed.
+    /// over 64, or one has over 64 calls, a tick or a seal, or a call out of range; then Memory where an allocation failed.
     pub fn open(alloc: Global, shape: Shape, scripts: &[Vec<Begin>]) -> Result<Replay, ReplayFault>
         ensures opened { IfOk result (λ r. StandsFor shape (map (λ script. script.items) scripts.now) [] r) }
         ensures refused { (result ≡ Err ReplayFault.BadScript)

@@ -36,7 +36,7 @@ pub struct Step {
     pub outcome: Outcome,
 }
 
-/// The place from which a call makes its first step. A tick has none.
+/// The place from which a call makes its first step. A tick and a seal have none.
 fn first_place(begin: Begin) -> Option<Running>
     ensures { result ≡ begun begin }
 {
@@ -52,7 +52,7 @@ fn first_place(begin: Begin) -> Option<Running>
             left: turns,
             phase: DequeuePhase::LoadEnds,
         }),
-        Begin::Tick => None,
+        Begin::Tick | Begin::Seal => None,
     }
 }
 
@@ -146,7 +146,7 @@ fn keep(
     }
 }
 
-/// Makes an event that is enabled and no tick, and keeps what it did where the trace is not full.
+/// Makes an event that is enabled and neither a tick nor a seal, and keeps what it did where the trace is not full.
 pub(crate) fn make(
     linearizer: &mut Linearizer,
     trace: &mut Trace,

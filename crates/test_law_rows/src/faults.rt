@@ -25,6 +25,7 @@ fn add_events(alloc: Global, lines: &mut Vec<String>) -> Result<(), AllocError> 
         NotEnabled::InCall,
         NotEnabled::BadCall,
         NotEnabled::ClockSpent,
+        NotEnabled::NotSealable,
     ];
     for fault in faults {
         add(alloc, fault.number(), fault, lines)?;

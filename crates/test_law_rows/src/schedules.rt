@@ -30,6 +30,7 @@ pub fn begin_of(call: &[Value]) -> Option<Begin> {
             start: small(start),
             turns: u16::try_from(small(turns)).unwrap_or(0),
         }),
+        [seal] if seal.as_str() == Some("seal") => Some(Begin::Seal),
         [_tick] => Some(Begin::Tick),
         _ => None,
     }

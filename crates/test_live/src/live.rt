@@ -11,6 +11,7 @@ use kfifo_model::{Answer, MAX_ITEM};
 mod handles;
 mod payloads;
 mod pool;
+mod seals;
 pub(crate) mod stamps;
 mod steps;
 mod threads;
@@ -44,7 +45,7 @@ fn call(queue: &Queue, pass: &mut Pass, begin: Begin) -> Option<Answer>
                 None
             }
         }
-        Begin::Tick => None,
+        Begin::Tick | Begin::Seal => None,
     }
 }
 

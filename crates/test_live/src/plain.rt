@@ -6,7 +6,7 @@ ghost use Rattle.kfifo_live.specs.Pass.{IsPassOf, IsSamePass};
 use kfifo_dispatch::{DispatchFault, Finished, Task};
 use kfifo_live::{
     CloseFault, GatherFault, Given, OpenFault, Pass, PayHandle, PayPass, PayQueue, Queue,
-    StampPass, StampQueue, Taken,
+    Sealing, StampPass, StampQueue, Taken,
 };
 use kfifo_model::{Answer, History, MeasureFault, Overtaken, SearchFault};
 use kfifo_words::Shape;
@@ -48,6 +48,15 @@ pub fn dequeue(queue: &Queue, pass: &mut Pass, start: u32, turns: u16) -> Answer
     ensures { IsSamePass pass.old pass.new }
 {
     pass.dequeue(queue, start, turns)
+}
+
+pub fn seal(queue: &Queue, pass: &mut Pass, start: u32, turns: u16) -> Sealing
+    requires of { IsPassOf queue.now pass.old }
+    requires start { start < queue.now.opened.shape.k }
+    requires turns { 1 ≤ turns }
+    ensures { IsSamePass pass.old pass.new }
+{
+    pass.seal(queue, start, turns)
 }
 
 pub fn close(alloc: Global, queue: Queue, passes: Vec<Pass>) -> Result<Vec<u32>, CloseFault>

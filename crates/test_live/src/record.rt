@@ -42,7 +42,7 @@ fn is_call(shape: &Shape, call: Begin) -> bool
             0 < item && item <= MAX_ITEM && start < shape.k() && 0 < turns
         }
         Begin::Dequeue { start, turns } => start < shape.k() && 0 < turns,
-        Begin::Tick => false,
+        Begin::Tick | Begin::Seal => false,
     }
 }
 

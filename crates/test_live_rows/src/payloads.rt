@@ -78,7 +78,7 @@ fn call_text(
         Begin::Dequeue { start, turns } => {
             taken_text(alloc, plain::take(queue, pass, start, turns))
         }
-        Begin::Tick => "no call".to_string(alloc),
+        Begin::Tick | Begin::Seal => "no call".to_string(alloc),
     }
 }
 

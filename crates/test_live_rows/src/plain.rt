@@ -40,7 +40,7 @@ pub fn call(queue: &Queue, pass: &mut Pass, begin: Begin) -> Option<Answer>
                 None
             }
         }
-        Begin::Tick => None,
+        Begin::Tick | Begin::Seal => None,
     }
 }
 
@@ -104,7 +104,7 @@ pub fn call_stamped(queue: &StampQueue, pass: &mut StampPass, begin: Begin) -> O
                 None
             }
         }
-        Begin::Tick => None,
+        Begin::Tick | Begin::Seal => None,
     }
 }
 

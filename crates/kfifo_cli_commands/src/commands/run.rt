@@ -95,7 +95,7 @@ fn make_call(
             let answer = pass.dequeue(queue, start, turns);
             push_dequeue(text, answer)
         }
-        Begin::Tick => unreachable!(),
+        Begin::Tick | Begin::Seal => unreachable!(),
     }
 }
 
