@@ -11,10 +11,12 @@
 
 namespace scale {
 
-// The sizes of a queue, and what can be varied: the word of the first slot, and the stride of starts, if it is set.
+// The sizes of a queue, and what can be varied: the word of the first slot, the stride of starts, if it is set, the
+// slots that an enqueue looks at, and the cycles that a call waits after a lost round.
 struct Shape {
     Word k, segments, turns = 65535, first_slot = 1;
     int stride = -1;
+    Word probes = 64, wait = 0;
 };
 
 class Kfifo {
@@ -32,14 +34,20 @@ class Kfifo {
     Task<bool> put(Core core, Word item) {
         Call call{core, "enqueue", item, next_start(starts[core.number]), shape.turns};
         Answer answer = Answer::none;
-        for (; answer == Answer::none && call.left > 0; call.left--) answer = co_await enqueue_round(call);
+        for (; answer == Answer::none && call.left > 0; call.left--) {
+            answer = co_await enqueue_round(call);
+            if (answer == Answer::none) co_await core.pass(shape.wait);
+        }
         co_return end(call, answer) == Answer::done;
     }
 
     Task<bool> get(Core core) {
         Call call{core, "dequeue", 0, next_start(takes[core.number]), shape.turns};
         Answer answer = Answer::none;
-        for (; answer == Answer::none && call.left > 0; call.left--) answer = co_await dequeue_round(call);
+        for (; answer == Answer::none && call.left > 0; call.left--) {
+            answer = co_await dequeue_round(call);
+            if (answer == Answer::none) co_await core.pass(shape.wait);
+        }
         co_return end(call, answer) == Answer::got;
     }
 
@@ -141,7 +149,8 @@ class Kfifo {
 
     // Loads the slots of a segment up to the first filled one, or the first empty one.
     Task<Found> scan(const Call &call, const char *place, Word segment, Word start, bool filled) {
-        for (Word offset = 0; offset < shape.k; offset++) {
+        const Word most = filled ? shape.k : std::min(shape.k, shape.probes);
+        for (Word offset = 0; offset < most; offset++) {
             const std::size_t index = shape.first_slot + segment * shape.k + (start + offset) % shape.k;
             const Word word = co_await load(call, place, index);
             if (((word & ITEM) != 0) == filled) co_return {true, index, word};

@@ -9,11 +9,13 @@ It needs a compiler for C++20, and for the picture python3-matplotlib. The same 
 """
 import argparse
 import json
+import math
 import os
 import re
 import statistics
 import subprocess
 import sys
+import textwrap
 from pathlib import Path
 
 HERE = Path(__file__).resolve().parent
@@ -58,41 +60,55 @@ def build():
     subprocess.run([os.environ.get("CXX", "g++"), *options, HERE / "scale.cpp", "-o", PROGRAM], check=True)
 
 
-def simulated(name, k, threads, work, **settings):
+def simulated(name, k, threads, work, **costs):
     """Returns the rate in million calls a second, and the transfers a call: medians of runs with other seeds."""
     # Threads that find nothing make many steps in little time.
     microseconds = 2000 if sum(threads) <= 4 else 500 if sum(threads) <= 16 else 250
     runs = []
     for seed in range(1, SEEDS + 1):
         words = ["rate", name, max(k, 1), CAPACITY, *threads, work, microseconds, f"seed={seed}"]
-        words += [f"{key}={value}" for key, value in settings.items()]
+        words += [f"{key}={value}" for key, value in costs.items()]
         ran = subprocess.run([PROGRAM, *map(str, words)], check=True, capture_output=True, text=True, timeout=120)
         runs.append([float(word) for word in ran.stdout.split()])
     return [round(statistics.median(run[place] for run in runs), 2) for place in (0, 1)]
 
 
 def loads():
-    """Returns each load with its number of threads; two threads that put and take are one load, not three."""
-    every = [(load, n) for load in LOADS for n in THREADS if load == "alternating" or n > 1]
-    return [(load, n) for load, n in every if n != 2 or load in ("alternating", "1 + n-1")]
+    """Returns each load with its numbers of threads. One that puts and one that takes stand under `1 + n-1` alone."""
+    every = [(load, n) for load in LOADS for n in THREADS]
+    return [(load, n) for load, n in every if n > 2 or load == "alternating" or (load, n) == ("1 + n-1", 2)]
 
 
-def row_of(queue, load, n, work):
+def row_of(queue, load, n, work, **costs):
     """Simulates a row of the table."""
-    rate, transfers = simulated(*queue, LOADS[load](n), work)
+    rate, transfers = simulated(*queue, LOADS[load](n), work, **costs)
     row = {"queue": queue[0], "k": queue[1], "load": load, "threads": n, "work": work}
     return row | {"rate": rate, "transfers": transfers}
+
+
+FITTED = [200, 250, 300, 350]  # transfers of which the one that comes nearest to what is measured is taken
+# Other costs than those of machine.hpp, for 64 alternating threads.
+CHANGES = [{}, {"transfer": 150}, {"transfer": 600}, {"shared": 0}, {"shared": 150}, {"shared": 300}, {"update": 36}]
+
+
+def changed(queue, costs):
+    """Simulates 64 alternating threads with other costs."""
+    rate = simulated(*queue, LOADS["alternating"](64), 0, **costs)[0]
+    return {"queue": queue[0], "k": queue[1], "costs": costs, "rate": rate}
 
 
 class Table:
     """The rows of docs/bench/scale.json, found by queue, load, threads and work."""
 
-    def __init__(self, rows):
+    def __init__(self, rows, changes=(), fits=()):
+        self.fits = {row["transfer"]: row["factor"] for row in fits}
+        self.changes = {(row["queue"], row["k"], *row["costs"].items()): row["rate"] for row in changes}
         self.rows = {(row["queue"], row["k"], row["load"], row["threads"], row["work"]): row for row in rows}
 
     @staticmethod
     def load():
-        return Table(json.loads(TABLE.read_text())["rows"])
+        read = json.loads(TABLE.read_text())
+        return Table(read["rows"], read["changed"], read["fitted"])
 
     def rate(self, queue, load, n, work=0):
         return self.rows[(*queue, load, n, work)]["rate"]
@@ -125,26 +141,81 @@ def rates_grid(table, load, work):
 
 
 def compared(table):
-    """Returns how far the simulation is from what was measured: the simulated rate by the measured one."""
+    """Returns how far the simulation is from what was measured: the simulated rate by the measured one, for each
+    queue of a title."""
     queues = [(queue, label(*queue)) for queue in QUEUES[:4]]
     queues += [(("ring", 0), "libcds Vyukov ring"), (("ring", 0), "ArrayQueue")]
-    found, rows = measured(), []
+    found, ratios = measured(), {}
     for work in WORK:
         for title, (load, n) in COMPARED.items():
             rates = found[f"{title}, capacity 1,024" + ", 100 ns of work between calls" * bool(work)]
-            ratios = [f"{table.rate(queue, load, n, work) / rates[name]:.2f}" for queue, name in queues]
-            rows.append([title + ", with work" * bool(work), *ratios])
-    return grid(["Simulated rate by the measured one", *(name for _, name in queues)], rows)
+            title += ", with work" * bool(work)
+            ratios[title] = {name: table.rate(queue, load, n, work) / rates[name] for queue, name in queues}
+    return ratios
+
+
+def fit(transfer):
+    """Returns by which factor a simulated rate is wrong with this transfer, in the geometric mean."""
+    loads_ = dict.fromkeys(COMPARED.values())
+    rows = [row_of(queue, *load, work, transfer=transfer) for work in WORK for load in loads_ for queue in QUEUES[:5]]
+    ratios = [ratio for its in compared(Table(rows)).values() for ratio in its.values()]
+    factor = math.exp(statistics.mean(abs(math.log(ratio)) for ratio in ratios))
+    return {"transfer": transfer, "factor": round(factor, 2)}
+
+
+def compared_grid(ratios):
+    rows = [[title, *(f"{ratio:.2f}" for ratio in its.values())] for title, its in ratios.items()]
+    return grid(["Simulated by measured rate", *next(iter(ratios.values()))], rows)
+
+
+def changes_grid(table):
+    """Returns the rates of 64 alternating threads with other costs."""
+    def name(costs):
+        return ", ".join(f"{key} {value}" for key, value in costs.items()) or "as above"
+
+    rows = [[name(costs), *(f"{table.changes[(*queue, *costs.items())]:.1f}" for queue in QUEUES)] for costs in CHANGES]
+    return grid(["Cycles", *(label(*queue) for queue in QUEUES)], rows)
+
+
+def span(ratios, title):
+    """Returns the least and the greatest ratio of this repository's queue in rows whose title has these words."""
+    its = [ratio for row, by_name in ratios.items() if title in row
+           for name, ratio in by_name.items() if name.startswith("kfifo")]
+    return f"{min(its):.2f} to {max(its):.2f}"
+
+
+def cost(name):
+    """Returns a cost of machine.hpp."""
+    return re.search(rf"\b{name} = (\d+);", (HERE / "machine.hpp").read_text())[1]
+
+
+def queue_of(word):
+    """Returns the queue that `kfifo-64` or `ring` stands for."""
+    name, _, k = word.rpartition("-")
+    return (name, int(k)) if k.isdigit() else (word, 0)
+
+
+def across(table, queue, other):
+    """Returns the least and the greatest ratio of two queues with other costs."""
+    its = [table.changes[(*queue, *costs.items())] / table.changes[(*other, *costs.items())] for costs in CHANGES]
+    return f"{min(its):.1f} to {max(its):.1f}"
 
 
 def figure(table, words):
-    """Returns a figure of the text: `rate kfifo-64 alternating 64`, `transfers ..` alike, or
-    `ratio kfifo-64 ring alternating 64`; a load has no blanks, and `work` behind it means with work."""
+    """Returns a figure of the text: `cost hit`, `fit 300`, `span alternating`, `across kfifo-64 ring`, `rate kfifo-64 alternating 64`,
+    `transfers ..` alike, `ratio kfifo-64 ring alternating 64`. A load has no blanks; `work` at the end: with work."""
     kind, *words = words.split()
+    if kind == "cost":
+        return cost(words[0])
+    if kind == "fit":
+        return f"{table.fits[int(words[0])]:.2f}"
+    if kind == "span":
+        return span(compared(table), " ".join(words))
+    if kind == "across":
+        return across(table, *map(queue_of, words))
     work = WORK[1] if words[-1] == "work" else 0
     words = words[:-1] if work else words
-    queues = [(word.rpartition("-")[0], int(word.rpartition("-")[2])) if word[-1].isdigit() else (word, 0)
-              for word in words[:-2]]
+    queues = [queue_of(word) for word in words[:-2]]
     load = next(it for it in LOADS if it.replace(" ", "") == words[-2])
     values = [(table.transfers if kind == "transfers" else table.rate)(queue, load, int(words[-1]), work)
               for queue in queues]
@@ -154,12 +225,20 @@ def figure(table, words):
 
 def section(table):
     """Returns the section of the page."""
-    parts = {"compared": compared(table)}
+    parts = {"compared": compared_grid(compared(table)), "changed": changes_grid(table)}
     for load in LOADS:
         for work in WORK:
             parts[f"rates {load}" + " with work" * bool(work)] = rates_grid(table, load, work)
     text = (HERE / "section.md").read_text()
-    return re.sub(r"\{([^}]+)\}", lambda it: parts[it[1]] if it[1] in parts else figure(table, it[1]), text)
+    text = re.sub(r"\{([^}]+)\}", lambda it: parts[it[1]] if it[1] in parts else figure(table, it[1]), text)
+    return "\n\n".join(wrapped(part) for part in text.split("\n\n"))
+
+
+def wrapped(part):
+    """Returns a part of a page, whose lines have at most 120 columns if it is a paragraph."""
+    if re.match(r"[|#!]", part):
+        return part
+    return textwrap.fill(part.replace("\n", " "), 120, break_long_words=False, break_on_hyphens=False)
 
 
 def page_with(text, part):
@@ -168,39 +247,56 @@ def page_with(text, part):
     return text[:begin] + part.rstrip("\n") + "\n" + text[text.index("\n## ", begin):]
 
 
+def dots(found, queue, load, work):
+    """Returns what was measured of a queue at a load: numbers of threads and rates."""
+    name = "libcds Vyukov ring" if queue[0] == "ring" else label(*queue)
+    behind = ", capacity 1,024" + ", 100 ns of work between calls" * bool(work)
+    of_load = [(title, n) for title, (its, n) in COMPARED.items() if its == load]
+    # Eight threads on four processors are no measure of eight cores.
+    rates = [(n, found[title + behind].get(name)) for title, n in of_load if not title.startswith("8")]
+    return [(n, rate) for n, rate in rates if rate]
+
+
+def lines(axis, table, load, work):
+    """Draws the rates of a load: a line for each queue, and a dot where it was measured."""
+    looks = [("#b8d0ee", "-"), ("#8fb2dd", "-"), ("#5b8bc9", "-"), ("#1f4e8c", "-"), ("black", "--"), ("black", ":")]
+    found = measured()
+    for queue, (color, line) in zip(QUEUES, [*looks, ("#777777", "-.")]):
+        points = [(n, table.rate(queue, load, n, work)) for n in THREADS if (*queue, load, n, work) in table.rows]
+        axis.plot(*zip(*points), line, color=color, label=label(*queue), linewidth=1.8)
+        if measures := dots(found, queue, load, work):
+            axis.plot(*zip(*measures), "o", color=color, markersize=5, markeredgecolor="black", markeredgewidth=0.5)
+    axis.set_xscale("log", base=2)
+    axis.set_yscale("log")
+    axis.set_xticks(THREADS, [str(n) for n in THREADS], fontsize=8)
+    axis.set_yticks([1, 2, 5, 10, 20, 50], ["1", "2", "5", "10", "20", "50"], fontsize=8)
+    axis.minorticks_off()
+    axis.grid(linewidth=0.3)
+
+
 def draw(table):
-    """Draws the rates of each queue, with those that were measured."""
+    """Draws four loads."""
     from matplotlib import pyplot
 
+    # The same figures give the same file.
     pyplot.rcParams["svg.hashsalt"] = "kfifo"
-    panels = [("alternating", 0), ("alternating", WORK[1]), ("1 + n-1", 0), ("n/2 + n/2", 0)]
-    heads = ["alternating threads", "alternating threads, 100 ns of work", "1 producer, n - 1 consumers",
-             "n/2 producers, n/2 consumers"]
-    figure_, axes = pyplot.subplots(2, 2, figsize=(9, 7), layout="constrained", sharex=True)
-    looks = [("#b8d0ee", "-"), ("#8fb2dd", "-"), ("#5b8bc9", "-"), ("#1f4e8c", "-"), ("black", "--"), ("black", ":"),
-             ("#777777", "-.")]
-    found = measured()
-    for axis, (load, work), head in zip(axes.flat, panels, heads):
-        for queue, (color, line) in zip(QUEUES, looks):
-            points = [(n, table.rate(queue, load, n, work)) for n in THREADS if (*queue, load, n, work) in table.rows]
-            axis.plot(*zip(*points), line, color=color, label=label(*queue), linewidth=1.8)
-            name = "libcds Vyukov ring" if queue[0] == "ring" else label(*queue)
-            marks = [(n, found[f"{title}, capacity 1,024" + ", 100 ns of work between calls" * bool(work)].get(name))
-                     for title, (its, n) in COMPARED.items() if title[0] != "8" and (its == load or n <= 2)
-                     and (its == load or load != "alternating") and (*queue, load, n, work) in table.rows]
-            marks = [mark for mark in marks if mark[1]]
-            if marks:
-                axis.plot(*zip(*marks), "o", color=color, markersize=5, markeredgecolor="black", markeredgewidth=0.5)
-        axis.set_xscale("log", base=2)
-        axis.set_yscale("log")
-        axis.set_xticks(THREADS, [str(n) for n in THREADS], fontsize=8)
-        axis.set_yticks([1, 2, 5, 10, 20, 50], ["1", "2", "5", "10", "20", "50"], fontsize=8)
+    drawn, axes = pyplot.subplots(2, 2, figsize=(9, 7), layout="constrained", sharex=True)
+    heads = ["alternating", "alternating, with work", "1 producer, n - 1 consumers", "n/2 producers, n/2 consumers"]
+    for axis, head, load, work in zip(axes.flat, heads, [*LOADS][:1] + [*LOADS][:3], [0, WORK[1], 0, 0]):
+        lines(axis, table, load, work)
         axis.set_title(head, fontsize=9)
-        axis.grid(linewidth=0.3)
-    figure_.supxlabel("threads, each on a core of its own", fontsize=8)
-    figure_.supylabel("million calls a second: lines are simulated, dots measured", fontsize=8)
-    figure_.legend(*axes.flat[0].get_legend_handles_labels(), fontsize=8, ncols=4, loc="outside lower center")
-    figure_.savefig(PICTURE, metadata={"Date": None})
+    drawn.supxlabel("threads, each on a core of its own", fontsize=8)
+    drawn.supylabel("million calls a second: lines are simulated, dots measured", fontsize=8)
+    shown = axes.flat[0].get_legend_handles_labels()
+    drawn.legend(*shown, fontsize=8, ncols=4, loc="upper center", bbox_to_anchor=(0.5, 0))
+    drawn.savefig(PICTURE, metadata={"Date": None}, bbox_inches="tight")
+
+
+def text_of(tables):
+    """Returns tables as JSON, with a row in each line."""
+    parts = [f' "{name}": [\n' + ",\n".join(f"  {json.dumps(row)}" for row in rows) + "\n ]"
+             for name, rows in tables.items()]
+    return "{\n" + ",\n".join(parts) + "\n}\n"
 
 
 def main():
@@ -209,8 +305,8 @@ def main():
     if not parser.parse_args().page:
         build()
         rows = [row_of(queue, *load, work) for work in WORK for load in loads() for queue in QUEUES]
-        lines = ",\n".join(f"  {json.dumps(row)}" for row in rows)
-        TABLE.write_text('{\n "rows": [\n' + lines + "\n ]\n}\n")
+        other = [changed(queue, costs) for costs in CHANGES for queue in QUEUES]
+        TABLE.write_text(text_of({"rows": rows, "changed": other, "fitted": [fit(transfer) for transfer in FITTED]}))
     table = Table.load()
     draw(table)
     PAGE.write_text(page_with(PAGE.read_text(), section(table)))

@@ -8,7 +8,7 @@
 // transfers of a cache line for each. QUEUE is kfifo, ring, tickets or per-producer. The second form
 // prints the scripts of the threads, as `kfifo replay` takes them, and a line for each step of this repository's
 // queue, as `kfifo replay --trace` prints it: each thread makes so many calls, the first one some more to fill the
-// queue. A cost of machine.hpp can be set by its name, and `first_slot`, `stride` and `seed`.
+// queue. A cost of machine.hpp can be set by its name, and `first_slot`, `stride`, `probes`, `wait` and `seed`.
 #include "kfifo.hpp"
 #include "queues.hpp"
 
@@ -90,6 +90,8 @@ void print_rate(Machine &machine, Queue &queue, const Threads &threads, Word ite
 Shape shape_of(Word k, Word segments, const Settings &settings) {
     Shape shape{k, segments};
     shape.first_slot = set_or(settings, "first_slot", shape.first_slot);
+    shape.probes = set_or(settings, "probes", shape.probes);
+    shape.wait = set_or(settings, "wait", shape.wait);
     shape.stride = static_cast<int>(set_or(settings, "stride", static_cast<Word>(shape.stride)));
     return shape;
 }
