@@ -1,0 +1,179 @@
+// How many calls a queue makes, and how often cache lines move for it, on cores that are simulated.
+//
+//     scale rate QUEUE K CAPACITY PRODUCERS CONSUMERS BOTH WORK MICROSECONDS [NAME=VALUE ..]
+//     scale steps K SEGMENTS PRODUCERS CONSUMERS BOTH WORK CALLS TURNS FILLED [NAME=VALUE ..]
+//
+// Of the threads some only put, some only take, and some do both in turn, with so many nanoseconds of work between two
+// calls. The first form begins half full, and prints the calls that put or took an item in a microsecond, and the
+// transfers of a cache line for each. QUEUE is kfifo, ring, tickets or per-producer. The second form
+// prints the scripts of the threads, as `kfifo replay` takes them, and a line for each step of this repository's
+// queue, as `kfifo replay --trace` prints it: each thread makes so many calls, the first one some more to fill the
+// queue. A cost of machine.hpp can be set by its name, and `first_slot`, `stride`, `probes`, `wait` and `seed`.
+#include "kfifo.hpp"
+#include "queues.hpp"
+
+#include <iostream>
+#include <map>
+#include <stdexcept>
+
+namespace {
+
+using namespace scale;
+
+constexpr double CYCLES_IN_NANOSECOND = 2.5;
+
+struct Threads {
+    int producers, consumers, both;
+    Cycles work;
+    int count() const { return producers + consumers + both; }
+    bool puts(int thread) const { return thread < producers || thread >= producers + consumers; }
+    bool takes(int thread) const { return thread >= producers; }
+};
+
+// What the words NAME=VALUE at the end of the command line set.
+using Settings = std::map<std::string, Word>;
+
+Word set_or(const Settings &settings, const std::string &name, Word otherwise) {
+    const auto found = settings.find(name);
+    return found == settings.end() ? otherwise : found->second;
+}
+
+Costs costs_of(const Settings &settings) {
+    const Costs usual;
+    return {set_or(settings, "hit", usual.hit), set_or(settings, "update", usual.update),
+            set_or(settings, "transfer", usual.transfer), set_or(settings, "shared", usual.shared),
+            set_or(settings, "pause", usual.pause)};
+}
+
+template <class Queue> Detached fill(Queue &queue, Core core, Word items) {
+    for (Word item = 1; item <= items; item++) co_await queue.put(core, item);
+}
+
+// Makes calls until so many are made, and counts those that put or took an item.
+template <class Queue>
+Detached run_thread(Queue &queue, Core core, Threads threads, std::uint64_t calls, std::uint64_t &count) {
+    const bool puts = threads.puts(core.number), takes = threads.takes(core.number);
+    // No two threads go in step for long: the loop takes some cycles more or less.
+    co_await core.pass(1 + core.machine.random() % 1000);
+    for (std::uint64_t call = 0; call < calls; call++) {
+        const bool is_put = puts && (!takes || call % 2 == 0);
+        const Word item = (core.number + 1) * 65536 + call % 65536; // fill puts 1 to 65,535
+        bool moved;
+        if (is_put) {
+            moved = co_await queue.put(core, item);
+        } else {
+            moved = co_await queue.get(core);
+        }
+        count += moved;
+        co_await core.pass(threads.work + 4 + core.machine.random() % 8);
+    }
+}
+
+template <class Queue>
+void print_rate(Machine &machine, Queue &queue, const Threads &threads, Word items, Cycles length) {
+    fill(queue, {machine, 0}, items);
+    machine.run_until(~Cycles{0});
+    std::uint64_t count = 0;
+    for (int thread = 0; thread < threads.count(); thread++)
+        run_thread(queue, {machine, thread}, threads, ~std::uint64_t{0}, count);
+    // First the queue comes to how full it stays.
+    machine.run_until(machine.now + length / 2);
+    count = machine.transfers = 0;
+    const Cycles begin = machine.now;
+    machine.run_until(begin + length);
+    const double microseconds = static_cast<double>(length) / CYCLES_IN_NANOSECOND / 1000;
+    std::cout << static_cast<double>(count) / microseconds << ' '
+              << static_cast<double>(machine.transfers) / static_cast<double>(std::max<std::uint64_t>(count, 1))
+              << '\n';
+}
+
+Shape shape_of(Word k, Word segments, const Settings &settings) {
+    Shape shape{k, segments};
+    shape.first_slot = set_or(settings, "first_slot", shape.first_slot);
+    shape.probes = set_or(settings, "probes", shape.probes);
+    shape.wait = set_or(settings, "wait", shape.wait);
+    shape.stride = static_cast<int>(set_or(settings, "stride", static_cast<Word>(shape.stride)));
+    return shape;
+}
+
+Cycles cycles_of(int nanoseconds) { return static_cast<Cycles>(nanoseconds * CYCLES_IN_NANOSECOND); }
+
+// Runs the queue with this name for the given words of the command line.
+void run_rate(const std::string &name, const std::vector<int> &words, const Settings &settings) {
+    const Threads threads{words[2], words[3], words[4], cycles_of(words[5])};
+    const Word k = words[0], capacity = words[1];
+    const int count = threads.count();
+    const auto run = [&](std::size_t size, const auto &made) {
+        Machine machine(count, size, costs_of(settings));
+        machine.random.seed(set_or(settings, "seed", 1));
+        auto queue = made(machine);
+        print_rate(machine, queue, threads, capacity / 2, cycles_of(1000) * words[6]);
+    };
+    if (name == "kfifo") {
+        const Shape shape = shape_of(k, capacity / k, settings);
+        run(Kfifo::words(shape), [&](Machine &) { return Kfifo(shape, count); });
+    } else if (name == "ring") {
+        run(Ring::words(capacity), [&](Machine &machine) { return Ring(machine, capacity); });
+    } else if (name == "tickets") {
+        run(Tickets::words(capacity), [&](Machine &machine) { return Tickets(machine, capacity); });
+    } else if (name == "per-producer") {
+        run(PerProducer::words(capacity, count),
+            [&](Machine &machine) { return PerProducer(machine, capacity, count); });
+    } else {
+        throw std::invalid_argument("there is no queue " + name);
+    }
+}
+
+void print_steps(const std::vector<int> &words, const Settings &settings) {
+    Shape shape = shape_of(words[0], words[1], settings);
+    const Threads threads{words[2], words[3], words[4], cycles_of(words[5])};
+    shape.turns = words[7];
+    Machine machine(threads.count(), Kfifo::words(shape), costs_of(settings));
+    machine.random.seed(set_or(settings, "seed", 1));
+    Kfifo queue(shape, threads.count());
+    queue.is_traced = true;
+    queue.scripts.resize(threads.count());
+    fill(queue, {machine, 0}, words[8]);
+    machine.run_until(~Cycles{0});
+    std::uint64_t count = 0;
+    for (int thread = 0; thread < threads.count(); thread++)
+        run_thread(queue, {machine, thread}, threads, words[6], count);
+    machine.run_until(~Cycles{0});
+    std::cout << "scripts";
+    for (const std::string &script : queue.scripts) std::cout << ' ' << script;
+    std::cout << '\n';
+    for (const std::string &step : queue.steps) std::cout << step << '\n';
+}
+
+// Returns the numbers from `begin` on, of which there are `count`, and what is set behind them.
+std::pair<std::vector<int>, Settings> parsed(const std::vector<std::string> &words, std::size_t begin,
+                                             std::size_t count) {
+    if (words.size() < begin + count) throw std::invalid_argument("there are too few words");
+    std::vector<int> numbers;
+    for (std::size_t at = begin; at < begin + count; at++) numbers.push_back(std::stoi(words[at]));
+    Settings settings;
+    for (std::size_t at = begin + count; at < words.size(); at++) {
+        const std::size_t sign = words[at].find('=');
+        settings[words[at].substr(0, sign)] = std::stoull(words[at].substr(sign + 1));
+    }
+    return {numbers, settings};
+}
+
+} // namespace
+
+int main(int count, char **given) {
+    const std::vector<std::string> words(given, given + count);
+    try {
+        if (count > 2 && words[1] == "rate") {
+            const auto [numbers, settings] = parsed(words, 3, 7);
+            run_rate(words[2], numbers, settings);
+        } else {
+            if (count < 2 || words[1] != "steps") throw std::invalid_argument("the first word is rate or steps");
+            const auto [numbers, settings] = parsed(words, 2, 9);
+            print_steps(numbers, settings);
+        }
+    } catch (const std::exception &fault) {
+        std::cerr << "scale: " << fault.what() << '\n';
+        return 2;
+    }
+}
