@@ -32,6 +32,11 @@ def tables_of(text):
             table = []
 
 
+def key_of(table):
+    """Returns what tells a table of the page from the others: the first cell of its head, and of its first row."""
+    return cells(table[0])[0], cells(table[2])[0]
+
+
 def measured():
     """Returns the median ratios of docs/bench/table.md, by the title of a workload and by the queue."""
     queues = {run.label(it): it for title in run.workloads(1) for it in title.queues}
@@ -76,10 +81,10 @@ def is_rounded(figure, numbers):
 
 def main():
     page = PAGE.read_text()
-    old = {table[0].split("|")[1]: table for table in tables_of(page)}
+    old = {key_of(table): table for table in tables_of(page)}
     passed, failed = 0, []
     for table in page_tables():
-        there = old.get(table[0].split("|")[1])
+        there = old.get(key_of(table))
         if there == table:
             passed += 1
         elif there and "--write" in sys.argv[1:]:
