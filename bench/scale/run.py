@@ -37,7 +37,7 @@ LOADS = {
     "n/2 + n/2": lambda n: (n // 2, n // 2, 0),
     "n-1 + 1": lambda n: (n - 1, 1, 0),
 }
-# What is measured with up to four threads at a time: the title in table.md, and the load and threads that are simulated.
+# What is measured with up to four threads at a time: its title in table.md, and the load and the threads of it here.
 COMPARED = {
     "one thread": ("alternating", 1),
     "1 producer, 1 consumer": ("1 + n-1", 2),

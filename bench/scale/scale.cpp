@@ -5,15 +5,16 @@
 //
 // Of the threads some only put, some only take, and some do both in turn, with so many nanoseconds of work between two
 // calls. The first form begins half full, and prints the calls that put or took an item in a microsecond, and the
-// transfers of a cache line for each. QUEUE is kfifo, ring, tickets or per-producer. The second form
-// prints the scripts of the threads, as `kfifo replay` takes them, and a line for each step of this repository's
-// queue, as `kfifo replay --trace` prints it: each thread makes so many calls, the first one some more to fill the
-// queue. A cost of machine.hpp can be set by its name, and `first_slot`, `stride`, `probes`, `wait` and `seed`.
+// transfers of a cache line for each. QUEUE is kfifo, ring, tickets or per-producer. The second form prints the scripts
+// of the threads, as `kfifo replay` takes them, and a line for each step of this repository's queue, as `kfifo replay
+// --trace` prints it: each thread makes so many calls, the first one some more to fill the queue. A cost of machine.hpp
+// can be set by its name, and `first_slot`, `stride`, `probes`, `wait` and `seed`.
 #include "kfifo.hpp"
 #include "queues.hpp"
 
 #include <iostream>
 #include <map>
+#include <set>
 #include <stdexcept>
 
 namespace {
@@ -32,6 +33,8 @@ struct Threads {
 
 // What the words NAME=VALUE at the end of the command line set.
 using Settings = std::map<std::string, Word>;
+const std::set<std::string> NAMES = {"hit",    "update",     "transfer", "shared", "pause", "buffer",
+                                     "stride", "first_slot", "probes",   "wait",   "seed"};
 
 Word set_or(const Settings &settings, const std::string &name, Word otherwise) {
     const auto found = settings.find(name);
@@ -40,9 +43,12 @@ Word set_or(const Settings &settings, const std::string &name, Word otherwise) {
 
 Costs costs_of(const Settings &settings) {
     const Costs usual;
-    return {set_or(settings, "hit", usual.hit), set_or(settings, "update", usual.update),
-            set_or(settings, "transfer", usual.transfer), set_or(settings, "shared", usual.shared),
-            set_or(settings, "pause", usual.pause)};
+    return {set_or(settings, "hit", usual.hit),
+            set_or(settings, "update", usual.update),
+            set_or(settings, "transfer", usual.transfer),
+            set_or(settings, "shared", usual.shared),
+            set_or(settings, "pause", usual.pause),
+            static_cast<int>(set_or(settings, "buffer", static_cast<Word>(usual.buffer)))};
 }
 
 template <class Queue> Detached fill(Queue &queue, Core core, Word items) {
@@ -58,6 +64,7 @@ Detached run_thread(Queue &queue, Core core, Threads threads, std::uint64_t call
     for (std::uint64_t call = 0; call < calls; call++) {
         const bool is_put = puts && (!takes || call % 2 == 0);
         const Word item = (core.number + 1) * 65536 + call % 65536; // fill puts 1 to 65,535
+        // GCC 12 makes both calls of a conditional expression.
         bool moved;
         if (is_put) {
             moved = co_await queue.put(core, item);
@@ -154,7 +161,9 @@ std::pair<std::vector<int>, Settings> parsed(const std::vector<std::string> &wor
     Settings settings;
     for (std::size_t at = begin + count; at < words.size(); at++) {
         const std::size_t sign = words[at].find('=');
-        settings[words[at].substr(0, sign)] = std::stoull(words[at].substr(sign + 1));
+        const std::string name = words[at].substr(0, sign);
+        if (sign == std::string::npos || NAMES.count(name) == 0) throw std::invalid_argument("what is " + words[at]);
+        settings[name] = std::stoull(words[at].substr(sign + 1));
     }
     return {numbers, settings};
 }
