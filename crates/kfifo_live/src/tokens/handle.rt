@@ -56,11 +56,7 @@ impl<T: Drop> TokenHandle<T> {
     {
         let puts = starts_of(queue, &pass);
         let takes = starts_of(queue, &pass);
-        TokenHandle {
-            pass,
-            puts,
-            takes,
-        }
+        TokenHandle { pass, puts, takes }
     }
 
     /// The pass.

@@ -27,7 +27,7 @@ returns-clause-gives g c =
 pub returns-clause-busy : goal.returns-clause-busy
 returns-clause-busy g c back is =
     let gives = subst (λ (x : Given g.row.T.Denot). Gives c.next-start.result MAX_TURNS c.args.payload x c.self.inside.pass c.give.new.self)
-        is c.give.ensures.gives in
+    is c.give.ensures.gives in
     subst (λ (p : PassView). IsDisturbed p c.give.new.self.pass)
     (ap (λ (h : PayHeld g.row.T.Denot). h.pass.pass) c.self.view_is ∙ c.pick_up_if_none.ensures.same)
     (gives.enqueue.call.disturbed refl (turns_enough c.self.inside.pass.pass.opened.shape))

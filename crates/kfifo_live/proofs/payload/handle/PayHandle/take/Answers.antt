@@ -25,7 +25,7 @@ returns-clause-takes g c =
 pub returns-clause-busy : goal.returns-clause-busy
 returns-clause-busy g c is =
     let takes = subst (λ (x : Taken g.row.T.Denot). TakesOut c.next-start.result MAX_TURNS x c.self.inside.pass c.take-taken.new.self) is
-        c.take-taken.ensures.takes in
+    c.take-taken.ensures.takes in
     subst (λ (x : PassView × PassView). IsDisturbed x.0 x.1)
     (λ i. (ap (λ (h : PayHeld g.row.T.Denot). h.pass.pass) c.self.view_is i, sym c.lay_surplus.ensures.same i))
     (takes.1.call.disturbed refl (turns_enough c.self.inside.pass.pass.opened.shape))

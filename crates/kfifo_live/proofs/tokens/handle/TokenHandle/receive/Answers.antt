@@ -17,6 +17,6 @@ returns-clause-receives g c =
 pub returns-clause-busy : goal.returns-clause-busy
 returns-clause-busy g c is =
     let receives = subst (λ (x : Received g.row.T.Denot). ReceivesWith c.next-start.result MAX_TURNS x c.self.inside.pass
-        c.receive.new.self) is c.receive.ensures.receives in
+    c.receive.new.self) is c.receive.ensures.receives in
     subst (λ (h : TokenHeld g.row.T.Denot). IsDisturbed h.pass.pass c.receive.new.self.pass) c.self.view_is
     (receives.0.call.disturbed refl (turns_enough c.self.inside.pass.pass.opened.shape))

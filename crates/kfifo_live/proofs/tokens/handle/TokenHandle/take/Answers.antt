@@ -18,6 +18,6 @@ returns-clause-takes g c =
 pub returns-clause-busy : goal.returns-clause-busy
 returns-clause-busy g c is =
     let takes = subst (λ (x : Taken TokenView). TakesToken c.next-start.result MAX_TURNS x c.self.inside.pass c.take.new.self) is
-        c.take.ensures.takes in
+    c.take.ensures.takes in
     subst (λ (h : TokenHeld g.row.T.Denot). IsDisturbed h.pass.pass c.take.new.self.pass) c.self.view_is
     (takes.0.call.disturbed refl (turns_enough c.self.inside.pass.pass.opened.shape))
