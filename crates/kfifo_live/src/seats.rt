@@ -7,7 +7,8 @@ ghost use Rattle.kfifo_machine.specs.Machine.{may_seal};
 ghost use Rattle.kfifo_live.specs.Step.{CountsTokens, DrawsToken, IsAt, LaysBack, Looks, TriesSeal};
 
 use crate::rule::{
-    AddToken, All, CountTokens, CutToken, DrawToken, Gather, LayBack, Observation, Opened, Rest, SealStep,
+    AddToken, All, CountTokens, CutToken, DrawToken, Gather, LayBack, Observation, Opened, Rest,
+    SealStep,
 };
 use crate::view::{ThreadSeat, Words};
 use kfifo_words::{ENDS_INDEX, Ends, Shape};

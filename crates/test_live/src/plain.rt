@@ -5,8 +5,8 @@ ghost use Rattle.kfifo_live.specs.Pass.{IsPassOf, IsSamePass};
 
 use kfifo_dispatch::{DispatchFault, Finished, Task};
 use kfifo_live::{
-    CloseFault, GatherFault, Given, OpenFault, Pass, PayHandle, PayPass, PayQueue, Queue,
-    Sealing, StampPass, StampQueue, Taken,
+    CloseFault, GatherFault, Given, OpenFault, Pass, PayHandle, PayPass, PayQueue, Queue, Sealing,
+    StampPass, StampQueue, Taken,
 };
 use kfifo_model::{Answer, History, MeasureFault, Overtaken, SearchFault};
 use kfifo_words::Shape;
