@@ -19,7 +19,7 @@ use Rattle.kfifo_linear.specs.Ledger.{Ledger, blank, called, found_in, noted, st
 use Rattle.kfifo_machine.proofs.NoWrap.{EndsOk}
 use Rattle.kfifo_machine.specs.Machine.{begun, may_begin, opening, place_after, place_of, word_at}
 use Rattle.kfifo_machine.specs.Program.{access, accessed, advance}
-use Rattle.kfifo_words.specs.Ring.{clock_at, distance}
+use Rattle.kfifo_words.specs.Ring.{distance}
 use Rattle.kfifo_words.specs.Words.{head_of, tail_of}
 
 -- an enqueue that means to take its item out has no other round, or the head has left the visit in which its round began
