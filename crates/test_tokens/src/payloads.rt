@@ -1,7 +1,6 @@
 //! A queue of tokens with payloads, by one thread.
-ghost use Rattle.std.specs.Prelude.{◌≡◌, ◌<◌, ◌≤◌, All, false};
+ghost use Rattle.std.specs.Prelude.{◌≡◌, ◌<◌, ◌≤◌, All, IfSome, false};
 ghost use Rattle.kfifo_live.specs.Pass.{IsPassOf, IsSamePass};
-ghost use Rattle.kfifo_live.specs.Payloads.{TokenView};
 
 use kfifo_live::{CloseFault, Published, Received, Token, TokenHandle, TokenQueue};
 use kfifo_words::{MAX_VERSION, Shape};
@@ -46,13 +45,19 @@ fn add(queue: &TokenQueue<String>, spare: &mut Vec<Token<String>>, token: Token<
 }
 
 /// Takes a parcel and its token.
-fn take(queue: &TokenQueue<String>, handle: &mut TokenHandle<String>) -> Received<String>
+fn take(
+    queue: &TokenQueue<String>,
+    handle: &mut TokenHandle<String>,
+) -> Option<(String, Token<String>)>
     requires of { IsPassOf queue.now handle.old.pass.pass }
     requires payloads { queue.now.opened.bare ≡ false }
     ensures same { IsSamePass handle.old.pass.pass handle.new.pass.pass }
-    ensures of { (parcel : String) (token : TokenView) → result ≡ Received.Got parcel token → token.queue ≡ queue.now }
+    ensures of { IfSome result (λ r. r.1.queue ≡ queue.now) }
 {
-    handle.receive(queue)
+    match handle.receive(queue) {
+        Received::Got(parcel, token) => Some((parcel, token)),
+        Received::Empty | Received::Busy | Received::Worn => None,
+    }
 }
 
 impl Parcels {
@@ -91,14 +96,10 @@ impl Parcels {
 
     /// The next parcel, and the number of its token.
     fn fetch(&mut self) -> Option<(String, u32)> {
-        match take(&self.queue, &mut self.handle) {
-            Received::Got(parcel, token) => {
-                let number = token.number();
-                add(&self.queue, &mut self.spare, token);
-                Some((parcel, number))
-            }
-            Received::Empty | Received::Busy | Received::Worn => None,
-        }
+        let (parcel, token) = take(&self.queue, &mut self.handle)?;
+        let number = token.number();
+        add(&self.queue, &mut self.spare, token);
+        Some((parcel, number))
     }
 
     fn close(self, alloc: Global) -> Result<Vec<String>, CloseFault> {
