@@ -15,6 +15,7 @@ typedef struct found {
     size_t calls;
     size_t left;
     size_t at_least;
+    uint64_t tries;
     uint32_t at_most;
     uint32_t fault;
     uint32_t kind;
@@ -123,6 +124,7 @@ static void set_numbers(kfifo_judge_report *report, const found *numbers) {
     report->place = numbers->place;
     report->at_least = numbers->at_least;
     report->at_most = numbers->at_most;
+    report->tries = numbers->tries;
 }
 
 /* Asks, with room on the stack at first: a verdict on a short run fits in. Where the answer is longer it asks again,

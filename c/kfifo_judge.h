@@ -91,6 +91,8 @@ typedef struct kfifo_judge_report {
     size_t at_least; /* the least k is no less: of kfifo_least_calls that is LEGAL, and of a verdict NO_ORDER whose text
                         says it; else 0 */
     uint32_t at_most; /* and no greater, 1 to 64; 0 where no order was found */
+    uint64_t tries;   /* of UNDECIDED: after how many tries the search for an order gave up, that is, how many choices
+                         it took back; else 0 */
 } kfifo_judge_report;
 
 /* How many calls can be judged at a time. */

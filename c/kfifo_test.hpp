@@ -131,6 +131,7 @@ struct CheckReport {
     std::uint64_t rounds = 0;                                // how many were judged
     std::uint64_t calls = 0;                                 // in these rounds
     std::uint64_t undecided = 0;                             // rounds without a verdict
+    std::uint64_t tries = 0;                                 // after how many the search gave up in these, at most
     double overlapping = 0;           // the share of calls that overlap another one, in a sample of rounds, 0 to 1
     double seconds = 0;               // how long the check took
     std::uint64_t seed = 0;           // draws the same designs again; the schedules will differ
@@ -441,6 +442,7 @@ enum class SlotState : std::uint8_t { unused, playing, played, judged };
 struct Slot {
     std::atomic<SlotState> state{SlotState::unused};
     std::atomic<std::uint8_t> verdict{KFIFO_JUDGE_LEGAL}; // once it is judged
+    std::atomic<std::uint64_t> tries{0};                  // of an undecided one, after how many the search gave up
     std::uint64_t number = 0;                             // of the round, from 1
     Design design;
     std::uint32_t complete[MAX_THREADS + 1] = {}; // how many calls each lane has logged
@@ -453,6 +455,7 @@ struct Board {
     std::atomic<Ended> ended{Ended::not_yet};
     std::atomic<bool> has_note{false};
     std::atomic<std::uint64_t> rounds{0}, calls{0}, undecided{0}, sampled{0}, overlapping{0}, pulse{0};
+    std::atomic<std::uint64_t> tries{0}; // after how many the search gave up in an undecided round, at most
     std::atomic<std::uint32_t> least_rounds{0}, least_at_least{0}, least_at_most{0}, least_unknown{0};
     std::atomic<bool> has_ticks{false}, has_got{false}; // whether times are ticks, and whether any get took an item
     char note[512] = {};                                // of an exception: what it says
@@ -1035,6 +1038,7 @@ class Verdict {
     ~Verdict() { kfifo_judge_clear(&report); }
     kfifo_judge_status status() const noexcept { return report.status; }
     kfifo_judge_evidence evidence() const noexcept { return report.evidence; }
+    std::uint64_t tries() const noexcept { return report.tries; }
     std::string text() const { return report.text ? report.text : "the judge ran out of memory\n"; }
     std::string headline() const { return report.headline ? report.headline : ""; }
 
@@ -1261,6 +1265,7 @@ class Conductor {
             board.rounds++;
             for (std::uint32_t complete : slot.complete) board.calls += complete;
             board.undecided += verdict == KFIFO_JUDGE_UNDECIDED;
+            board.tries = std::max(board.tries.load(), slot.tries.load());
             if (is_bad(verdict, options)) return void(board.end(Ended::bad_round));
             slot.state = SlotState::judged;
             // What an undecided round has left behind could be held against a later round.
@@ -1272,7 +1277,9 @@ class Conductor {
     void judge_round(unsigned index) {
         Slot &slot = board.slots[index];
         const std::vector<kfifo_judge_call> calls = calls_of(memory, index);
-        slot.verdict = std::uint8_t(Verdict(calls, options).status());
+        const Verdict verdict(calls, options);
+        slot.verdict = std::uint8_t(verdict.status());
+        slot.tries = verdict.tries();
         board.pulse++;
         if (!board.has_got && std::any_of(calls.begin(), calls.end(), has_got)) board.has_got = true;
         if (slot.number % 16 == 1) {
@@ -1325,6 +1332,11 @@ inline std::string grouped(std::uint64_t number) {
     std::string digits = std::to_string(number);
     for (std::size_t at = digits.size(); at > 3; at -= 3) digits.insert(at - 3, ",");
     return digits;
+}
+// How many rounds have no verdict, and after how many tries the search gave up in them, at most.
+inline std::string undecided_rounds(std::uint64_t count, std::uint64_t tries) {
+    const std::string tried = count == 0 ? "" : " after at most " + std::to_string(tries) + " tries each";
+    return std::to_string(count) + " undecided" + tried;
 }
 inline std::string rounded(double number, int digits) {
     char text[64];
@@ -1384,6 +1396,7 @@ class Reporter {
         report.rounds = board.rounds;
         report.calls = board.calls;
         report.undecided = board.undecided;
+        report.tries = board.tries;
         report.seed = settings.seed;
         const double sampled = double(board.sampled);
         report.overlapping = sampled > 0 ? double(board.overlapping) / sampled : 0;
@@ -1402,16 +1415,11 @@ class Reporter {
         while (report.text.back() == '\n') report.text.pop_back();
     }
 
-    // After how many tries the search gave up in the rounds without a verdict.
-    std::string tried() const {
-        return report.undecided == 0 ? "" : " after at most " + std::to_string(settings.options.tries) + " tries each";
-    }
     // The last line.
     std::string counts() const {
         std::string text = std::to_string(report.rounds) + " rounds, " + std::to_string(report.calls) + " calls, " +
                            rounded(100 * report.overlapping, 0) + " % overlapping, " +
-                           std::to_string(report.undecided) + " undecided" + tried() + ", seed " +
-                           std::to_string(report.seed);
+                           undecided_rounds(report.undecided, report.tries) + ", seed " + std::to_string(report.seed);
         if (report.least_at_least == 0) return text;
         text += "; of a sample the least k is at least " + std::to_string(report.least_at_least) + " and at most ";
         return text + (report.least_at_most > 0 ? std::to_string(report.least_at_most) : "unknown");
@@ -1562,9 +1570,9 @@ class Progress {
         next = seconds + 0.2;
         has_shown = true;
         const std::uint64_t sampled = board.sampled, share = sampled ? 100 * board.overlapping / sampled : 0;
-        std::fprintf(stderr, "\r\033[K%.1f s, %s calls, %d %% overlapping, %s rounds legal, %s undecided", seconds,
+        std::fprintf(stderr, "\r\033[K%.1f s, %s calls, %d %% overlapping, %s rounds legal, %s", seconds,
                      grouped(board.calls).c_str(), int(share), grouped(board.rounds - board.undecided).c_str(),
-                     grouped(board.undecided).c_str());
+                     undecided_rounds(board.undecided, board.tries).c_str());
     }
 
   private:

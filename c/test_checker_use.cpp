@@ -17,8 +17,10 @@ extern "C" kfifo_judge_status __wrap_kfifo_judge_calls(const kfifo_judge_call *c
                                                        kfifo_judge_report *report) {
     if (pretended == KFIFO_JUDGE_LEGAL) return __real_kfifo_judge_calls(calls, count, k, tries, report);
     *report = {};
-    if (pretended == KFIFO_JUDGE_UNDECIDED)
-        report->text = strdup("undecided for k = 1\nthe tries ran out after 1000000 tries\n");
+    if (pretended == KFIFO_JUDGE_UNDECIDED) {
+        report->text = strdup("undecided for k = 1\nnothing is left to try after 1234 tries\n");
+        report->tries = 1234;
+    }
     return report->status = pretended;
 }
 
@@ -369,11 +371,30 @@ void wrong_use() {
     expect(full.outcome == Outcome::no_verdict && has(full.text, "no get took an item"), "an idle queue", full);
 }
 
+// The faults of the gallery have the headlines that the table beside their logs has.
+void gallery() {
+    std::ifstream table("checker/gallery/headlines.csv");
+    std::string line;
+    unsigned rows = 0;
+    for (std::getline(table, line); std::getline(table, line); rows++) {
+        const std::size_t first = line.find(','), second = line.find(',', first + 1);
+        const std::string log = content("checker/gallery/" + line.substr(0, first));
+        kfifo_judge_report report{};
+        kfifo_judge_text(log.data(), log.size(), 1, KFIFO_JUDGE_TRIES, &report);
+        const std::string evidence = std::to_string(report.evidence);
+        const std::string said = report.headline ? report.headline : "";
+        expect(evidence == line.substr(first + 1, second - first - 1), "the evidence of a fault of the gallery");
+        expect(said == line.substr(second + 1), "the headline of a fault of the gallery");
+        kfifo_judge_clear(&report);
+    }
+    expect(rows >= 2, "the table of the gallery");
+}
+
 void other_verdicts() {
     pretended = KFIFO_JUDGE_UNDECIDED;
     const CheckReport all = run(Fault::none, some(20));
     expect(all.outcome == Outcome::undecided && all.undecided == all.rounds, "each round is undecided", all);
-    expect(has(all.text, " undecided after at most 1000000 tries each, seed "), "after how many tries", all);
+    expect(all.tries == 1234 && has(all.text, " undecided after at most 1234 tries each, seed "), "its tries", all);
     CheckOptions options = some(20);
     options.undecided_fails = true;
     const CheckReport first = run(Fault::none, options);
@@ -474,6 +495,7 @@ int main(int, char **words) {
     relaxed();
     wrong_use();
     other_verdicts();
+    gallery();
     threw();
 #ifndef FEWER
     ends_of_the_child();

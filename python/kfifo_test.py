@@ -122,6 +122,7 @@ class Verdict:
     headline: str = ""  # and what it says of the queue, as "item 2 came out, and item 1, which went in before, had not"
     named: tuple[NamedCall, ...] = ()  # and the calls that it rests on, in the order of the text
     least: Optional[tuple[int, Optional[int]]] = None  # and the bounds of the least k, where the text says them
+    tries: int = 0  # of "undecided", after how many tries the search gave up: how many choices it took back; else 0
 
 
 @dataclass(frozen=True)
@@ -151,6 +152,7 @@ class _Report(ctypes.Structure):
         ("left", ctypes.c_size_t),
         ("at_least", ctypes.c_size_t),
         ("at_most", ctypes.c_uint32),
+        ("tries", ctypes.c_uint64),
     )
 
 
@@ -204,6 +206,7 @@ class _Answer(NamedTuple):
     left: int
     at_least: int
     at_most: int
+    tries: int
 
     def bounds(self) -> Optional[tuple[int, Optional[int]]]:
         return (self.at_least, self.at_most or None) if self.at_least else None
@@ -229,7 +232,7 @@ def _ask(function: str, *arguments: Any) -> _Answer:
     status = getattr(library, function)(*arguments, ctypes.byref(report))
     try:
         text, headline = _text_at(report.text, report.length), _text_at(report.headline, report.headline_length)
-        found = (report.calls, report.left, report.at_least, report.at_most)
+        found = (report.calls, report.left, report.at_least, report.at_most, report.tries)
         answer = _Answer(status, text, report.evidence, headline, _named_in(report), *found)
         number, place = report.fault, report.place
     finally:
@@ -278,6 +281,7 @@ def _verdict(answer: _Answer) -> Verdict:
         headline=answer.headline,
         named=answer.named,
         least=answer.bounds(),
+        tries=answer.tries,
     )
 
 
@@ -754,7 +758,7 @@ class Report:
     taken: int = 0  # how many gets took an item
     overlapping: float = 0.0  # the share of calls that overlapped one of another thread, over a sample of rounds
     undecided: int = 0  # how many rounds had neither an order nor a reason against each
-    tries: int = TRIES  # how many choices the search for an order could take back in a round
+    tries: int = 0  # after how many tries the search gave up in them at most
     least: Optional[tuple[int, int]] = None  # for k > 1: the greatest bounds of the least k, over a sample of rounds
     failed_round: str = ""
     log: Optional[str] = None  # the file with the log of the round that failed
@@ -765,6 +769,11 @@ class Report:
     def passed(self) -> bool:
         """Whether no fault was found."""
         return self.outcome == "passed"
+
+    def _undecided_rounds(self) -> str:
+        """How many rounds have no verdict, and after how many tries the search gave up in them at most."""
+        tried = f" after at most {self.tries} tries each" if self.undecided else ""
+        return f"{self.undecided} undecided{tried}"
 
     def _head(self) -> str:
         return {
@@ -787,10 +796,7 @@ class Report:
         if self.unwritten:
             lines.append(f"not written: {self.unwritten}")
         last = f"{self.rounds} rounds, {self.calls} calls, {100 * self.overlapping:.0f} % overlapping"
-        last += f", {self.undecided} undecided"
-        if self.undecided:
-            last += f" after at most {self.tries} tries each"
-        last += f", seed {self.seed}"
+        last += f", {self._undecided_rounds()}, seed {self.seed}"
         if self.least:
             last += f"; of a sample the least k is at least {self.least[0]} and at most {self.least[1]}"
         return "\n".join(lines + [last])
@@ -859,7 +865,7 @@ class _Check:
         self.options = options
         seed = random.SystemRandom().randrange(2**32) if options.seed is None else options.seed
         self.dice = random.Random(seed)
-        self.report = Report(options.name, options.k, seed, tries=options.tries)
+        self.report = Report(options.name, options.k, seed)
         self.done: queue.SimpleQueue[int] = queue.SimpleQueue()
         self.lanes = [_Lane(number, put, get, self.done) for number in range(options.most_threads())]
         self.kept: dict[int, _Kept] = {}
@@ -995,6 +1001,7 @@ class _Check:
             return
         if verdict.status == "undecided":
             self.report.undecided += 1
+            self.report.tries = max(self.report.tries, verdict.tries)
         if verdict.status == "no order" or (verdict.status == "undecided" and self.options.undecided_fails):
             self.report.headline, self.report.evidence = verdict.headline, verdict.evidence
             self._fail(verdict.status, verdict.text, judged.number, judged.design, judged.calls)
@@ -1036,7 +1043,7 @@ class _Check:
         share = 100 * self.overlapped // max(self.sampled, 1)
         report = self.report
         text = f"{report.name}: {report.rounds} rounds, {report.calls} calls, {share} % overlapping, "
-        print(f"\r{text}{report.undecided} undecided ", end="", file=sys.stderr, flush=True)
+        print(f"\r{text}{report._undecided_rounds()} ", end="", file=sys.stderr, flush=True)
 
 
 def _describe(lanes: list[_Lane]) -> str:

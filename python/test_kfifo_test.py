@@ -32,6 +32,8 @@ NOWHERE, OVERTAKEN = 1, 4
 HERE = pathlib.Path(__file__).resolve().parent
 # The faulty queues that the checks for C++, Rust and Python have in common, with the evidence that may be found.
 SHARED = HERE.parent / "c/checker/faulty_queues.csv"
+# Parts of the logs of the gallery, and what is said of each.
+GALLERY = HERE.parent / "c/checker/gallery"
 
 
 # How many seconds a check may take where other programs use the processors. On an idle machine it takes a fraction.
@@ -425,11 +427,11 @@ class WrongUse(Checks):
         self.assertEqual((report.outcome, report.rounds), ("nothing taken", 20))
 
     def test_undecided_rounds_pass_but_not_all(self):
-        undecided = kfifo_test.Verdict("undecided", "undecided for k = 1\nthe tries ran out after 7 tries\n")
+        undecided = kfifo_test.Verdict("undecided", "undecided for k = 1\nthe tries ran out after 7 tries\n", tries=7)
         with mock.patch.object(kfifo_test, "_judge_round", return_value=(undecided, None)):
             report = kfifo_test.run_check(queue.Queue, put_nowait, get_nowait, **self.options(rounds=3))
             self.assertEqual((report.outcome, report.undecided, report.rounds), ("undecided", 3, 3))
-            options = self.options(rounds=3, undecided_fails=True, tries=7)
+            options = self.options(rounds=3, undecided_fails=True)
             report = kfifo_test.run_check(queue.Queue, put_nowait, get_nowait, **options)
             self.assertEqual((report.outcome, report.undecided, report.rounds), ("undecided", 1, 1))
             self.assertIn("\nthe tries ran out after 7 tries\n", str(report))
@@ -519,6 +521,16 @@ class Judge(unittest.TestCase):
         legal = kfifo_test.judge([self.CALLS[0], *self.CALLS[2:]])
         self.assertEqual((legal.status, legal.calls, legal.left, legal.least), ("legal", 3, 1, None))
         self.assertEqual((legal.evidence, legal.evidence_name, legal.headline, legal.named), (0, "", "", ()))
+
+    def test_the_faults_of_the_gallery_have_the_headlines_of_its_page(self):
+        page = (HERE.parent / "docs/GALLERY.md").read_text().replace("\n", " ")
+        rows = [line.split(",", 2) for line in (GALLERY / "headlines.csv").read_text().splitlines()[1:]]
+        self.assertGreaterEqual(len(rows), 2)
+        for log, evidence, headline in rows:
+            with self.subTest(log):
+                verdict = kfifo_test.judge_text((GALLERY / log).read_text())
+                self.assertEqual((verdict.evidence, verdict.headline), (int(evidence), headline))
+                self.assertIn(f"`{headline}`", page)
 
     def test_each_kind_of_evidence_has_its_headline(self):
         def done(item, at):

@@ -146,11 +146,34 @@ fn passes_with_overlaps(check: impl Fn(Options) -> Result<Report, BadOption>, op
 }
 
 #[test]
+fn the_faults_of_the_gallery_have_the_headlines_of_its_table() {
+    let folder = Path::new(env!("CARGO_MANIFEST_DIR")).join("../c/checker/gallery");
+    let table = fs::read_to_string(folder.join("headlines.csv")).expect("the table can be read");
+    let rows = table.lines().skip(1).map(|line| line.splitn(3, ','));
+    let mut count = 0;
+    for row in rows {
+        let row = row.collect::<Vec<_>>();
+        let [log, evidence, headline] = row[..] else {
+            panic!("a row has three fields: {row:?}")
+        };
+        let text = fs::read(folder.join(log)).expect("the log can be read");
+        let Ok(Verdict::NoOrder { reason, .. }) = judge_text(&text, 1, TRIES) else {
+            panic!("{log} has an order")
+        };
+        assert_eq!(
+            (reason.evidence.to_string(), reason.headline.as_str()),
+            (evidence.to_string(), headline)
+        );
+        count += 1;
+    }
+    assert!(count >= 2, "the table has {count} rows");
+}
+
+#[test]
 fn a_report_of_undecided_rounds_says_after_how_many_tries() {
     let _turn = turn();
     let options = Options {
         rounds: Some(1),
-        tries: 7,
         quiet: true,
         ..Options::default()
     };
@@ -164,7 +187,7 @@ fn a_report_of_undecided_rounds_says_after_how_many_tries() {
         report.to_string().contains(", 0 undecided, seed "),
         "{report}"
     );
-    report.undecided = 2;
+    (report.undecided, report.tries) = (2, 7);
     assert!(
         report
             .to_string()

@@ -148,8 +148,8 @@ fn with_puttable_items(alloc: Global, lines: Vec<Line>) -> Result<Vec<Line>, All
 }
 
 /// Returns the log that at most 16,777,215 lines are, to be judged: as `log_of`, but for gets of items that no call can
-/// put. In the record each of them got an item that no line puts, one and the same; its `LoggedCall` has the item of the
-/// log.
+/// put. In the record each of them got an item that no line puts, one and the same; its `LoggedCall` has the item of
+/// the log.
 ///
 /// ```rust
 /// let log = log_to_judge(alloc, lines)?;

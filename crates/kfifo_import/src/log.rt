@@ -34,23 +34,35 @@ pub struct Log {
     pub calls: Vec<LoggedCall>,
 }
 
+/// What a first line may be that is no header.
+const NO_HEADER: &str =
+    "is a header that lacks one of thread, op, item, first, last and answer or has one twice";
+
+/// Which fields a call has.
+const FIELDS_OF_A_CALL: &str =
+    "thread, op and first; item in an enq and where the answer is got; last and answer both or neither";
+
+/// What calls answer.
+const ANSWERS: &str =
+    "done, full, busy or worn of an enqueue, got, empty, busy or worn of a dequeue";
+
 /// Why a log gives no record. A fault of one call carries the number of its line.
 #[derive(Clone, Copy, Debug, PartialEq, Eq, Error)]
 pub enum ImportFault {
     /// The line does not have the fields of the header, or the header lacks one.
-    #[error("line {0} does not have the fields of the header, or is a header that lacks one of thread, op, item, first, last and answer or has one twice")]
+    #[error("line {0} does not have the fields of the header, or {no_header}", no_header = NO_HEADER)]
     Csv(u64),
     /// Record fault 2: there are over 16,777,215 calls, or over 65,536 where the log is to give a record.
     #[error("the log has over 16,777,215 calls, or over 65,536 and is to give a record")]
     TooMany,
     /// Record fault 3: a field is missing or not allowed there, a number is not whole, or the operation is unknown.
-    #[error("line {0} is no call: thread, op and first; item in an enq and where the answer is got; last and answer both or neither; op enq or deq; whole numbers")]
+    #[error("line {0} is no call: {fields}; op enq or deq; whole numbers", fields = FIELDS_OF_A_CALL)]
     NotACall(u64),
     /// Record fault 4: the thread is not 0 to 63, or an item not 1 to 2^24 - 1.
     #[error("line {0} has a thread that is not 0 to 63 or an item that is not 1 to 16,777,215")]
     NumberOutOfRange(u64),
     /// Record fault 5: the answer is none of the operation's.
-    #[error("line {0} has an answer that is none of its operation's: done, full, busy or worn of an enqueue, got, empty, busy or worn of a dequeue")]
+    #[error("line {0} has an answer that is none of its operation's: {answers}", answers = ANSWERS)]
     WrongAnswer(u64),
     /// Record fault 6: the last time is less than the first.
     #[error("line {0} has a last time below its first")]

@@ -158,7 +158,7 @@ fn op_of(text: &[u8], item: Option<u32>) -> Option<Op>
     }
 }
 
-/// The answer of a dequeue beside this item. None where it has an item without the answer `got`, or the other way round.
+/// The answer of a dequeue beside this item; none where it has an item without the answer `got`, or `got` and no item.
 fn take_answer_beside(word: AnswerWord, item: Option<u32>) -> Option<Answer>
     ensures { (text : List ℕ) → IsAnswerWord text word
         → MatchOption result ((answer : Answer) → ¬ (IsTakeAnswer text item answer)) (IsTakeAnswer text item) }
@@ -358,9 +358,9 @@ pub fn read_log(alloc: Global, text: &[u8]) -> Result<Log, Refusal>
     log_in(alloc, text, MAX_LOG_CALLS)
 }
 
-/// The log that a text in CSV is, to be judged: as `read_log` reads it, but for gets of items that no call can put, which
-/// are not from 1 to 16,777,215. They show that the queue is wrong, and are no fault of the log. In the record each of
-/// them got an item that no call puts, one and the same; its `LoggedCall` has the item as it is in the log.
+/// The log that a text in CSV is, to be judged: as `read_log` reads it, but for gets of items that no call can put,
+/// which are not from 1 to 16,777,215. They show that the queue is wrong, and are no fault of the log. In the record
+/// each of them got an item that no call puts, one and the same; its `LoggedCall` has the item as it is in the log.
 ///
 /// ```rust
 /// let log = read_log_to_judge(alloc, bytes)?;

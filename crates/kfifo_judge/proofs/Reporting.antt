@@ -73,7 +73,12 @@ least : (o : Option Bounds) → IsPlain (specs.least_in o)
 least (Some b) = bounds b
 least None = refl
 
+tries : (j : Judgement) → IsPlain (specs.tries_in j)
+tries (Legal found) = refl
+tries (NoOrder found) = refl
+tries (Undecided stuck) = refl
+
 pub no_float : (file : Option (List ℕ)) (k : ℕ) (show : Bool) (logged : List LoggedCall) (h : List Call) (j : Judged)
     → has_float (specs.report_value file k show logged h j) ≡ false
 no_float file k show logged h j =
-    rw (evidence logged h j.judgement, text file, least j.bounds, order show j.judgement) refl
+    rw (evidence logged h j.judgement, text file, least j.bounds, order show j.judgement, tries j.judgement) refl

@@ -27,8 +27,8 @@ abbrev pub verdict_outcome : Verdict → Outcome
 verdict_outcome Legal = Answered
 verdict_outcome _ = Unordered
 
--- The text and the outcome for a history: whether some order of its 12 calls or fewer is legal, or what is to be said of
--- the given one.
+-- The text and the outcome for a history: whether some order of its 12 calls or fewer is legal, or what is to be said
+-- of the given one.
 abbrev pub IsCheckAnswer : ℕ → Option (List ℕ) → List Call → List ℕ → Outcome → Type 0
 IsCheckAnswer k None h text said =
     (length h ≤ 12)

@@ -1,6 +1,6 @@
 -- What `judge` says of a history.
-use Rattle.std.specs.Prelude.{ℕ, ◌≡◌, Bool, true, false, List, [], ◌++◌, Option, None, codes, cond, decimal, eqb, length}
-use Rattle.std.specs.Prelude.{string_bytes}
+use Rattle.std.specs.Prelude.{ℕ, ◌≡◌, Bool, true, false, List, [], ◌++◌, Option, None, codes, cond, decimal, eqb}
+use Rattle.std.specs.Prelude.{length, string_bytes}
 use Rattle.kfifo_model.specs.declared.calls.Call.{Call}
 use Rattle.kfifo_model.specs.Ranks.{ranks_of}
 use Rattle.kfifo_verdict.specs.declared.verdicts.Bounds.{Bounds}
@@ -58,7 +58,8 @@ tries_words count = cond (eqb count 1) (codes "try") (codes "tries")
 
 -- why the search stopped, and after how many tries
 abbrev pub stuck_text : Stuck → List ℕ
-stuck_text stuck = stuck_words stuck ++ counted (codes " after ") (tries_made stuck) (codes " " ++ tries_words (tries_made stuck))
+stuck_text stuck = stuck_words stuck
+    ++ counted (codes " after ") (tries_made stuck) (codes " " ++ tries_words (tries_made stuck))
 
 -- why the search stopped, and whether items repeat
 abbrev pub IsUndecidedText : ℕ → List Call → Stuck → List ℕ → Type 0

@@ -15,6 +15,7 @@ use Rattle.kfifo_verdict.specs.declared.verdicts.Bounds.{Bounds}
 use Rattle.kfifo_verdict.specs.declared.verdicts.Evidence.{Evidence}
 use Rattle.kfifo_verdict.specs.declared.verdicts.Judgement.{Judgement}
 use Rattle.kfifo_verdict.specs.declared.verdicts.Judgement.TheVariants.{Legal, NoOrder, Undecided}
+use Rattle.kfifo_verdict.specs.Judging.{tries_made}
 use Rattle.kfifo_judge.specs.declared.judgement.Judged.{Judged}
 use Rattle.kfifo_judge.specs.declared.named.NamedCall.{NamedCall}
 use Rattle.kfifo_judge.specs.declared.outcome.Outcome.{Outcome}
@@ -85,6 +86,12 @@ order_in false (Legal order) = null
 order_in show (NoOrder found) = null
 order_in show (Undecided stuck) = null
 
+-- after how many tries the search for an order gave up
+abbrev pub tries_in : Judgement → Data
+tries_in (Legal order) = null
+tries_in (NoOrder found) = null
+tries_in (Undecided stuck) = whole (tries_made stuck)
+
 -- the verdict in words
 abbrev pub status_of : Judgement → List ℕ
 status_of (Legal order) = codes "legal"
@@ -112,7 +119,8 @@ report_value file k show logged h j = object
     (member (codes "left") (whole j.left)
     (member (codes "order") (order_in show j.judgement)
     (member (codes "status") (string (status_of j.judgement))
-    (member (codes "text") (string (string_bytes j.text)) no_members)))))))))
+    (member (codes "text") (string (string_bytes j.text))
+    (member (codes "tries") (tries_in j.judgement) no_members))))))))))
 
 -- its text, compact and with the keys in order of bytes
 abbrev pub report_text : Option (List ℕ) → ℕ → Bool → List LoggedCall → List Call → Judged → List ℕ

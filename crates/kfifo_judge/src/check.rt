@@ -71,8 +71,8 @@ fn answer(
 /// let (text, said) = check_text(alloc, bytes.as_slice(), k, order)?;
 /// ```
 ///
-/// Refuses: NotJson and Record as `read_record`; Search where no order is given and the record has over 12 calls; Memory
-/// where an allocation failed.
+/// Refuses: NotJson and Record as `read_record`; Search where no order is given and the record has over 12 calls;
+/// Memory where an allocation failed.
 pub fn check_text(
     alloc: Global,
     bytes: &[u8],

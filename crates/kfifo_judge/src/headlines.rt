@@ -110,40 +110,26 @@ fn push_headline(
     ensures { OnOk result (string_bytes text.new
         ≡ string_bytes text.old ++ headline_text logged.now history.now found.now) }
 {
+    let item = item_got(history, logged, found.call());
     match found {
-        Evidence::NeverPut(get) => {
-            let item = item_got(history, logged, *get);
-            push_item(text, item, " came out, which no call had put")
-        }
-        Evidence::TakenTwice(get) => {
-            let item = item_got(history, logged, *get);
-            push_item(text, item, " came out more often than it went in")
-        }
+        Evidence::NeverPut(_) => push_item(text, item, " came out, which no call had put"),
+        Evidence::TakenTwice(_) => push_item(text, item, " came out more often than it went in"),
         Evidence::NotEmpty { puts, .. } => {
             text.push_str("a get found nothing, while the queue held ")?;
             push_items(text, history, logged, puts.as_slice(), "")
         }
-        Evidence::TooYoung { get, puts } => {
-            let item = item_got(history, logged, *get);
+        Evidence::TooYoung { puts, .. } => {
             let said = ", which went in before, had not";
             push_older(text, history, logged, item, puts.as_slice(), said)
         }
-        Evidence::TakenTooSoon(get) => {
-            let item = item_got(history, logged, *get);
-            push_item(
-                text,
-                item,
-                " came out more often than it had gone in by then",
-            )
+        Evidence::TakenTooSoon(_) => {
+            let said = " came out more often than it had gone in by then";
+            push_item(text, item, said)
         }
-        Evidence::ItemsLeft(_) => {
-            text.push_str(
-                "a get found nothing, while some item had gone in more often than come out",
-            )?;
-            Ok(())
-        }
-        Evidence::OlderLeft { get, puts } => {
-            let item = item_got(history, logged, *get);
+        Evidence::ItemsLeft(_) => text.push_str(
+            "a get found nothing, while some item had gone in more often than come out",
+        ),
+        Evidence::OlderLeft { puts, .. } => {
             let said = ", which went in before, stayed";
             push_older(text, history, logged, item, puts.as_slice(), said)
         }

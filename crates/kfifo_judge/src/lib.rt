@@ -1,5 +1,5 @@
-//! What the program says of records and logs, as texts: the answers of `check` and `measure`, also over streams, and the
-//! verdicts of `judge` and `least` with their reasons.
+//! What the program says of records and logs, as texts: the answers of `check` and `measure`, also over streams, and
+//! the verdicts of `judge` and `least` with their reasons.
 #![tactic(auto)]
 
 mod beginning;

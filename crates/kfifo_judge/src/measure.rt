@@ -1,7 +1,8 @@
 //! What `measure` says of a record.
 ghost use Rattle.std.specs.Prelude.{ℕ, ◌≡◌, IfOk, MatchResult, length, string_bytes};
 ghost use Rattle.kfifo_model.specs.Measures.{IsDoneEnqueue, HasDistinctItems, measured};
-ghost use Rattle.kfifo_judge.specs.Measure.{overtaken_line, overtakings_text, IsMeasured, IsUnmeasured, IsMeasuringFault};
+ghost use Rattle.kfifo_judge.specs.Measure.{IsMeasured, IsMeasuringFault, IsUnmeasured};
+ghost use Rattle.kfifo_judge.specs.Measure.{overtaken_line, overtakings_text};
 
 use crate::record::{StreamFault, read_record};
 use kfifo_model::{History, MeasureFault, Overtaken, measure};

@@ -56,51 +56,40 @@ fn push_reason(
     ensures { OnOk result (string_bytes text.new
         ≡ string_bytes text.old ++ reason_text logged.now history.now found.now) }
 {
+    let call = found.call();
+    let item = item_got(history, logged, call);
     match found {
-        Evidence::NeverPut(get) => {
-            let item = item_got(history, logged, *get);
+        Evidence::NeverPut(_) => write!(
+            text,
+            "call {call} got item {item}, which no call before its end put"
+        ),
+        Evidence::TakenTwice(_) => write!(
+            text,
+            "call {call} got item {item}, which was taken more often than put"
+        ),
+        Evidence::NotEmpty { .. } => {
+            write!(text, "call {call} found nothing, while there were items")
+        }
+        Evidence::TooYoung { puts, .. } => {
+            let (count, words) = (puts.len(), older_words(puts.len()));
             write!(
                 text,
-                "call {get} got item {item}, which no call before its end put"
+                "call {call} got item {item}, while {count} {words} there"
             )
         }
-        Evidence::TakenTwice(get) => {
-            let item = item_got(history, logged, *get);
+        Evidence::TakenTooSoon(_) => write!(
+            text,
+            "call {call} got item {item}, when more gets of it had ended than puts had begun"
+        ),
+        Evidence::ItemsLeft(_) => write!(
+            text,
+            "call {call} found nothing, while some item had been put more often than taken"
+        ),
+        Evidence::OlderLeft { puts, .. } => {
+            let (count, words) = (puts.len(), older_words(puts.len()));
             write!(
                 text,
-                "call {get} got item {item}, which was taken more often than put"
-            )
-        }
-        Evidence::NotEmpty { empty, .. } => {
-            write!(text, "call {empty} found nothing, while there were items")
-        }
-        Evidence::TooYoung { get, puts } => {
-            let (item, count) = (item_got(history, logged, *get), puts.len());
-            let words = older_words(count);
-            write!(
-                text,
-                "call {get} got item {item}, while {count} {words} there"
-            )
-        }
-        Evidence::TakenTooSoon(get) => {
-            let item = item_got(history, logged, *get);
-            write!(
-                text,
-                "call {get} got item {item}, when more gets of it had ended than puts had begun"
-            )
-        }
-        Evidence::ItemsLeft(empty) => {
-            write!(
-                text,
-                "call {empty} found nothing, while some item had been put more often than taken"
-            )
-        }
-        Evidence::OlderLeft { get, puts } => {
-            let (item, count) = (item_got(history, logged, *get), puts.len());
-            let words = older_words(count);
-            write!(
-                text,
-                "call {get} got item {item}, though {count} {words} left"
+                "call {call} got item {item}, though {count} {words} left"
             )
         }
     }

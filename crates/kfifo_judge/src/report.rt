@@ -5,7 +5,7 @@ ghost use Rattle.serde_json.specs.View.{items_of, view};
 ghost use Rattle.serde_json.specs.Written.{compact_text, has_float};
 ghost use Rattle.kfifo_model.specs.RecordTexts.{line, whole};
 ghost use Rattle.kfifo_judge.specs.Reports as specs;
-ghost use Rattle.kfifo_judge.specs.Reports.{IsReport, report_text};
+ghost use Rattle.kfifo_judge.specs.Reports.{IsReport};
 
 use crate::headlines::{headline, kind_name, kind_number};
 use crate::judgement::{Judged, judged_text, outcome_of};
@@ -148,6 +148,16 @@ fn order_in(alloc: Global, show: bool, judgement: &Judgement) -> Result<Value, A
     }
 }
 
+/// After how many tries the search for an order gave up, or null where there is a verdict.
+fn tries_in(judgement: &Judgement) -> Value
+    ensures { view result ≡ specs.tries_in judgement.now }
+{
+    match judgement {
+        Judgement::Undecided(stuck) => Value::from(stuck.tries()),
+        Judgement::Legal(_) | Judgement::NoOrder(_) => Value::Null,
+    }
+}
+
 /// The verdict in words.
 fn status_of(judgement: &Judgement) -> &'static str
     ensures { result.now ≡ specs.status_of judgement.now }
@@ -205,19 +215,20 @@ fn report_value(
     let file = text_or_null(alloc, file)?;
     let least = least_in(alloc, judged.bounds)?;
     let order = order_in(alloc, show, judgement)?;
-    let status = status_of(judgement);
+    let (status, tries) = (status_of(judgement), tries_in(judgement));
     let (calls, left, text) = (history.calls().len(), judged.left, judged.text.as_str());
     json!(in alloc; {
         "calls": calls, "evidence": evidence, "file": file, "k": k, "least": least, "left": left, "order": order,
-            "status": status, "text": text
+            "status": status, "text": text, "tries": tries
     })
 }
 
 /// Returns a verdict on a history, for a queue that may give any of its k oldest items, 1 to 64, as one line of JSON:
 /// an object with the verdict (`status`), the text of `judge_text`, how many calls were judged and items left, and of
 /// `no order` the evidence, with its kind by number and name, a headline and the calls that it names, and the bounds of
-/// the least k where the text says them. What does not apply is null. `file` is the name of the file that was judged,
-/// null where there is none; `order` is there where it is to be shown. An error means that an allocation failed.
+/// the least k where the text says them, and of `undecided` after how many tries the search gave up. What does not
+/// apply is null. `file` is the name of the file that was judged, null where there is none; `order` is there where it is
+/// to be shown. An error means that an allocation failed.
 pub fn judge_report(
     alloc: Global,
     file: Option<&str>,
@@ -232,25 +243,9 @@ pub fn judge_report(
         IsReport name k show logged.now history.now (string_bytes a.0) a.1) }
 {
     let judged = judged_text(alloc, history, logged, k, tries, show)?;
-    let text = report_line(alloc, file, history, logged, k, show, &judged)?;
+    let value = report_value(alloc, file, history, logged, k, show, &judged)?;
+    let text = line_of(alloc, &value)?;
     Ok((text, outcome_of(&judged.judgement)))
-}
-
-/// The line of a verdict.
-fn report_line(
-    alloc: Global,
-    file: Option<&str>,
-    history: &History,
-    logged: &[LoggedCall],
-    k: u32,
-    show: bool,
-    judged: &Judged,
-) -> Result<String, AllocError>
-    ensures { let name = option_map (λ t. t.now) file.entry in IfOk result (λ text.
-        string_bytes text ≡ line (report_text name k show logged.now history.now judged.now)) }
-{
-    let value = report_value(alloc, file, history, logged, k, show, judged)?;
-    line_of(alloc, &value)
 }
 
 /// Returns the line of JSON for a file that has no verdict: an object with its name, the status `fault`, the fault, and

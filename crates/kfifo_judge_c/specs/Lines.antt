@@ -70,8 +70,8 @@ pub record IsLogOfCalls (calls : List LogCall) (h : List Call) (logged : List Lo
 abbrev pub IsFaultOfLines : List LogCall → ImportFault → Type 0
 IsFaultOfLines calls fault = (position is_unknown calls ≡ None) × HasFaultToJudge (lines_of calls) fault
 
--- Why the calls are no log: first of those that may be read one that is neither a put nor a get, then too many, and then
--- the first fault of the lines.
+-- Why the calls are no log: first of those that may be read one that is neither a put nor a get, then too many, and
+-- then the first fault of the lines.
 abbrev pub IsCallsFault : List LogCall → ImportFault → Type 0
 IsCallsFault calls (NotACall n) = (place : ℕ) × (position is_unknown calls ≡ Some place) × (place < MAX_LOG_CALLS)
     × (n ≡ place + 2)

@@ -9,6 +9,7 @@ use Rattle.kfifo_model.specs.declared.logged.LoggedCall.{LoggedCall}
 use Rattle.kfifo_verdict.specs.declared.verdicts.Bounds.{Bounds}
 use Rattle.kfifo_verdict.specs.declared.verdicts.Judgement.{Judgement}
 use Rattle.kfifo_verdict.specs.declared.verdicts.Judgement.TheVariants.{Legal, NoOrder, Undecided}
+use Rattle.kfifo_verdict.specs.Judging.{tries_made}
 use Rattle.kfifo_judge.specs.declared.judgement.Judged.{Judged}
 use Rattle.kfifo_judge.specs.Bounds.{HasBounds, HasNoLeast}
 use Rattle.kfifo_judge.specs.Headlines.{headline_text, kind_number}
@@ -29,6 +30,7 @@ HasNoBounds r = (r.at_least ≡ 0) × (r.at_most ≡ 0)
 -- the report has no reason and counts nothing: it is none of a verdict
 abbrev pub HasNoReason : Report → Type 0
 HasNoReason r = (r.kind ≡ 0) × (string_bytes r.headline ≡ []) × (r.named.items ≡ []) × (r.calls ≡ 0) × (r.left ≡ 0)
+    × (r.tries ≡ 0)
 
 -- As much of a list as there is room for is written over what was there.
 abbrev pub Writes : {A : Type 0} → List A → List A → List A → Type 0
@@ -44,6 +46,7 @@ found_of r = record {
   calls = r.calls;
   left = r.left;
   at_least = r.at_least;
+  tries = r.tries;
   at_most = r.at_most;
   fault = r.fault;
   kind = r.kind;
@@ -82,6 +85,12 @@ judgement_headline logged h (Legal order) = []
 judgement_headline logged h (NoOrder found) = headline_text logged h found
 judgement_headline logged h (Undecided stuck) = []
 
+-- after how many tries the search for an order gave up, 0 where there is a verdict
+abbrev pub judgement_tries : Judgement → ℕ
+judgement_tries (Legal order) = 0
+judgement_tries (NoOrder found) = 0
+judgement_tries (Undecided stuck) = tries_made stuck
+
 -- the bounds of the least k as two numbers, 0 where there are none
 abbrev pub bound_numbers : Option Bounds → ℕ × ℕ
 bound_numbers (Some bounds) = (bounds.at_least, unwrap_or bounds.at_most 0)
@@ -119,6 +128,7 @@ pub record IsVerdictOn (k : ℕ) (h : List Call) (logged : List LoggedCall) (r :
   pub headline_is : string_bytes r.headline ≡ judgement_headline logged h judged.judgement
   pub named_are : r.named.items ≡ calls_named logged h (named_in h judged.judgement)
   pub counts : (r.calls ≡ length h) × (r.left ≡ judged.left)
+  pub tries_are : r.tries ≡ judgement_tries judged.judgement
   pub no_fault : (r.fault ≡ 0) × (r.place ≡ 0)
   pub bounds : (r.at_least, r.at_most) ≡ bound_numbers judged.bounds
 

@@ -7,8 +7,8 @@ use Rattle.kfifo_import.specs.declared.log.ImportFault.{ImportFault}
 use Rattle.kfifo_model.specs.declared.logged.LoggedCall.{LoggedCall}
 use Rattle.kfifo_import.specs.Foreign.{IsJudgedLog, IsUnjudged}
 use Rattle.kfifo_judge.specs.declared.record.StreamFault.{StreamFault}
-use Rattle.kfifo_judge.specs.declared.record.StreamFault.TheVariants.{Input, NotJson, Record, Search, RepeatedItem, Memory}
-use Rattle.kfifo_judge.specs.declared.record.StreamFault.TheVariants.{Output}
+use Rattle.kfifo_judge.specs.declared.record.StreamFault.TheVariants.{Input, NotJson, Record, Search, RepeatedItem}
+use Rattle.kfifo_judge.specs.declared.record.StreamFault.TheVariants.{Memory, Output}
 use Rattle.kfifo_judge.specs.Inputs.{BeginsRecord}
 use Rattle.kfifo_model.specs.RecordTexts.{IsRecordText}
 use Rattle.kfifo_judge.specs.TextFaults.{IsTextFault}

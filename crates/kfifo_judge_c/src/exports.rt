@@ -1,5 +1,5 @@
-//! The calls of C. Each takes what it reads and writes as slices, and says how much there is to write: where there is not
-//! room for it all, the caller makes room and calls again.
+//! The calls of C. Each takes what it reads and writes as slices, and says how much there is to write: where there is
+//! not room for it all, the caller makes room and calls again.
 ghost use Rattle.std.specs.Prelude.{◌↔◌, ⊤, IsTrue};
 ghost use Rattle.kfifo_judge_c.specs.Pictures.{IsPictureOn};
 ghost use Rattle.kfifo_judge_c.specs.Reports.{Answers, IsFoundOf, IsK, IsLeastOn, IsVerdictOn};

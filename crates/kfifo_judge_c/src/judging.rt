@@ -3,6 +3,7 @@ ghost use Rattle.std.specs.Prelude.{◌≡◌, ◌≤◌, IfOk, string_bytes};
 ghost use Rattle.kfifo_judge_c.specs.Reports.{IsFaultReport, IsFoundOf, IsK, IsLeastOn, IsVerdictOn, fault_line};
 ghost use Rattle.kfifo_judge_c.specs.Reports as specs;
 ghost use Rattle.kfifo_judge_c.specs.Reports.{bound_numbers, fault_number, judgement_headline, judgement_kind};
+ghost use Rattle.kfifo_judge_c.specs.Reports.{judgement_tries};
 
 use crate::calls::{LogCall, log_from};
 use crate::named::calls_named;
@@ -96,6 +97,16 @@ fn headline_of(
     }
 }
 
+/// After how many tries the search for an order gave up, 0 where there is a verdict.
+fn tries_of(judgement: &Judgement) -> u64
+    ensures { result ≡ judgement_tries judgement.now }
+{
+    match judgement {
+        Judgement::Undecided(stuck) => stuck.tries(),
+        Judgement::Legal(_) | Judgement::NoOrder(_) => 0,
+    }
+}
+
 /// Bounds of the least k as two numbers, 0 where there are none.
 fn bound_numbers(bounds: Option<Bounds>) -> (usize, u32)
     ensures { result ≡ bound_numbers bounds }
@@ -132,6 +143,7 @@ pub(crate) fn verdict_on(
         left: judged.left,
         at_least,
         at_most,
+        tries: tries_of(judgement),
         text: judged.text,
     })
 }

@@ -31,6 +31,8 @@ pub struct Report {
     pub at_least: usize,
     /// The least k is no greater, or 0.
     pub at_most: u32,
+    /// After how many tries the search for an order gave up, or 0.
+    pub tries: u64,
 }
 
 /// The numbers of a report, as C has them.
@@ -51,6 +53,8 @@ pub struct Found {
     pub left: usize,
     /// The least k is no less, or 0.
     pub at_least: usize,
+    /// After how many tries the search for an order gave up, or 0.
+    pub tries: u64,
     /// The least k is no greater, or 0.
     pub at_most: u32,
     /// The number of a fault, or 0.
@@ -77,6 +81,7 @@ impl Report {
             left: 0,
             at_least: 0,
             at_most: 0,
+            tries: 0,
         }
     }
 
@@ -102,6 +107,7 @@ impl Report {
             calls: self.calls,
             left: self.left,
             at_least: self.at_least,
+            tries: self.tries,
             at_most: self.at_most,
             fault: self.fault,
             kind: self.kind,

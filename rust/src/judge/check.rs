@@ -263,8 +263,9 @@ impl<Q: Send + Sync + 'static, H: 'static> Check<Q, H> {
             Ok(Verdict::NoOrder { text, reason, .. }) => {
                 self.fail(Outcome::NoOrder { text, reason }, design, calls)
             }
-            Ok(Verdict::Undecided { text, .. }) => {
+            Ok(Verdict::Undecided { text, tries, .. }) => {
                 self.report.undecided += 1;
+                self.report.tries = self.report.tries.max(tries);
                 if self.options.undecided_fails {
                     self.fail(Outcome::Undecided { text }, design, calls);
                 }
@@ -320,13 +321,13 @@ impl<Q: Send + Sync + 'static, H: 'static> Check<Q, H> {
             name,
             rounds,
             calls,
-            undecided,
             ..
         } = &self.report;
+        let undecided = self.report.undecided_rounds();
         // Not with `eprint!`, which a test's output is caught of. What the terminal says of it does not matter.
         let _ = write!(
             stderr(),
-            "\r{name}: {rounds} rounds, {calls} calls, {share} % overlapping, {undecided} undecided "
+            "\r{name}: {rounds} rounds, {calls} calls, {share} % overlapping, {undecided} "
         );
     }
 

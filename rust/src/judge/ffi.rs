@@ -45,6 +45,7 @@ pub(super) struct Report {
     pub(super) left: usize,
     pub(super) at_least: usize,
     pub(super) at_most: u32,
+    pub(super) tries: u64,
 }
 
 impl Report {
@@ -64,6 +65,7 @@ impl Report {
             left: 0,
             at_least: 0,
             at_most: 0,
+            tries: 0,
         }
     }
 }

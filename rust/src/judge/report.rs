@@ -65,7 +65,7 @@ pub struct Report {
     pub overlapping: f64,
     /// How many rounds had neither an order nor a reason against each.
     pub undecided: u64,
-    /// How many choices the search for an order could take back in a round, from the options.
+    /// After how many tries the search gave up in these rounds at most.
     pub tries: u64,
     /// Where k is over 1: the greatest lower and the greatest upper bound of the least k, over the rounds of a sample
     /// that had both.
@@ -93,7 +93,7 @@ impl Report {
             taken: 0,
             overlapping: 0.0,
             undecided: 0,
-            tries: options.tries,
+            tries: 0,
             least: None,
             seed,
             failed_round: None,
@@ -106,6 +106,14 @@ impl Report {
     /// Whether no fault was found.
     pub fn has_passed(&self) -> bool {
         self.outcome == Outcome::Passed
+    }
+
+    /// How many rounds have no verdict, and after how many tries the search gave up in them at most.
+    pub(super) fn undecided_rounds(&self) -> String {
+        match self.undecided {
+            0 => String::from("0 undecided"),
+            count => format!("{count} undecided after at most {} tries each", self.tries),
+        }
     }
 
     /// Notes the round that failed.
@@ -208,11 +216,7 @@ impl Display for Report {
             "{} rounds, {} calls, {share:.0} % overlapping",
             self.rounds, self.calls
         )?;
-        write!(f, ", {} undecided", self.undecided)?;
-        if self.undecided > 0 {
-            write!(f, " after at most {} tries each", self.tries)?;
-        }
-        write!(f, ", seed {}", self.seed)?;
+        write!(f, ", {}, seed {}", self.undecided_rounds(), self.seed)?;
         if let Some((at_least, at_most)) = self.least {
             write!(
                 f,

@@ -148,6 +148,8 @@ pub enum Verdict {
         text: String,
         /// How many calls there are, and how many items are left at their end.
         counts: Counts,
+        /// After how many tries the search gave up: so many choices it took back.
+        tries: u64,
     },
 }
 
@@ -366,7 +368,14 @@ fn verdict_of(status: u32, report: &ffi::Report) -> Result<Verdict, Fault> {
                 reason,
             })
         }
-        ffi::UNDECIDED => Ok(Verdict::Undecided { text, counts }),
+        ffi::UNDECIDED => {
+            let tries = report.tries;
+            Ok(Verdict::Undecided {
+                text,
+                counts,
+                tries,
+            })
+        }
         _ => Err(fault_of(status, report)),
     }
 }

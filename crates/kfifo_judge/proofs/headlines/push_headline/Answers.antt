@@ -1,5 +1,7 @@
 use Rattle.std.proofs.Common.{ℕ, ◌≡◌, ◌++◌, ◌∙◌, List, OnOk, ap, append_assoc, codes, string_bytes}
+use Rattle.kfifo_verdict.specs.Naming.{call_in}
 use Rattle.kfifo_judge.specs.Headlines.{items_text}
+use Rattle.kfifo_judge.specs.Reasons.{got_item}
 use Rattle.kfifo_judge.proofs.Texts.{on_ok}
 use Rattle.kfifo_judge.proofs.headlines.push_headline.Goals as goal
 
@@ -17,10 +19,12 @@ returns-in_ok-push_str-in-NotEmpty c =
 
 pub returns-in-TooYoung : goal.returns-in-TooYoung
 returns-in-TooYoung c =
-    rw (c.in-TooYoung.is, ← c.item_got-item-in-TooYoung.ensures, ← c.as_slice-in-TooYoung.ensures.value)
-    c.push_older.ensures
+    let got : c.item_got-item.result ≡ got_item c.args.logged.now c.args.history.now c.in-TooYoung.get =
+    c.item_got-item.ensures ∙ ap (got_item c.args.logged.now c.args.history.now) (c.call.ensures ∙ ap call_in c.in-TooYoung.is) in
+    rw (c.in-TooYoung.is, ← got, ← c.as_slice-in-TooYoung.ensures.value) c.push_older.ensures
 
 pub returns-in-OlderLeft : goal.returns-in-OlderLeft
 returns-in-OlderLeft c =
-    rw (c.in-OlderLeft.is, ← c.item_got-item-in-OlderLeft.ensures, ← c.as_slice-in-OlderLeft.ensures.value)
-    c.push_older-in-OlderLeft.ensures
+    let got : c.item_got-item.result ≡ got_item c.args.logged.now c.args.history.now c.in-OlderLeft.get =
+    c.item_got-item.ensures ∙ ap (got_item c.args.logged.now c.args.history.now) (c.call.ensures ∙ ap call_in c.in-OlderLeft.is) in
+    rw (c.in-OlderLeft.is, ← got, ← c.as_slice-in-OlderLeft.ensures.value) c.push_older-in-OlderLeft.ensures

@@ -14,6 +14,7 @@ returns c = record {
   named_are = c.in_ok-calls_named.ensures
       ∙ ap (calls_named c.args.logged.now c.args.history.now) (c.as_slice.ensures.value ∙ c.in_ok-numbers.ensures);
   counts = (ap (λ (calls : List Call). length calls) c.calls.ensures.calls, refl);
+  tries_are = c.tries_of.ensures;
   no_fault = (refl, refl);
   bounds = c.bound_numbers-at_least.ensures;
 }
