@@ -1,5 +1,5 @@
 -- The passes are those of the opening, each as one of a plain queue.
-use Rattle.std.proofs.Common.{◌≡◌, All, List, map, ap, sym, subst, ◌∙◌}
+use Rattle.std.proofs.Common.{◌≡◌, All, List, ap, sym, subst, ◌∙◌}
 use Rattle.std.proofs.lemmas.List.Elements.{All-map}
 use Rattle.kfifo_live.specs.Pass.{OpenQueue, PassView, IsPassOf, queue_of}
 use Rattle.kfifo_live.specs.Payloads.{PayPassView}
