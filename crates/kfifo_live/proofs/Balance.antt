@@ -9,7 +9,6 @@ use Rattle.std.proofs.lemmas.List.{get_or-set_other}
 use Rattle.kfifo_live.proofs.Types.{Begin, EnqueuePhase, Event, Next, Opening, Running, Shape}
 use Rattle.kfifo_words.specs.Words.{value_of}
 use Rattle.kfifo_words.specs.Ring.{clock_at}
-use Rattle.kfifo_machine.specs.declared.event.Begin.TheVariants as B
 use Rattle.kfifo_machine.specs.declared.event.Outcome.{Outcome}
 use Rattle.kfifo_machine.specs.declared.place.Found.TheVariants.{Slot}
 use Rattle.kfifo_machine.specs.declared.place.EnqueuePhase.TheVariants as E

@@ -20,6 +20,7 @@ pub mod Shuffles
 pub mod Stamping
 pub mod Threads
 pub mod Records
+pub mod ClosedEmpty
 pub mod Gathered
 pub mod Leftovers
 pub mod Leavings

@@ -1,5 +1,5 @@
 -- A seal that an idle thread tries keeps the rule: there is still one schedule.
-use Rattle.std.proofs.Common.{◌≡◌, ◌≢◌, ◌⊎◌, ℕ, ◌+◌, ◌-◌, ◌<◌, List, [], ◌∷◌, ◌++◌, length, set, get_or, Option, Some, None, Ok, Err, Bool, true}
+use Rattle.std.proofs.Common.{◌≡◌, ◌⊎◌, ℕ, ◌-◌, ◌<◌, List, [], ◌∷◌, ◌++◌, length, set, Option, Some, None, Ok, Err, Bool, true}
 use Rattle.std.proofs.Common.{false, refl, sym, ap, ◌∙◌, subst, inl, inr, arith, cond, eqb-true}
 use Rattle.std.specs.Prelude.{slice_index, slice_set, ◌==◌}
 use Rattle.std.proofs.lemmas.List.{append-nil, set-get_or}
@@ -15,7 +15,7 @@ use Rattle.kfifo_machine.specs.declared.event.Outcome.TheVariants.{Went}
 use Rattle.kfifo_machine.specs.declared.event.NotEnabled.TheVariants.{NoSuchThread, NotSealable}
 use Rattle.kfifo_machine.specs.Program.{sealed_word}
 use Rattle.kfifo_machine.specs.Machine.{World, opening, may_seal, sealed, word_at, place_of, world_of, step, step_from, run}
-use Rattle.kfifo_machine.specs.Runs.{event, own}
+use Rattle.kfifo_machine.specs.Runs.{event}
 use Rattle.kfifo_machine.proofs.Schedules.{run_on, same_place, still_threads}
 use Rattle.kfifo_machine.proofs.Sound.{IsSound, place_is, sound}
 use Rattle.kfifo_machine.proofs.Versions.{sealable, sealed-ends, sealed-other, sealed-same}

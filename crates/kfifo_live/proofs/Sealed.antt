@@ -1,27 +1,25 @@
 -- A pass that has tried to seal is still in no call, and what it then knows.
-use Rattle.std.proofs.Common.{◌≡◌, ◌≢◌, ℕ, ◌+◌, ◌<◌, ◌≤◌, List, [], ◌∷◌, ◌++◌, length, Option, Some, None, Ok, Bool, true, false, refl}
+use Rattle.std.proofs.Common.{◌≡◌, ℕ, ◌≤◌, List, [], ◌∷◌, ◌++◌, length, Option, Some, None, Bool, true, false, refl}
 use Rattle.std.proofs.Common.{sym, ap, ◌∙◌, subst, inl, inr, arith, cond, eq-eqb, append_assoc}
 use Rattle.std.specs.Prelude.{◌==◌}
 use Rattle.std.proofs.lemmas.List.{append-nil}
 use Rattle.atomic_table.specs.Table.{Me}
-use Rattle.kfifo_live.proofs.Types.{Begin, Event, Hand, Opening, Part, Shape, View}
+use Rattle.kfifo_live.proofs.Types.{Begin, Event, Opening, Shape, View}
 use Rattle.kfifo_words.specs.Words.{head_of, tail_of, version_of}
 use Rattle.kfifo_model.specs.declared.calls.Answer.TheVariants.{Empty}
 use Rattle.kfifo_machine.specs.declared.event.Begin.TheVariants.{Seal}
-use Rattle.kfifo_machine.specs.declared.event.Outcome.TheVariants.{Ended}
-use Rattle.kfifo_machine.specs.Machine.{World, opening, place_of, run, step, word_at, world_of}
-use Rattle.kfifo_machine.specs.Runs.{Begins, CompleteExecution, event, own}
-use Rattle.kfifo_machine.proofs.Schedules.{Some-injective, first_made, own-append, run_before, run_on, same_place, stepped, still_threads}
+use Rattle.kfifo_machine.specs.Machine.{World, opening, place_of, run, word_at}
+use Rattle.kfifo_machine.specs.Runs.{Begins, CompleteExecution, event}
+use Rattle.kfifo_machine.proofs.Schedules.{Some-injective, first_made, run_on, same_place, stepped, still_threads}
 use Rattle.kfifo_machine.proofs.Sound.{IsSound, sound}
 use Rattle.kfifo_machine.proofs.Versions.{no_going_seal, run_rises, sealable, sealed-ends, sealed-same}
-use Rattle.kfifo_linear.specs.Seals.{IsSealed, FoundEmpty, AllSeal, SealedEmpty}
+use Rattle.kfifo_linear.specs.Seals.{IsSealed, SealedEmpty}
 use Rattle.kfifo_linear.proofs.Seals.{run_stands}
-use Rattle.kfifo_live.specs.Hands.{Gifts}
 use Rattle.kfifo_live.specs.Schedule.{part, view_of, world_after, thread_of, seen_of, gifts_of, hand_of, with_seen}
 use Rattle.kfifo_live.specs.Step.{IsAt, TriesSeal}
 use Rattle.kfifo_live.specs.Pass.{IsPass}
 use Rattle.kfifo_live.specs.Seals.{SealsFrom}
-use Rattle.kfifo_live.proofs.Passes.{alone_with, few_same, pass_thread}
+use Rattle.kfifo_live.proofs.Passes.{alone_with, few_same}
 
 -- a seal, or none, leaves the threads where they were
 seal_stays : (shape : Shape) (here end : World) (t : ℕ) (b : Bool) (seal : List Event) → seal ≡ cond b (event t (Some Seal) ∷ []) []

@@ -1,10 +1,11 @@
 -- A queue and its passes, as callers see them.
-use Rattle.std.specs.Prelude.{◌<◌, ◌≡◌, ℕ, zero, suc, List, [], ◌∷◌, Option, Some, None, ◌+◌, ◌++◌, length, true, ◌==◌}
+use Rattle.std.specs.Prelude.{◌<◌, ◌≡◌, ◌⊎◌, ℕ, zero, suc, List, [], ◌∷◌, Option, Some, None, ◌+◌, ◌++◌, length, true, ◌==◌}
 use Rattle.std.specs.List.{list_any}
 use Rattle.atomic_table.specs.Table.{Me}
 use Rattle.atomic_table.specs.Seated.{TableId}
 use Rattle.kfifo_machine.specs.declared.event.Event.{Event}
-use Rattle.kfifo_machine.specs.Machine.{World, word_at}
+use Rattle.kfifo_machine.specs.Machine.{World, word_at, place_of}
+use Rattle.kfifo_linear.specs.Seals.{SealedEmpty}
 use Rattle.kfifo_machine.specs.Runs.{Begins}
 use Rattle.kfifo_live.specs.declared.view.Opening.{Opening}
 use Rattle.kfifo_live.specs.declared.view.View.{View}
@@ -83,15 +84,30 @@ pub record IsComplete (threads : ℕ) (ps : List PassView) : Type 0 where
   pub count : length ps ≡ threads
   pub each : (thread : ℕ) → thread < threads → list_any (λ p. p.thread == thread) ps ≡ true
 
+-- after what each of these passes of an opening has seen its thread is in no call
+abbrev pub AllIdle : Opening → List PassView → Type 0
+AllIdle o [] = Unit {0}
+AllIdle o (p ∷ ps) = ((here : World) → world_after o p.seen ≡ Some here → place_of here p.thread ≡ None) × AllIdle o ps
+
+-- what a pass has seen leaves its queue sealed empty; and so it is with one of these passes of an opening
+abbrev pub IsSealedEmpty : PassView → Type 0
+IsSealedEmpty p = SealedEmpty p.opened.shape p.opened.threads p.seen
+
+abbrev pub OneSealedEmpty : Opening → List PassView → Type 0
+OneSealedEmpty o [] = ⊥
+OneSealedEmpty o (p ∷ ps) = SealedEmpty o.shape o.threads p.seen ⊎ OneSealedEmpty o ps
+
 -- the view w has the parts of v and what these passes saw: whatever schedule all parts of w agree with, the parts of v
 -- and each of these passes agree with it too
 pub record IsJoined {T : Type 0} (v : View T) (ps : List PassView) (w : View T) : Type 0 where
   pub opened : w.opened ≡ v.opened
   pub all_seen : (all : List Event) → AllBegin w.parts all → AllBegin v.parts all × AllSeen ps all
+  pub all_idle : AllIdle v.opened ps
 
 -- What is left at the end: there is one schedule, a beginning of which each pass has seen with all its own events, and
--- the items are the ones in the filled slots after it. No item is lost and none comes twice: the items put in that
--- schedule are the ones undone, the ones taken and the ones left, each as often. And that schedule keeps the promise
+-- the items are the ones in the filled slots after it, none where a pass saw the queue sealed empty. No item is lost and
+-- none comes twice: the items put in that schedule are the ones undone, the ones taken and the ones left, each as often.
+-- And that schedule keeps the promise
 pub record Closes (q : OpenQueue) (ps : List PassView) (items : List ℕ) : Type 0 where
   pub all : List Event
   pub world : World
@@ -101,3 +117,4 @@ pub record Closes (q : OpenQueue) (ps : List PassView) (items : List ℕ) : Type
   pub balance : (item : ℕ) → puts item q.opened all
       ≡ undos item q.opened all + (takes item q.opened all + times item items)
   pub promise : KeepsPromise q.opened all
+  pub sealed : OneSealedEmpty q.opened ps → items ≡ []

@@ -5,7 +5,7 @@ use Rattle.kfifo_machine.specs.declared.event.Begin.TheVariants.{Dequeue}
 use Rattle.kfifo_machine.specs.declared.event.Event.{Event}
 use Rattle.kfifo_machine.specs.Machine.{World, word_at}
 use Rattle.kfifo_machine.specs.Runs.{Begins}
-use Rattle.kfifo_linear.specs.Seals.{IsSealed, AllSeal, SealedEmpty}
+use Rattle.kfifo_linear.specs.Seals.{IsSealed, AllSeal}
 use Rattle.kfifo_live.specs.declared.view.Opening.{Opening}
 use Rattle.kfifo_live.specs.Schedule.{world_after}
 use Rattle.kfifo_live.specs.Calls.{MakesCall}
@@ -35,10 +35,6 @@ pub record SealsFrom (o : Opening) (ends : ℕ) (seen all : List Event) : Type 0
   pub word_is : word_at here 0 ≡ ends
   pub ends_at : world_after o all ≡ Some end
   pub sealed : IsSealed o.shape (word_at end 0)
-
--- what the pass has seen leaves its queue sealed empty
-abbrev pub IsSealedEmpty : PassView → Type 0
-IsSealedEmpty p = SealedEmpty p.opened.shape p.opened.threads p.seen
 
 -- The pass looked at the ends, made one dequeue with this answer, and has then seen events of others alone
 pub record Dequeues (start turns : ℕ) (answer : Answer) (old new : PassView) : Type 0 where

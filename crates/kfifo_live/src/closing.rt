@@ -141,8 +141,9 @@ pub(crate) fn close_table(
 
 /// Closes a queue and returns the items that are left, if each pass of the opening is given back: segment by segment
 /// from the head's round the ring, within a segment by slot number. Each item is among them as often as it was put,
-/// less how often it was undone and taken. The one schedule of all calls of the queue keeps its promise: a legal order
-/// of them, in which no item is overtaken k times where items are distinct.
+/// less how often it was undone and taken. None is left where a pass saw the queue sealed empty. The one schedule of all
+/// calls of the queue keeps its promise: a legal order of them, in which no item is overtaken k times where items are
+/// distinct.
 ///
 /// ```rust
 /// let left = close(alloc, queue, vec![in alloc; pass]?)?; // the items that are left

@@ -1,8 +1,8 @@
 //! Sealing a queue that was found empty.
 ghost use Rattle.std.specs.Prelude.{◌≡◌, ◌<◌, ◌≤◌, true, false};
 ghost use Rattle.kfifo_machine.specs.Runs.{Begins};
-ghost use Rattle.kfifo_live.specs.Pass.{IsPassOf, IsSamePass, PassKeepsPromise};
-ghost use Rattle.kfifo_live.specs.Seals.{Dequeues, IsSealedEmpty, SealsFrom, WasSeen};
+ghost use Rattle.kfifo_live.specs.Pass.{IsPassOf, IsSamePass, IsSealedEmpty, PassKeepsPromise};
+ghost use Rattle.kfifo_live.specs.Seals.{Dequeues, SealsFrom, WasSeen};
 ghost use Rattle.kfifo_model.specs.declared.calls.Answer.{Answer};
 
 use crate::queue::{Pass, Queue};

@@ -1,12 +1,12 @@
 use Rattle.std.proofs.Common.{◌<◌, ◌≤◌, All, Some, List, ap, sym, ◌∙◌, subst, arith}
 use Rattle.std.proofs.lemmas.List.Elements.{All-pop}
-use Rattle.kfifo_live.specs.Pass.{OpenQueue, PassView, queue_of, IsPassOf}
+use Rattle.kfifo_live.specs.Pass.{OpenQueue, PassView, queue_of, IsComplete, IsPassOf}
 use Rattle.core.specs.Mem.Slots.{slots_items}
 use Rattle.kfifo_live.specs.Left.{items_left}
 use Rattle.std.proofs.Common.{ℕ, get_or, refl}
 use Rattle.kfifo_words.specs.Words.{head_of}
 use Rattle.kfifo_live.proofs.Types.{Opening, Shape}
-use Rattle.kfifo_live.proofs.Gathered.{closes, pass_begins, final_head}
+use Rattle.kfifo_live.proofs.Gathered.{closes, pass_begins, pass_idle, final_head}
 use Rattle.kfifo_live.proofs.closing.close_table.Goals as goal
 
 pub join_all-seat-requires-clause-table : goal.join_all-seat-requires-clause-table
@@ -40,6 +40,10 @@ returns-clause-ok c =
     refl
     c.in-Some.ensures.items
     c.join_all-seat.ensures.all
+    (subst (λ (x : ℕ × List PassView). IsComplete x.0 x.1) (λ k. (c.requires.key.1 k, c.as_slice.ensures.value k))
+    (c.is_complete.ensures.0 c.if-not-is_complete.false))
+    (pass_idle q.opened _ c.last.inside.seat.me c.in-Some.last c.last.invariant (ap (λ (k : PassView). k.opened) c.last.view_is ∙ of.1.1)
+    (sym (ap (λ (k : PassView). k.thread) c.last.view_is)) (sym (ap (λ (k : PassView). k.seen) c.last.view_is)))
     (λ all b. pass_begins _ c.last.inside.seat.me c.in-Some.last all c.last.invariant (sym (ap (λ (k : PassView). k.thread) c.last.view_is))
     (sym (ap (λ (k : PassView). k.seen) c.last.view_is)) b)
     few

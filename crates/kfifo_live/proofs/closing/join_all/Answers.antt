@@ -2,8 +2,8 @@ use Rattle.std.proofs.Common.{Some, List, ap, sym, ◌∙◌, subst}
 use Rattle.std.proofs.lemmas.List.Elements.{All-pop}
 use Rattle.kfifo_live.proofs.Types.{Part}
 use Rattle.kfifo_live.specs.Schedule.{AllBegin}
-use Rattle.kfifo_live.specs.Pass.{PassView, queue_of, AllSeen, IsPassOf}
-use Rattle.kfifo_live.proofs.Gathered.{all_seen_push, all_begin_parts, pass_begins}
+use Rattle.kfifo_live.specs.Pass.{PassView, queue_of, AllIdle, AllSeen, IsPassOf}
+use Rattle.kfifo_live.proofs.Gathered.{all_idle_push, all_seen_push, pass_idle, all_begin_parts, pass_begins}
 use Rattle.kfifo_live.proofs.closing.join_all.Goals as goal
 
 pub join_seats-requires-clause-other : goal.join_seats-requires-clause-other
@@ -26,4 +26,10 @@ loop-pass-preserved c =
           let begins = pass_begins _ c.pass.inside.seat.me c.in-Some.pass all c.pass.invariant
           (sym (ap (λ (k : PassView). k.thread) c.pass.view_is)) (sym (ap (λ (k : PassView). k.seen) c.pass.view_is)) parts.1 in
           i.covers all parts.0 (subst (λ (ps : List PassView). AllSeen ps all) (sym items) (all_seen_push _ _ all s begins));
+      idle = λ others.
+          let o = c.args.seat.me.0.opened in
+          let mine = pass_idle o _ c.pass.inside.seat.me c.in-Some.pass c.pass.invariant
+          (ap (λ (k : PassView). k.opened) c.pass.view_is ∙ of.1.1)
+          (sym (ap (λ (k : PassView). k.thread) c.pass.view_is)) (sym (ap (λ (k : PassView). k.seen) c.pass.view_is)) in
+          i.idle (subst (AllIdle o) (sym items) (all_idle_push o _ _ others mine));
     }

@@ -1,10 +1,9 @@
 -- The seal is tried by an idle thread, with the word that a seal leaves.
-use Rattle.std.proofs.Common.{◌≡◌, ◌∙◌, sym, cond, true}
+use Rattle.std.proofs.Common.{◌≡◌, ◌∙◌, sym, true}
 use Rattle.std.specs.Prelude.{◌==◌}
 use Rattle.kfifo_words.specs.Words.{ends_word}
 use Rattle.kfifo_machine.specs.Program.{sealed_word}
 use Rattle.kfifo_machine.specs.Machine.{may_seal}
-use Rattle.kfifo_live.specs.Step.{TriesSeal}
 use Rattle.kfifo_live.proofs.Keeps.{either-cond}
 use Rattle.kfifo_live.proofs.SealSteps.{seals}
 use Rattle.kfifo_live.proofs.seats.try_seal.Goals as goal

@@ -1,8 +1,7 @@
 -- Where the ends stand sealed, or the seal was won, they are sealed; else others' events came alone.
-use Rattle.std.proofs.Common.{◌≡◌, ◌≤◌, ◌∙◌, sym, ap, subst, true, arith, eqb-true}
+use Rattle.std.proofs.Common.{◌≡◌, ◌≤◌, ◌∙◌, sym, ap, subst, arith, eqb-true}
 use Rattle.kfifo_words.specs.Words.{head_of, tail_of, version_of}
 use Rattle.kfifo_machine.proofs.Sound.{sound_ends}
-use Rattle.kfifo_linear.specs.Seals.{IsSealed}
 use Rattle.kfifo_machine.specs.Machine.{word_at}
 use Rattle.kfifo_live.proofs.Types.{Opening, Shape}
 use Rattle.kfifo_live.specs.Schedule.{seen_of}
