@@ -144,6 +144,6 @@ int main(int count, char **words) {
         if (is_half) give_and_take(pass);
         if (!is_half && take(pass)) fail("the queue is not empty");
     }
-    kfifo_abandon_values(passes, handles);
+    if (kfifo_abandon_values(passes, handles) != KFIFO_DONE) fail("the handles were not closed");
     return 0;
 }

@@ -271,9 +271,9 @@ template <typename Pass, bool looks> struct KfifoInC {
     }
     ~KfifoInC() {
         if constexpr (of_items)
-            kfifo_abandon(passes.data(), passes.size());
+            (void)kfifo_abandon(passes.data(), passes.size());
         else
-            kfifo_abandon_values(passes.data(), passes.size());
+            (void)kfifo_abandon_values(passes.data(), passes.size());
     }
     bool push(std::size_t thread, std::uint32_t item) {
         Pass *pass = &passes[thread];

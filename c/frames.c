@@ -3,6 +3,7 @@
 #include "kfifo_wait.h"
 #include <pthread.h>
 #include <stdio.h>
+#include <stdlib.h>
 #include <string.h>
 
 enum { FRAMES = 20000, SIZE = 256, K = 1, SEGMENTS = 8, TOKENS = 4, SIDES = 2 };
@@ -34,7 +35,7 @@ static void *camera(void *nothing) {
         camera_end = kfifo_publish_wait(&to->passes[0], &to->waits, KFIFO_FOREVER);
         if (camera_end != KFIFO_DONE) break; /* the cell is still reserved */
     }
-    kfifo_finish(&to->waits);
+    if (kfifo_finish(&to->waits) != KFIFO_DONE) abort();
     return nothing;
 }
 
@@ -51,11 +52,11 @@ static void *filter(void *nothing) {
         for (int i = 0; i < SIZE; i++) out->pixels[i] = (unsigned char)(2 * in->pixels[i]);
         filter_end = kfifo_publish_wait(&to->passes[0], &to->waits, KFIFO_FOREVER);
         if (filter_end != KFIFO_DONE) break;
-        kfifo_try_release(&from->passes[1], &from->waits); /* the camera may fill it anew */
+        if (kfifo_try_release(&from->passes[1], &from->waits) != KFIFO_DONE) abort(); /* the camera may fill it anew */
     }
     /* The others end too, whatever ended this one. */
-    kfifo_finish(&from->waits);
-    kfifo_finish(&to->waits);
+    if (kfifo_finish(&from->waits) != KFIFO_DONE) abort();
+    if (kfifo_finish(&to->waits) != KFIFO_DONE) abort();
     return nothing;
 }
 
@@ -67,7 +68,7 @@ static void *screen(void *nothing) {
         shown++;
         wrong += frame->number != shown || frame->pixels[SIZE - 1] != (unsigned char)(2 * (shown & 0x7f));
     }
-    kfifo_finish(&from->waits);
+    if (kfifo_finish(&from->waits) != KFIFO_DONE) abort();
     return nothing;
 }
 
@@ -83,8 +84,8 @@ int main(void) {
     for (int i = 0; i < 3; i++)
         if (pthread_create(&threads[i], NULL, work[i], NULL)) return 1;
     for (int i = 0; i < 3; i++) pthread_join(threads[i], NULL);
-    kfifo_abandon_cells(raw.passes, SIDES);
-    kfifo_abandon_cells(filtered.passes, SIDES);
+    if (kfifo_abandon_cells(raw.passes, SIDES) != KFIFO_DONE) return 1;
+    if (kfifo_abandon_cells(filtered.passes, SIDES) != KFIFO_DONE) return 1;
     if (camera_end != KFIFO_DONE) fprintf(stderr, "the camera ended: %s\n", kfifo_status_text(camera_end));
     if (filter_end != KFIFO_FINISHED) fprintf(stderr, "the filter ended: %s\n", kfifo_status_text(filter_end));
     if (screen_end != KFIFO_FINISHED) fprintf(stderr, "the screen ended: %s\n", kfifo_status_text(screen_end));

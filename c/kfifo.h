@@ -20,6 +20,14 @@
 #define KFIFO_CAST_POINTER(type, value) ((type)(value))
 #endif
 
+/* The compiler warns where the result of such a call is not looked at. GCC does so in C also where it is cast to void:
+   `if (call) {}` says that it may be anything. */
+#if defined(__cplusplus) && __cplusplus >= 201703L
+#define KFIFO_MUST_USE [[nodiscard]]
+#else
+#define KFIFO_MUST_USE __attribute__((warn_unused_result))
+#endif
+
 #ifdef __cplusplus
 extern "C" {
 #endif
@@ -92,7 +100,7 @@ static inline const char *kfifo_status_text(kfifo_status status) {
 
 /* Whether a later call may do better: true of FULL, EMPTY, BUSY and NO_TOKEN. A loop that retries another status never
    ends. */
-static inline int kfifo_may_retry(kfifo_status status) {
+KFIFO_MUST_USE static inline int kfifo_may_retry(kfifo_status status) {
     return status == KFIFO_FULL || status == KFIFO_EMPTY || status == KFIFO_BUSY || status == KFIFO_NO_TOKEN;
 }
 
@@ -276,8 +284,8 @@ static inline void kfifo_zero(void *passes, size_t size, size_t threads) {
 /* Opens a queue of `segments` segments of k slots, and writes a handle for each thread into the array `passes`, whose
    old contents are lost. DONE; BAD_CALL of a null pointer; BAD_K, BAD_SEGMENTS, BAD_LAST, BAD_PROBES, BAD_THREADS,
    NO_MEMORY, and all handles are then closed, at most the first 64. */
-static inline kfifo_status kfifo_open(uint32_t k, uint32_t segments, uint32_t probes, uint64_t last, kfifo_pass *passes,
-                                      size_t threads) {
+KFIFO_MUST_USE static inline kfifo_status kfifo_open(uint32_t k, uint32_t segments, uint32_t probes, uint64_t last,
+                                                     kfifo_pass *passes, size_t threads) {
     if (!passes) return KFIFO_BAD_CALL;
     kfifo_zero(passes, sizeof *passes, threads);
     kfifo_status status =
@@ -300,7 +308,7 @@ static inline const char *kfifo_bad_call_text(const kfifo_pass *pass, uint32_t i
 /* Puts an item, 1 to KFIFO_MAX_ITEM: DONE, FULL, BUSY, WORN or BAD_CALL. The call makes up to 65,535 rounds,
    so BUSY is rare, and comes only where another thread changed the queue in the meantime. kfifo_may_retry says after
    which statuses to call again. */
-static inline kfifo_status kfifo_put(kfifo_pass *pass, uint32_t item) {
+KFIFO_MUST_USE static inline kfifo_status kfifo_put(kfifo_pass *pass, uint32_t item) {
     if (!pass) return KFIFO_BAD_CALL;
     KFIFO_BEGIN(pass);
     KFIFO_BEFORE_PUT(pass);
@@ -310,7 +318,7 @@ static inline kfifo_status kfifo_put(kfifo_pass *pass, uint32_t item) {
 }
 
 /* Takes one of the k oldest items: GOT, and writes it; else EMPTY, BUSY, WORN or BAD_CALL, and *item stays. */
-static inline kfifo_status kfifo_get(kfifo_pass *pass, uint32_t *item) {
+KFIFO_MUST_USE static inline kfifo_status kfifo_get(kfifo_pass *pass, uint32_t *item) {
     if (!pass || !item) return KFIFO_BAD_CALL;
     KFIFO_BEGIN(pass);
     kfifo_status status = KFIFO_CAST(kfifo_status, kfifo_c_get(pass, item));
@@ -322,7 +330,8 @@ static inline kfifo_status kfifo_get(kfifo_pass *pass, uint32_t *item) {
 /* As kfifo_put, with a start and turns of your own: the scan begins at slot `start`, below k, and the call makes at
    most `turns` rounds, at least 1. With fewer than segments + 2 a thread may get BUSY by moves of its own, without any
    other. */
-static inline kfifo_status kfifo_enqueue(kfifo_pass *pass, uint32_t item, uint32_t start, uint16_t turns) {
+KFIFO_MUST_USE static inline kfifo_status kfifo_enqueue(kfifo_pass *pass, uint32_t item, uint32_t start,
+                                                        uint16_t turns) {
     if (!pass) return KFIFO_BAD_CALL;
     KFIFO_BEGIN(pass);
     KFIFO_BEFORE_PUT(pass);
@@ -332,7 +341,8 @@ static inline kfifo_status kfifo_enqueue(kfifo_pass *pass, uint32_t item, uint32
 }
 
 /* As kfifo_get, with a start and turns of your own. */
-static inline kfifo_status kfifo_dequeue(kfifo_pass *pass, uint32_t *item, uint32_t start, uint16_t turns) {
+KFIFO_MUST_USE static inline kfifo_status kfifo_dequeue(kfifo_pass *pass, uint32_t *item, uint32_t start,
+                                                        uint16_t turns) {
     if (!pass || !item) return KFIFO_BAD_CALL;
     KFIFO_BEGIN(pass);
     kfifo_status status = KFIFO_CAST(kfifo_status, kfifo_c_dequeue(pass, item, start, turns));
@@ -343,7 +353,7 @@ static inline kfifo_status kfifo_dequeue(kfifo_pass *pass, uint32_t *item, uint3
 
 /* Reads a word of the queue: 0 is the ends word, then come the slots, segment by segment, and last the clock. DONE, and
    writes it; else BAD_CALL, and *word stays. */
-static inline kfifo_status kfifo_word(kfifo_pass *pass, size_t index, uint64_t *word) {
+KFIFO_MUST_USE static inline kfifo_status kfifo_word(kfifo_pass *pass, size_t index, uint64_t *word) {
     if (!pass || !word) return KFIFO_BAD_CALL;
     KFIFO_BEGIN(pass);
     kfifo_status status = KFIFO_CAST(kfifo_status, kfifo_c_word(pass, index, word));
@@ -355,8 +365,8 @@ static inline kfifo_status kfifo_word(kfifo_pass *pass, size_t index, uint64_t *
    an item of each slot, k * segments. BAD_CALL, also where they are of several queues or one is missing or there twice,
    BAD_THREADS of more than 64, or NO_MEMORY: nothing was done. LOST: an allocation failed; the queue is closed, and the
    items are lost. To be sure of them, take them all before. */
-static inline kfifo_status kfifo_close(kfifo_pass *passes, size_t threads, uint32_t *items, size_t room,
-                                       size_t *count) {
+KFIFO_MUST_USE static inline kfifo_status kfifo_close(kfifo_pass *passes, size_t threads, uint32_t *items, size_t room,
+                                                      size_t *count) {
     if (!passes || !items || !count) return KFIFO_BAD_CALL;
     if (threads > KFIFO_MAX_THREADS) return KFIFO_BAD_THREADS;
     KFIFO_BEGIN_ALL(passes, threads);
@@ -370,7 +380,7 @@ static inline kfifo_status kfifo_close(kfifo_pass *passes, size_t threads, uint3
 /* Closes these handles, at most 64: DONE; BAD_CALL of a null pointer or of a handle that is there twice, or
    BAD_THREADS, and nothing was done. With the last open handle of a queue the queue goes, and the items that are left
    in it. */
-static inline kfifo_status kfifo_abandon(kfifo_pass *passes, size_t threads) {
+KFIFO_MUST_USE static inline kfifo_status kfifo_abandon(kfifo_pass *passes, size_t threads) {
     if (!passes) return KFIFO_BAD_CALL;
     if (threads > KFIFO_MAX_THREADS) return KFIFO_BAD_THREADS;
     KFIFO_BEGIN_ALL(passes, threads);
@@ -398,7 +408,7 @@ static inline kfifo_status kfifo_abandon(kfifo_pass *passes, size_t threads) {
    between their calls: k * segments + 1 + 15 * (threads - 1), but KFIFO_MAX_TOKENS at most. A thread can always have
    tokens - 15 * (threads - 1) values in the queue, and may find NO_TOKEN with more. Of cells those are missing besides
    that others have reserved or received. */
-static inline uint32_t kfifo_enough_tokens(uint32_t k, uint32_t segments, size_t threads) {
+KFIFO_MUST_USE static inline uint32_t kfifo_enough_tokens(uint32_t k, uint32_t segments, size_t threads) {
     uint64_t others = threads > 1 ? kfifo_at_most_one_over(threads) - 1 : 0;
     uint64_t enough = KFIFO_CAST(uint64_t, k) * segments + 1 + 15 * others;
     return enough < KFIFO_MAX_TOKENS ? KFIFO_CAST(uint32_t, enough) : KFIFO_MAX_TOKENS;
@@ -412,8 +422,9 @@ static inline uint32_t kfifo_enough_tokens(uint32_t k, uint32_t segments, size_t
    thread that has a batch more than it began with, 16 or tokens / threads at most, returns a batch to the pool, where
    others find it. DONE; BAD_CALL of a null pointer; BAD_K, BAD_SEGMENTS, BAD_LAST, BAD_RESERVE of one that is not below
    `last`, BAD_THREADS, BAD_TOKENS, NO_MEMORY, and all handles are then closed, at most the first 64. */
-static inline kfifo_status kfifo_open_values_with(uint32_t k, uint32_t segments, uint32_t tokens, uint64_t last,
-                                                  uint64_t reserve, kfifo_value_pass *passes, size_t threads) {
+KFIFO_MUST_USE static inline kfifo_status kfifo_open_values_with(uint32_t k, uint32_t segments, uint32_t tokens,
+                                                                 uint64_t last, uint64_t reserve,
+                                                                 kfifo_value_pass *passes, size_t threads) {
     if (!passes) return KFIFO_BAD_CALL;
     kfifo_zero(passes, sizeof *passes, threads);
     kfifo_status status = KFIFO_CAST(kfifo_status, kfifo_c_open_values(k, segments, k, last, tokens, reserve, passes,
@@ -423,15 +434,15 @@ static inline kfifo_status kfifo_open_values_with(uint32_t k, uint32_t segments,
 }
 
 /* Opens a queue of values that does not wear out. Returns what kfifo_open_values_with does. */
-static inline kfifo_status kfifo_open_values(uint32_t k, uint32_t segments, uint32_t tokens, kfifo_value_pass *passes,
-                                             size_t threads) {
+KFIFO_MUST_USE static inline kfifo_status kfifo_open_values(uint32_t k, uint32_t segments, uint32_t tokens,
+                                                            kfifo_value_pass *passes, size_t threads) {
     return kfifo_open_values_with(k, segments, tokens, KFIFO_LAST, KFIFO_RESERVE, passes, threads);
 }
 
 /* Gives any value to the queue: DONE; else FULL, BUSY, WORN, NO_TOKEN or BAD_CALL, and the value stays the caller's.
    Where there is no memory for the next generation until the reserve is used up, also a value whose give returned DONE
    may be one that no take reaches any more: they return WORN, and a close gives it back. */
-static inline kfifo_status kfifo_give(kfifo_value_pass *pass, uint64_t value) {
+KFIFO_MUST_USE static inline kfifo_status kfifo_give(kfifo_value_pass *pass, uint64_t value) {
     if (!pass) return KFIFO_BAD_CALL;
     KFIFO_BEGIN(pass);
     KFIFO_BEFORE_PUT(pass);
@@ -443,7 +454,7 @@ static inline kfifo_status kfifo_give(kfifo_value_pass *pass, uint64_t value) {
 }
 
 /* Takes one of the k oldest values: GOT, and writes it; else EMPTY, BUSY, WORN or BAD_CALL, and *value stays. */
-static inline kfifo_status kfifo_take(kfifo_value_pass *pass, uint64_t *value) {
+KFIFO_MUST_USE static inline kfifo_status kfifo_take(kfifo_value_pass *pass, uint64_t *value) {
     if (!pass || !value) return KFIFO_BAD_CALL;
     KFIFO_BEGIN(pass);
     KFIFO_ENTER();
@@ -455,11 +466,11 @@ static inline kfifo_status kfifo_take(kfifo_value_pass *pass, uint64_t *value) {
 }
 
 /* The same with a pointer for a value. */
-static inline kfifo_status kfifo_give_pointer(kfifo_value_pass *pass, void *pointer) {
+KFIFO_MUST_USE static inline kfifo_status kfifo_give_pointer(kfifo_value_pass *pass, void *pointer) {
     return kfifo_give(pass, KFIFO_CAST_POINTER(uintptr_t, pointer));
 }
 
-static inline kfifo_status kfifo_take_pointer(kfifo_value_pass *pass, void **pointer) {
+KFIFO_MUST_USE static inline kfifo_status kfifo_take_pointer(kfifo_value_pass *pass, void **pointer) {
     uint64_t value;
     if (!pointer) return KFIFO_BAD_CALL;
     kfifo_status status = kfifo_take(pass, &value);
@@ -470,7 +481,7 @@ static inline kfifo_status kfifo_take_pointer(kfifo_value_pass *pass, void **poi
 /* Room for how many values kfifo_close_values needs: k * segments for each generation that may have some. That is one
    mostly, and more near a change, or where a handle made no calls since. 0 where these are not all handles of one
    queue, each open and there but once. */
-static inline size_t kfifo_values_room(kfifo_value_pass *passes, size_t threads) {
+KFIFO_MUST_USE static inline size_t kfifo_values_room(kfifo_value_pass *passes, size_t threads) {
     if (!passes || threads > KFIFO_MAX_THREADS) return 0;
     KFIFO_BEGIN_ALL(passes, threads);
     KFIFO_ENTER();
@@ -487,8 +498,8 @@ static inline size_t kfifo_values_room(kfifo_value_pass *passes, size_t threads)
        uint64_t *left = malloc(room * sizeof *left);
        if (!left || kfifo_close_values(passes, THREADS, left, room, &count) != KFIFO_DONE) return 1;
 */
-static inline kfifo_status kfifo_close_values(kfifo_value_pass *passes, size_t threads, uint64_t *values, size_t room,
-                                              size_t *count) {
+KFIFO_MUST_USE static inline kfifo_status kfifo_close_values(kfifo_value_pass *passes, size_t threads, uint64_t *values,
+                                                             size_t room, size_t *count) {
     if (!passes || !values || !count) return KFIFO_BAD_CALL;
     if (threads > KFIFO_MAX_THREADS) return KFIFO_BAD_THREADS;
     KFIFO_BEGIN_ALL(passes, threads);
@@ -502,7 +513,7 @@ static inline kfifo_status kfifo_close_values(kfifo_value_pass *passes, size_t t
 }
 
 /* Closes these handles, as kfifo_abandon does. Values that are pointers are not freed. */
-static inline kfifo_status kfifo_abandon_values(kfifo_value_pass *passes, size_t threads) {
+KFIFO_MUST_USE static inline kfifo_status kfifo_abandon_values(kfifo_value_pass *passes, size_t threads) {
     if (!passes) return KFIFO_BAD_CALL;
     if (threads > KFIFO_MAX_THREADS) return KFIFO_BAD_THREADS;
     KFIFO_BEGIN_ALL(passes, threads);
@@ -538,17 +549,18 @@ static inline kfifo_status kfifo_abandon_values(kfifo_value_pass *passes, size_t
 
        if (kfifo_receive(&passes[1], &cell) == KFIFO_GOT) {
            show(&frames[cell]);                      // now it is this one's alone
-           kfifo_release(&passes[1]);
+           if (kfifo_release(&passes[1]) != KFIFO_DONE) return 1;
        }
-       kfifo_abandon_cells(passes, 2);
+       return kfifo_abandon_cells(passes, 2) != KFIFO_DONE;
 */
 
 /* Opens a queue of cells with versions up to `last` and a reserve, as kfifo_open_values_with. Each thread begins with
    `tokens` tokens, 1 to KFIFO_MAX_TOKENS. Each token has a cell, so the cells are numbers from 0 to
    threads * tokens - 1, in all generations. How many are enough says kfifo_enough_tokens. Returns what
    kfifo_open_values_with returns. */
-static inline kfifo_status kfifo_open_cells_with(uint32_t k, uint32_t segments, uint32_t tokens, uint64_t last,
-                                                 uint64_t reserve, kfifo_cell_pass *passes, size_t threads) {
+KFIFO_MUST_USE static inline kfifo_status kfifo_open_cells_with(uint32_t k, uint32_t segments, uint32_t tokens,
+                                                                uint64_t last, uint64_t reserve,
+                                                                kfifo_cell_pass *passes, size_t threads) {
     if (!passes) return KFIFO_BAD_CALL;
     kfifo_zero(passes, sizeof *passes, threads);
     kfifo_status status = KFIFO_CAST(kfifo_status, kfifo_c_open_cells(k, segments, k, last, tokens, reserve, passes,
@@ -558,15 +570,15 @@ static inline kfifo_status kfifo_open_cells_with(uint32_t k, uint32_t segments, 
 }
 
 /* Opens a queue of cells that does not wear out. Returns what kfifo_open_values_with does. */
-static inline kfifo_status kfifo_open_cells(uint32_t k, uint32_t segments, uint32_t tokens, kfifo_cell_pass *passes,
-                                            size_t threads) {
+KFIFO_MUST_USE static inline kfifo_status kfifo_open_cells(uint32_t k, uint32_t segments, uint32_t tokens,
+                                                           kfifo_cell_pass *passes, size_t threads) {
     return kfifo_open_cells_with(k, segments, tokens, KFIFO_LAST, KFIFO_RESERVE, passes, threads);
 }
 
 /* Reserves a cell: DONE, and writes its number. Until kfifo_publish puts it into the queue, the cell is the handle's
    alone, and a further call writes the same number. Else NO_TOKEN, where the handle has no cell and found none that
    another one released, or BAD_CALL, and *cell stays. */
-static inline kfifo_status kfifo_reserve(kfifo_cell_pass *pass, uint64_t *cell) {
+KFIFO_MUST_USE static inline kfifo_status kfifo_reserve(kfifo_cell_pass *pass, uint64_t *cell) {
     if (!pass || !cell) return KFIFO_BAD_CALL;
     KFIFO_BEGIN(pass);
     kfifo_status status = KFIFO_CAST(kfifo_status, kfifo_c_reserve(pass, cell));
@@ -578,7 +590,7 @@ static inline kfifo_status kfifo_reserve(kfifo_cell_pass *pass, uint64_t *cell) 
 /* Puts the reserved cell into the queue: DONE, and the cell is no longer the handle's. Else FULL, BUSY, NO_TOKEN or
    WORN, and the cell is still reserved. BAD_CALL, also where none is reserved. After DONE too, takes may no longer
    reach the cell where kfifo_give says so of a value. */
-static inline kfifo_status kfifo_publish(kfifo_cell_pass *pass) {
+KFIFO_MUST_USE static inline kfifo_status kfifo_publish(kfifo_cell_pass *pass) {
     if (!pass) return KFIFO_BAD_CALL;
     KFIFO_BEGIN(pass);
     KFIFO_BEFORE_PUT(pass);
@@ -591,7 +603,7 @@ static inline kfifo_status kfifo_publish(kfifo_cell_pass *pass) {
 
 /* Gives the reserved cell back: DONE, and any handle may reserve it. BAD_CALL, also where none is reserved. A cell that
    stays reserved is one that no other handle can have. */
-static inline kfifo_status kfifo_cancel(kfifo_cell_pass *pass) {
+KFIFO_MUST_USE static inline kfifo_status kfifo_cancel(kfifo_cell_pass *pass) {
     if (!pass) return KFIFO_BAD_CALL;
     KFIFO_BEGIN(pass);
     KFIFO_BEFORE_RELEASE(pass);
@@ -604,7 +616,7 @@ static inline kfifo_status kfifo_cancel(kfifo_cell_pass *pass) {
    the cell is the handle's alone. Else EMPTY, BUSY, WORN or BAD_CALL, and *cell stays. The call first releases the cell
    that the handle received before, also where it then takes none. A handle may have a received and a reserved cell at
    once. */
-static inline kfifo_status kfifo_receive(kfifo_cell_pass *pass, uint64_t *cell) {
+KFIFO_MUST_USE static inline kfifo_status kfifo_receive(kfifo_cell_pass *pass, uint64_t *cell) {
     if (!pass || !cell) return KFIFO_BAD_CALL;
     KFIFO_BEGIN(pass);
     KFIFO_BEFORE_RELEASE(pass);
@@ -618,7 +630,7 @@ static inline kfifo_status kfifo_receive(kfifo_cell_pass *pass, uint64_t *cell) 
 
 /* Releases the cell that the handle received: DONE, and any handle may reserve it. BAD_CALL, also where none was
    received, or it is released already. */
-static inline kfifo_status kfifo_release(kfifo_cell_pass *pass) {
+KFIFO_MUST_USE static inline kfifo_status kfifo_release(kfifo_cell_pass *pass) {
     if (!pass) return KFIFO_BAD_CALL;
     KFIFO_BEGIN(pass);
     KFIFO_BEFORE_RELEASE(pass);
@@ -630,8 +642,8 @@ static inline kfifo_status kfifo_release(kfifo_cell_pass *pass) {
 /* Closes a queue of cells, as kfifo_close does, and writes the numbers of the cells that are in it, in the queue's
    order. A cell that a handle had reserved or received is not among them. There has to be room for each cell,
    threads * tokens: with less the call returns BAD_CALL, and nothing was done. */
-static inline kfifo_status kfifo_close_cells(kfifo_cell_pass *passes, size_t threads, uint64_t *cells, size_t room,
-                                             size_t *count) {
+KFIFO_MUST_USE static inline kfifo_status kfifo_close_cells(kfifo_cell_pass *passes, size_t threads, uint64_t *cells,
+                                                            size_t room, size_t *count) {
     if (!passes || !cells || !count) return KFIFO_BAD_CALL;
     if (threads > KFIFO_MAX_THREADS) return KFIFO_BAD_THREADS;
     KFIFO_BEGIN_ALL(passes, threads);
@@ -645,7 +657,7 @@ static inline kfifo_status kfifo_close_cells(kfifo_cell_pass *passes, size_t thr
 }
 
 /* Closes these handles, as kfifo_abandon does. The array of the cells stays as it is. */
-static inline kfifo_status kfifo_abandon_cells(kfifo_cell_pass *passes, size_t threads) {
+KFIFO_MUST_USE static inline kfifo_status kfifo_abandon_cells(kfifo_cell_pass *passes, size_t threads) {
     if (!passes) return KFIFO_BAD_CALL;
     if (threads > KFIFO_MAX_THREADS) return KFIFO_BAD_THREADS;
     KFIFO_BEGIN_ALL(passes, threads);

@@ -32,39 +32,32 @@ class Error : public std::invalid_argument {
   public:
     explicit Error(kfifo_status status) : Error(status, kfifo_status_text(status)) {}
     Error(kfifo_status status, const std::string &why) : std::invalid_argument("kfifo: " + why), of(status) {}
-    kfifo_status status() const noexcept { return of; }
+    [[nodiscard]] kfifo_status status() const noexcept { return of; }
 
   private:
     kfifo_status of;
 };
 
 // What a put came to. The numbers are those of kfifo.h.
-enum class Put {
-    done = KFIFO_DONE,
-    full = KFIFO_FULL,
-    busy = KFIFO_BUSY,
-    worn = KFIFO_WORN,
-    no_token = KFIFO_NO_TOKEN,
+enum class [[nodiscard]] Put{
+    done = KFIFO_DONE,           full = KFIFO_FULL, busy = KFIFO_BUSY, worn = KFIFO_WORN, no_token = KFIFO_NO_TOKEN,
     timed_out = KFIFO_TIMED_OUT, // of a call that waits: its time was up
     finished = KFIFO_FINISHED    // finish() was called before
 };
 
 // What a take came to that took nothing.
-enum class Miss {
-    empty = KFIFO_EMPTY,
-    busy = KFIFO_BUSY,
-    worn = KFIFO_WORN,
-    timed_out = KFIFO_TIMED_OUT,
+enum class [[nodiscard]] Miss{
+    empty = KFIFO_EMPTY, busy = KFIFO_BUSY, worn = KFIFO_WORN, timed_out = KFIFO_TIMED_OUT,
     finished = KFIFO_FINISHED // finish() was called, and the queue was empty then
 };
 
 // A line of text, as "the ring was full".
-inline const char *text(Put put) noexcept { return kfifo_status_text(static_cast<kfifo_status>(put)); }
-inline const char *text(Miss miss) noexcept { return kfifo_status_text(static_cast<kfifo_status>(miss)); }
+[[nodiscard]] inline const char *text(Put put) noexcept { return kfifo_status_text(static_cast<kfifo_status>(put)); }
+[[nodiscard]] inline const char *text(Miss miss) noexcept { return kfifo_status_text(static_cast<kfifo_status>(miss)); }
 
 // Whether a later call may do better: a loop that retries another answer, as Put::worn, never ends.
-inline bool may_retry(Put put) noexcept { return kfifo_may_retry(static_cast<kfifo_status>(put)); }
-inline bool may_retry(Miss miss) noexcept { return kfifo_may_retry(static_cast<kfifo_status>(miss)); }
+[[nodiscard]] inline bool may_retry(Put put) noexcept { return kfifo_may_retry(static_cast<kfifo_status>(put)); }
+[[nodiscard]] inline bool may_retry(Miss miss) noexcept { return kfifo_may_retry(static_cast<kfifo_status>(miss)); }
 
 namespace detail {
 
@@ -89,7 +82,7 @@ inline kfifo_status checked(kfifo_status status) {
 
 // ---- A queue of items, which are numbers from 1 to KFIFO_MAX_ITEM ----
 
-struct Taken {
+struct [[nodiscard]] Taken {
     std::optional<std::uint32_t> item; // the item, if one was taken
     Miss why = Miss::empty;            // else why not
 };
@@ -119,7 +112,7 @@ class Pass {
     }
 
     // One word of the queue, as kfifo_word reads it.
-    std::uint64_t word(std::size_t index) const {
+    [[nodiscard]] std::uint64_t word(std::size_t index) const {
         std::uint64_t word = 0;
         kfifo_status status = kfifo_word(handle, index, &word);
         if (status != KFIFO_DONE) refuse(1, 0, 1, "the queue has no word with this index");
@@ -171,11 +164,12 @@ class Queue {
     Queue &operator=(Queue &&) = delete;
 
     ~Queue() {
-        if (handles) kfifo_abandon(handles->data(), handles->size());
+        // These are all handles, each once: nothing is refused.
+        if (handles) (void)kfifo_abandon(handles->data(), handles->size());
     }
 
     // The pass of a thread, from 0. Throws Error where the queue has no such thread.
-    Pass pass(std::size_t thread) {
+    [[nodiscard]] Pass pass(std::size_t thread) {
         std::vector<kfifo_pass> &all = usable();
         if (thread >= all.size())
             throw Error(KFIFO_BAD_CALL, "the thread is not 0 to " + std::to_string(all.size() - 1));
@@ -183,7 +177,7 @@ class Queue {
     }
 
     // Closes the queue and gives back the items that are left. Nothing else may be called after.
-    std::vector<std::uint32_t> close() {
+    [[nodiscard]] std::vector<std::uint32_t> close() {
         std::vector<kfifo_pass> &all = usable();
         std::vector<std::uint32_t> items(slots);
         std::size_t count = 0;
@@ -295,7 +289,7 @@ struct CellPasses {
     }
     CellPasses(const CellPasses &) = delete;
     CellPasses &operator=(const CellPasses &) = delete;
-    ~CellPasses() { kfifo_abandon_cells(all.data(), all.size()); }
+    ~CellPasses() { (void)kfifo_abandon_cells(all.data(), all.size()); }
 
     std::vector<kfifo_cell_pass> all;
 };
@@ -387,7 +381,7 @@ template <typename T> class Cells {
 
 } // namespace detail
 
-template <typename T> struct TakenValue {
+template <typename T> struct [[nodiscard]] TakenValue {
     std::optional<T> value; // the value, if one was taken
     Miss why = Miss::empty; // else why not
 };
@@ -560,10 +554,10 @@ template <typename T> class ValueQueue {
 
         // The values that come, until the queue is finished and empty: for (T value : handle.values()). It sleeps while
         // there is none, and throws Error with KFIFO_WORN where take answers Miss::worn.
-        Values values() { return Values(*this); }
+        [[nodiscard]] Values values() { return Values(*this); }
 
         // Says that no more values will come, as ValueQueue::finish.
-        void finish() { kfifo_finish(usable()); }
+        void finish() { (void)kfifo_finish(usable()); }
 
       private:
         friend class ValueQueue;
@@ -590,7 +584,7 @@ template <typename T> class ValueQueue {
                 // Once it is published another thread may have the cell.
                 if (is_published) return;
                 if (is_made) handle.state->cells.destroy(handle.bits, number);
-                kfifo_cancel(handle.pass);
+                (void)kfifo_cancel(handle.pass);
             }
             template <typename... Arguments> void make(Arguments &&...arguments) {
                 handle.state->cells.make(handle.bits, number, std::forward<Arguments>(arguments)...);
@@ -640,7 +634,7 @@ template <typename T> class ValueQueue {
                 State &of = *handle.state;
                 if (!is_kept) {
                     of.cells.destroy(handle.bits, number);
-                    kfifo_release(handle.pass);
+                    (void)kfifo_release(handle.pass);
                 }
                 // Other threads look at this line of the cache at each take.
                 if (is_kept != was_kept) of.kept[handle.which()] = is_kept ? std::optional(number) : std::nullopt;
@@ -773,7 +767,7 @@ template <typename T> class ValueQueue {
 
     // A handle that nobody has. Throws Error where each was out at one moment: never where there are as many handles as
     // threads, and no thread has two.
-    Handle handle() {
+    [[nodiscard]] Handle handle() {
         if (usable().is_closed) throw Error(KFIFO_BAD_CALL, "the queue is closed");
         std::optional<std::size_t> number = state->borrow_pass();
         if (!number) throw Error(KFIFO_BAD_CALL, "each handle of the queue is in use");
@@ -783,7 +777,7 @@ template <typename T> class ValueQueue {
     // Says that no more values will come, and wakes all that wait. Any thread may call it, and again. A give that
     // begins after it answers finished; a take does so once the queue is empty. A give that it meets halfway may still
     // put its value in: call it when the producers have ended, or close the queue to have what is left.
-    void finish() { kfifo_finish(&usable().waits); }
+    void finish() { (void)kfifo_finish(&usable().waits); }
 
     // Closes the queue and gives back the values that are left, in its order. Throws Error, and nothing changes, where
     // a handle is still out, and std::bad_alloc, and no value is lost, where there is no memory for them. Where the
@@ -791,7 +785,7 @@ template <typename T> class ValueQueue {
     //
     // Where a move of T may throw and T can be copied, the values are copied out. If that throws, no value is lost: the
     // queue takes no more calls, but a further close gives them all back.
-    std::vector<T> close() {
+    [[nodiscard]] std::vector<T> close() {
         if (!usable().is_idle()) throw Error(KFIFO_BAD_CALL, "a handle of the queue is in use");
         std::vector<T> values;
         values.reserve(state->is_closed ? state->left.size() : state->cells.with_values().size());

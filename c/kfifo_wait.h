@@ -124,7 +124,7 @@ static inline int kfifo_wait_again_by(const void *pass, uint32_t starts, uint32_
 
 /* Opens what threads wait by, before any of them calls: DONE, or BAD_CALL of a null pointer. It takes no memory, so
    there is no close. One that is finished may be opened again when no thread is in a call with it. */
-static inline kfifo_status kfifo_waits_open(kfifo_waits *waits) {
+KFIFO_MUST_USE static inline kfifo_status kfifo_waits_open(kfifo_waits *waits) {
     if (!waits) return KFIFO_BAD_CALL;
     waits->state = waits->filled = waits->emptied = waits->tokenless = 0;
     return KFIFO_DONE;
@@ -134,7 +134,7 @@ static inline kfifo_status kfifo_waits_open(kfifo_waits *waits) {
    and again. A give that begins after it returns FINISHED, and the value is still the caller's; a take returns FINISHED
    once the queue is empty. A give that it meets halfway may still put its value in, so call it when the producers have
    ended, or close the queue to have what is left. */
-static inline kfifo_status kfifo_finish(kfifo_waits *waits) {
+KFIFO_MUST_USE static inline kfifo_status kfifo_finish(kfifo_waits *waits) {
     if (!waits) return KFIFO_BAD_CALL;
     __atomic_fetch_or(&waits->state, KFIFO_WAITS_FINISHED, __ATOMIC_SEQ_CST);
     kfifo_wait_finished(waits);
@@ -142,7 +142,7 @@ static inline kfifo_status kfifo_finish(kfifo_waits *waits) {
 }
 
 /* Whether kfifo_finish was called. */
-static inline int kfifo_is_finished(kfifo_waits *waits) {
+KFIFO_MUST_USE static inline int kfifo_is_finished(kfifo_waits *waits) {
     return (kfifo_waits_state(waits) & KFIFO_WAITS_FINISHED) != 0;
 }
 
@@ -154,7 +154,7 @@ static inline int kfifo_is_finished(kfifo_waits *waits) {
 
 /* As kfifo_give, for a queue whose threads wait: wakes one that waits for the value. Also FINISHED, and the value is
    still the caller's. */
-static inline kfifo_status kfifo_try_give(kfifo_value_pass *pass, kfifo_waits *waits, uint64_t value) {
+KFIFO_MUST_USE static inline kfifo_status kfifo_try_give(kfifo_value_pass *pass, kfifo_waits *waits, uint64_t value) {
     if (!pass || !waits) return KFIFO_BAD_CALL;
     if (__builtin_expect(kfifo_is_finished(waits), 0)) return pass->starts ? KFIFO_FINISHED : KFIFO_BAD_CALL;
     return kfifo_after_give(waits, kfifo_give(pass, value));
@@ -162,7 +162,7 @@ static inline kfifo_status kfifo_try_give(kfifo_value_pass *pass, kfifo_waits *w
 
 /* As kfifo_take, for a queue whose threads wait: wakes one that waits for room. FINISHED in place of EMPTY where the
    queue was finished, and then found empty. */
-static inline kfifo_status kfifo_try_take(kfifo_value_pass *pass, kfifo_waits *waits, uint64_t *value) {
+KFIFO_MUST_USE static inline kfifo_status kfifo_try_take(kfifo_value_pass *pass, kfifo_waits *waits, uint64_t *value) {
     if (!waits) return KFIFO_BAD_CALL;
     kfifo_status status = kfifo_take(pass, value);
     if (__builtin_expect(status == KFIFO_GOT, 1)) return kfifo_after_take(waits, KFIFO_GOT);
@@ -174,8 +174,8 @@ static inline kfifo_status kfifo_try_take(kfifo_value_pass *pass, kfifo_waits *w
 }
 
 /* Gives a value, and waits at most `nanoseconds` while there is no room for it. */
-static inline kfifo_status kfifo_give_wait(kfifo_value_pass *pass, kfifo_waits *waits, uint64_t value,
-                                           uint64_t nanoseconds) {
+KFIFO_MUST_USE static inline kfifo_status kfifo_give_wait(kfifo_value_pass *pass, kfifo_waits *waits, uint64_t value,
+                                                          uint64_t nanoseconds) {
     kfifo_status status = kfifo_try_give(pass, waits, value);
     if (status == KFIFO_DONE || !kfifo_may_retry(status)) return status;
     kfifo_waiter waiter = kfifo_waiter_of(waits, KFIFO_WAITS_GIVER, nanoseconds);
@@ -185,8 +185,8 @@ static inline kfifo_status kfifo_give_wait(kfifo_value_pass *pass, kfifo_waits *
 
 /* Takes a value, and waits at most `nanoseconds` while there is none. FINISHED comes exactly where the queue was
    finished, and then found empty. */
-static inline kfifo_status kfifo_take_wait(kfifo_value_pass *pass, kfifo_waits *waits, uint64_t *value,
-                                           uint64_t nanoseconds) {
+KFIFO_MUST_USE static inline kfifo_status kfifo_take_wait(kfifo_value_pass *pass, kfifo_waits *waits, uint64_t *value,
+                                                          uint64_t nanoseconds) {
     kfifo_status status = kfifo_try_take(pass, waits, value);
     if (status == KFIFO_GOT || !kfifo_may_retry(status)) return status;
     kfifo_waiter waiter = kfifo_waiter_of(waits, KFIFO_WAITS_TAKER, nanoseconds);
@@ -195,13 +195,13 @@ static inline kfifo_status kfifo_take_wait(kfifo_value_pass *pass, kfifo_waits *
 }
 
 /* The same with a pointer for a value. */
-static inline kfifo_status kfifo_give_pointer_wait(kfifo_value_pass *pass, kfifo_waits *waits, void *pointer,
-                                                   uint64_t nanoseconds) {
+KFIFO_MUST_USE static inline kfifo_status kfifo_give_pointer_wait(kfifo_value_pass *pass, kfifo_waits *waits,
+                                                                  void *pointer, uint64_t nanoseconds) {
     return kfifo_give_wait(pass, waits, KFIFO_CAST_POINTER(uintptr_t, pointer), nanoseconds);
 }
 
-static inline kfifo_status kfifo_take_pointer_wait(kfifo_value_pass *pass, kfifo_waits *waits, void **pointer,
-                                                   uint64_t nanoseconds) {
+KFIFO_MUST_USE static inline kfifo_status kfifo_take_pointer_wait(kfifo_value_pass *pass, kfifo_waits *waits,
+                                                                  void **pointer, uint64_t nanoseconds) {
     uint64_t value;
     if (!pointer) return KFIFO_BAD_CALL;
     kfifo_status status = kfifo_take_wait(pass, waits, &value, nanoseconds);
@@ -213,28 +213,28 @@ static inline kfifo_status kfifo_take_pointer_wait(kfifo_value_pass *pass, kfifo
    reserved still is ---- */
 
 /* As kfifo_reserve, for a queue whose threads wait. Also FINISHED. */
-static inline kfifo_status kfifo_try_reserve(kfifo_cell_pass *pass, kfifo_waits *waits, uint64_t *cell) {
+KFIFO_MUST_USE static inline kfifo_status kfifo_try_reserve(kfifo_cell_pass *pass, kfifo_waits *waits, uint64_t *cell) {
     if (!pass || !waits || !cell) return KFIFO_BAD_CALL;
     if (__builtin_expect(kfifo_is_finished(waits), 0)) return pass->starts ? KFIFO_FINISHED : KFIFO_BAD_CALL;
     return kfifo_reserve(pass, cell);
 }
 
 /* As kfifo_publish, for a queue whose threads wait: wakes one that waits for a cell. Also FINISHED. */
-static inline kfifo_status kfifo_try_publish(kfifo_cell_pass *pass, kfifo_waits *waits) {
+KFIFO_MUST_USE static inline kfifo_status kfifo_try_publish(kfifo_cell_pass *pass, kfifo_waits *waits) {
     if (!pass || !waits) return KFIFO_BAD_CALL;
     if (__builtin_expect(kfifo_is_finished(waits), 0)) return pass->starts ? KFIFO_FINISHED : KFIFO_BAD_CALL;
     return kfifo_after_give(waits, kfifo_publish(pass));
 }
 
 /* As kfifo_cancel, for a queue whose threads wait: wakes those that wait for a cell to reserve. */
-static inline kfifo_status kfifo_try_cancel(kfifo_cell_pass *pass, kfifo_waits *waits) {
+KFIFO_MUST_USE static inline kfifo_status kfifo_try_cancel(kfifo_cell_pass *pass, kfifo_waits *waits) {
     if (!waits) return KFIFO_BAD_CALL;
     return kfifo_after_take(waits, kfifo_cancel(pass));
 }
 
 /* As kfifo_receive, for a queue whose threads wait: wakes one that waits for room. FINISHED in place of EMPTY where the
    queue was finished, and then found empty. */
-static inline kfifo_status kfifo_try_receive(kfifo_cell_pass *pass, kfifo_waits *waits, uint64_t *cell) {
+KFIFO_MUST_USE static inline kfifo_status kfifo_try_receive(kfifo_cell_pass *pass, kfifo_waits *waits, uint64_t *cell) {
     if (!waits) return KFIFO_BAD_CALL;
     kfifo_status status = kfifo_after_take(waits, kfifo_receive(pass, cell));
     if (status != KFIFO_EMPTY || !kfifo_is_finished(waits)) return status;
@@ -244,14 +244,14 @@ static inline kfifo_status kfifo_try_receive(kfifo_cell_pass *pass, kfifo_waits 
 }
 
 /* As kfifo_release, for a queue whose threads wait: wakes those that wait for a cell to reserve. */
-static inline kfifo_status kfifo_try_release(kfifo_cell_pass *pass, kfifo_waits *waits) {
+KFIFO_MUST_USE static inline kfifo_status kfifo_try_release(kfifo_cell_pass *pass, kfifo_waits *waits) {
     if (!waits) return KFIFO_BAD_CALL;
     return kfifo_after_take(waits, kfifo_release(pass));
 }
 
 /* Reserves a cell, and waits at most `nanoseconds` while there is none. */
-static inline kfifo_status kfifo_reserve_wait(kfifo_cell_pass *pass, kfifo_waits *waits, uint64_t *cell,
-                                              uint64_t nanoseconds) {
+KFIFO_MUST_USE static inline kfifo_status kfifo_reserve_wait(kfifo_cell_pass *pass, kfifo_waits *waits, uint64_t *cell,
+                                                             uint64_t nanoseconds) {
     kfifo_status status = kfifo_try_reserve(pass, waits, cell);
     if (status == KFIFO_DONE || !kfifo_may_retry(status)) return status;
     kfifo_waiter waiter = kfifo_waiter_of(waits, KFIFO_WAITS_GIVER, nanoseconds);
@@ -260,7 +260,8 @@ static inline kfifo_status kfifo_reserve_wait(kfifo_cell_pass *pass, kfifo_waits
 }
 
 /* Puts the reserved cell into the queue, and waits at most `nanoseconds` while there is no room for it. */
-static inline kfifo_status kfifo_publish_wait(kfifo_cell_pass *pass, kfifo_waits *waits, uint64_t nanoseconds) {
+KFIFO_MUST_USE static inline kfifo_status kfifo_publish_wait(kfifo_cell_pass *pass, kfifo_waits *waits,
+                                                             uint64_t nanoseconds) {
     kfifo_status status = kfifo_try_publish(pass, waits);
     if (status == KFIFO_DONE || !kfifo_may_retry(status)) return status;
     kfifo_waiter waiter = kfifo_waiter_of(waits, KFIFO_WAITS_GIVER, nanoseconds);
@@ -270,8 +271,8 @@ static inline kfifo_status kfifo_publish_wait(kfifo_cell_pass *pass, kfifo_waits
 
 /* Takes a cell, and waits at most `nanoseconds` while there is none. The call first releases the cell that the
    handle received before. FINISHED comes exactly where the queue was finished, and then found empty. */
-static inline kfifo_status kfifo_receive_wait(kfifo_cell_pass *pass, kfifo_waits *waits, uint64_t *cell,
-                                              uint64_t nanoseconds) {
+KFIFO_MUST_USE static inline kfifo_status kfifo_receive_wait(kfifo_cell_pass *pass, kfifo_waits *waits, uint64_t *cell,
+                                                             uint64_t nanoseconds) {
     kfifo_status status = kfifo_try_receive(pass, waits, cell);
     if (status == KFIFO_GOT || !kfifo_may_retry(status)) return status;
     kfifo_waiter waiter = kfifo_waiter_of(waits, KFIFO_WAITS_TAKER, nanoseconds);
@@ -281,14 +282,14 @@ static inline kfifo_status kfifo_receive_wait(kfifo_cell_pass *pass, kfifo_waits
 
 /* ---- Items: the same ---- */
 
-static inline kfifo_status kfifo_try_put(kfifo_pass *pass, kfifo_waits *waits, uint32_t item) {
+KFIFO_MUST_USE static inline kfifo_status kfifo_try_put(kfifo_pass *pass, kfifo_waits *waits, uint32_t item) {
     if (!pass || !waits) return KFIFO_BAD_CALL;
     if (__builtin_expect(kfifo_is_finished(waits), 0))
         return kfifo_bad_call_text(pass, item, 0, 1) ? KFIFO_BAD_CALL : KFIFO_FINISHED;
     return kfifo_after_give(waits, kfifo_put(pass, item));
 }
 
-static inline kfifo_status kfifo_try_get(kfifo_pass *pass, kfifo_waits *waits, uint32_t *item) {
+KFIFO_MUST_USE static inline kfifo_status kfifo_try_get(kfifo_pass *pass, kfifo_waits *waits, uint32_t *item) {
     if (!waits) return KFIFO_BAD_CALL;
     kfifo_status status = kfifo_get(pass, item);
     if (__builtin_expect(status == KFIFO_GOT, 1)) return kfifo_after_take(waits, KFIFO_GOT);
@@ -298,7 +299,8 @@ static inline kfifo_status kfifo_try_get(kfifo_pass *pass, kfifo_waits *waits, u
     return status == KFIFO_EMPTY ? KFIFO_FINISHED : status;
 }
 
-static inline kfifo_status kfifo_put_wait(kfifo_pass *pass, kfifo_waits *waits, uint32_t item, uint64_t nanoseconds) {
+KFIFO_MUST_USE static inline kfifo_status kfifo_put_wait(kfifo_pass *pass, kfifo_waits *waits, uint32_t item,
+                                                         uint64_t nanoseconds) {
     kfifo_status status = kfifo_try_put(pass, waits, item);
     if (status == KFIFO_DONE || !kfifo_may_retry(status)) return status;
     kfifo_waiter waiter = kfifo_waiter_of(waits, KFIFO_WAITS_GIVER, nanoseconds);
@@ -306,7 +308,8 @@ static inline kfifo_status kfifo_put_wait(kfifo_pass *pass, kfifo_waits *waits, 
     return status;
 }
 
-static inline kfifo_status kfifo_get_wait(kfifo_pass *pass, kfifo_waits *waits, uint32_t *item, uint64_t nanoseconds) {
+KFIFO_MUST_USE static inline kfifo_status kfifo_get_wait(kfifo_pass *pass, kfifo_waits *waits, uint32_t *item,
+                                                         uint64_t nanoseconds) {
     kfifo_status status = kfifo_try_get(pass, waits, item);
     if (status == KFIFO_GOT || !kfifo_may_retry(status)) return status;
     kfifo_waiter waiter = kfifo_waiter_of(waits, KFIFO_WAITS_TAKER, nanoseconds);

@@ -3,6 +3,7 @@
 #include "kfifo_wait.h"
 #include <pthread.h>
 #include <stdio.h>
+#include <stdlib.h>
 
 enum { WORKERS = 4, JOBS = 10000, K = 4, SEGMENTS = 256 };
 
@@ -23,7 +24,7 @@ static void *work(void *argument) {
         self->sum += numbers[item];
         self->jobs++;
     }
-    if (self->end != KFIFO_FINISHED) kfifo_finish(&waits); /* the others end too */
+    if (self->end != KFIFO_FINISHED && kfifo_finish(&waits) != KFIFO_DONE) abort(); /* the others end too */
     return NULL;
 }
 
@@ -52,7 +53,7 @@ int main(void) {
         put++;
         sum += numbers[job];
     }
-    kfifo_finish(&waits); /* a worker ends when it then finds the queue empty */
+    if (kfifo_finish(&waits) != KFIFO_DONE) abort(); /* a worker ends when it then finds the queue empty */
     uint32_t jobs = 0;
     uint64_t total = 0;
     for (uint32_t i = 0; i < WORKERS; i++) {

@@ -393,7 +393,7 @@ static void run(uint32_t pairs, int do_sleep) {
         if (!out || pthread_create(&ids[i], NULL, i < pairs ? produce : consume, &sides[i])) abort();
     }
     for (uint32_t i = 0; i < 2 * pairs; i++) {
-        if (i == pairs) kfifo_finish(&waits);
+        if (i == pairs) expect(kfifo_finish(&waits), KFIFO_DONE, "finish");
         pthread_join(ids[i], NULL);
         *(i < pairs ? &given : &taken) += sides[i].count;
         wrong += sides[i].wrong;

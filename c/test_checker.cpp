@@ -140,7 +140,7 @@ struct OfCells {
         if (status != KFIFO_DONE) return status;
         cells[cell] = value;
         status = kfifo_publish(pass);
-        if (status != KFIFO_DONE) kfifo_cancel(pass);
+        if (status != KFIFO_DONE) status = kfifo_cancel(pass) == KFIFO_DONE ? status : KFIFO_BAD_CALL;
         return status;
     }
 
@@ -149,8 +149,7 @@ struct OfCells {
         const kfifo_status status = kfifo_receive(pass, &cell);
         if (status != KFIFO_GOT) return status;
         *value = std::exchange(cells[cell], 0);
-        kfifo_release(pass);
-        return status;
+        return kfifo_release(pass) == KFIFO_DONE ? status : KFIFO_BAD_CALL;
     }
 
     std::vector<std::uint64_t> cells;
@@ -182,7 +181,7 @@ template <class Kind> class Changing {
     }
     Changing(Changing &&) noexcept = default;
     ~Changing() {
-        if (!passes.empty()) Kind::abandon(passes.data(), passes.size());
+        if (!passes.empty() && Kind::abandon(passes.data(), passes.size()) != KFIFO_DONE) std::abort();
     }
 
     kfifo::Answer give(unsigned thread, std::uint32_t item) {

@@ -33,7 +33,7 @@ static void open_all(void) {
 #define CALL(name, ...)                                                                                                \
     static void call_##name(kfifo_pass *i, kfifo_value_pass *v, kfifo_cell_pass *c) {                                  \
         (void)i, (void)v, (void)c;                                                                                     \
-        (void)name(__VA_ARGS__);                                                                                       \
+        if (name(__VA_ARGS__)) return;                                                                                 \
     }
 CALL(kfifo_put, i, 1)
 CALL(kfifo_get, i, &item)
@@ -72,18 +72,15 @@ static const struct {
 enum { CALLS = sizeof calls / sizeof calls[0] };
 
 static void *wait_for_item(void *pass) {
-    (void)kfifo_get_wait(pass, &waits, &item, KFIFO_FOREVER);
-    return NULL;
+    return kfifo_get_wait(pass, &waits, &item, KFIFO_FOREVER) == KFIFO_GOT ? pass : NULL;
 }
 
 static void *wait_for_value(void *pass) {
-    (void)kfifo_take_wait(pass, &waits, &value, KFIFO_FOREVER);
-    return NULL;
+    return kfifo_take_wait(pass, &waits, &value, KFIFO_FOREVER) == KFIFO_GOT ? pass : NULL;
 }
 
 static void *wait_for_cell(void *pass) {
-    (void)kfifo_receive_wait(pass, &waits, &cell, KFIFO_FOREVER);
-    return NULL;
+    return kfifo_receive_wait(pass, &waits, &cell, KFIFO_FOREVER) == KFIFO_GOT ? pass : NULL;
 }
 
 /* The call by the second handle, while another thread sleeps in one by it. */
@@ -117,9 +114,9 @@ int main(void) {
         failed += !ends(call_by_copy, i, "is a copy of one that was opened at another place");
         failed += !ends(call_at_the_same_time, i, "is in another call");
     }
-    kfifo_abandon(items, THREADS);
-    kfifo_abandon_values(values, THREADS);
-    kfifo_abandon_cells(cells, THREADS);
+    failed += kfifo_abandon(items, THREADS) != KFIFO_DONE;
+    failed += kfifo_abandon_values(values, THREADS) != KFIFO_DONE;
+    failed += kfifo_abandon_cells(cells, THREADS) != KFIFO_DONE;
     /* A closed handle is no copy. */
     memcpy(items_copy, items, sizeof items);
     failed += kfifo_put(items_copy, 1) != KFIFO_BAD_CALL;

@@ -142,7 +142,7 @@ static kfifo_status give_cell(struct queue *queue, uint32_t thread, uint64_t val
     if (status != KFIFO_DONE) return status;
     for (int i = 0; i < WORDS; i++) contents[cell][i] = value;
     status = kfifo_publish(&queue->cells[thread]);
-    if (status != KFIFO_DONE) kfifo_cancel(&queue->cells[thread]);
+    if (status != KFIFO_DONE) expect(kfifo_cancel(&queue->cells[thread]), KFIFO_DONE, "cancel");
     return status;
 }
 
@@ -162,7 +162,7 @@ static kfifo_status take_cell(struct queue *queue, uint32_t thread, uint64_t *va
     for (int i = 1; i < WORDS; i++)
         if (contents[cell][i] != *value) *value = UINT64_MAX;
     memset(contents[cell], 0xff, sizeof contents[cell]);
-    kfifo_release(&queue->cells[thread]);
+    expect(kfifo_release(&queue->cells[thread]), KFIFO_DONE, "release");
     return status;
 }
 

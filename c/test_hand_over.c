@@ -50,10 +50,9 @@ int main(void) {
     if (pthread_create(&other, NULL, drain, &drained)) return 1;
     for (uint64_t i = 0; i < HAND_OVERS; i++)
         if (kfifo_give_wait(&there[0], &there_waits, i, KFIFO_FOREVER) != KFIFO_DONE) return 1;
-    kfifo_finish(&there_waits);
+    if (kfifo_finish(&there_waits) != KFIFO_DONE) return 1;
     pthread_join(other, NULL);
-    kfifo_abandon_values(there, 2);
-    kfifo_abandon_values(back, 2);
+    if (kfifo_abandon_values(there, 2) != KFIFO_DONE || kfifo_abandon_values(back, 2) != KFIFO_DONE) return 1;
     int right = value == HAND_OVERS / 2 && drained == HAND_OVERS;
     printf("%d hand-overs between two threads that both sleep%s\n", HAND_OVERS, right ? "" : " went wrong");
     return !right;

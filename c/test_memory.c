@@ -146,7 +146,7 @@ static kfifo_status takes(struct queue *queue, uint64_t thread, uint64_t *value)
     kfifo_status status = kfifo_receive(&queue->cells[thread], &cell);
     if (status != KFIFO_GOT) return status;
     *value = queue->contents[cell];
-    kfifo_release(&queue->cells[thread]);
+    expect(kfifo_release(&queue->cells[thread]), KFIFO_DONE, "release");
     return status;
 }
 
@@ -224,17 +224,17 @@ static void abandons(void) {
     }
     for (int i = 0; i + 1 < THREADS; i++) {
         long before = blocks;
-        kfifo_abandon_values(&passes[i], 1);
-        kfifo_abandon(&items[i], 1);
+        expect(kfifo_abandon_values(&passes[i], 1), KFIFO_DONE, "abandon");
+        expect(kfifo_abandon(&items[i], 1), KFIFO_DONE, "abandon");
         expect(blocks < before, 1, "an abandoned handle frees its block");
     }
     expect(kfifo_take(&passes[THREADS - 1], &value), KFIFO_GOT, "a take by the last handle");
     expect(kfifo_get(&items[THREADS - 1], &item), KFIFO_GOT, "a get by the last handle");
-    kfifo_abandon_values(&passes[THREADS - 1], 1);
-    kfifo_abandon(&items[THREADS - 1], 1);
+    expect(kfifo_abandon_values(&passes[THREADS - 1], 1), KFIFO_DONE, "abandon");
+    expect(kfifo_abandon(&items[THREADS - 1], 1), KFIFO_DONE, "abandon");
     expect(blocks, 0, "blocks left by handles that were abandoned one by one");
-    if (opens(items, 0)) kfifo_put(&items[0], 7);
-    kfifo_abandon(items, THREADS);
+    if (opens(items, 0)) expect(kfifo_put(&items[0], 7), KFIFO_DONE, "an item that is left");
+    expect(kfifo_abandon(items, THREADS), KFIFO_DONE, "abandon");
     expect(blocks, 0, "blocks left by handles that were abandoned at once");
 }
 
@@ -262,9 +262,9 @@ static void calls(void) {
     }
     expect(requests, 0, "requests of calls for memory");
     refuse(0);
-    kfifo_abandon_values(passes, THREADS);
-    kfifo_abandon_cells(cells, THREADS);
-    kfifo_abandon(items, THREADS);
+    expect(kfifo_abandon_values(passes, THREADS), KFIFO_DONE, "abandon");
+    expect(kfifo_abandon_cells(cells, THREADS), KFIFO_DONE, "abandon");
+    expect(kfifo_abandon(items, THREADS), KFIFO_DONE, "abandon");
     expect(blocks, 0, "blocks left by abandoned handles");
 }
 
@@ -476,7 +476,7 @@ int main(void) {
     kfifo_pass passes[THREADS];
     long of_open = 1, of_close = 1;
     for (tried = 1; !opens(passes, tried); tried++) of_open++;
-    kfifo_abandon(passes, THREADS);
+    expect(kfifo_abandon(passes, THREADS), KFIFO_DONE, "abandon");
     expect(blocks, 0, "blocks left by abandoned handles");
     for (tried = 1; !closes(tried); tried++) of_close++;
     /* A close reads its handles before it closes any: the refusal of either list that it makes for that does nothing.

@@ -155,7 +155,7 @@ class Run {
     Run(std::uint32_t k, std::uint32_t handles) : passes(handles), values(1), last(64 * handles) {
         expect(kfifo_open_values_with(k, 8, 64, last, last / 2, passes.data(), handles), KFIFO_DONE, "open");
     }
-    ~Run() { kfifo_abandon_values(passes.data(), passes.size()); }
+    ~Run() { expect(kfifo_abandon_values(passes.data(), passes.size()), KFIFO_DONE, "abandon"); }
 
     // A call by this handle begins in a thread of its own, and stops after so many instructions, or ends before.
     std::unique_ptr<Call> begin(std::uint32_t handle, bool is_give, long steps) {

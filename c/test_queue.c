@@ -139,7 +139,7 @@ static void mixture(int turned) {
     expect(kfifo_close(other, 2, left, 2, &count), KFIFO_DONE, "close the second");
     expect((int)count, 1, "items left in the second");
     expect((int)left[0], 3, "the item left in the second");
-    kfifo_abandon(one, 2);
+    expect(kfifo_abandon(one, 2), KFIFO_DONE, "abandon");
 }
 
 /* Puts and gets of a handle begin one slot further at each call, from slot thread * k / threads on. */
@@ -152,7 +152,8 @@ static void starts(void) {
     expect(kfifo_open(K, 8, K, KFIFO_LAST, two, 2), KFIFO_DONE, "open for starts");
     for (uint32_t i = 0; i < K; i++) expect(kfifo_put(&two[1], 10 + i), KFIFO_DONE, "a put");
     size_t first = 0;
-    while (first < 8 && (kfifo_word(&two[0], 1 + first * K, &word), (word & KFIFO_MAX_ITEM) == 0)) first++;
+    while (first < 8 && kfifo_word(&two[0], 1 + first * K, &word) == KFIFO_DONE && (word & KFIFO_MAX_ITEM) == 0)
+        first++;
     for (uint32_t i = 0; i < K; i++) {
         expect(kfifo_word(&two[0], 1 + first * K + (2 + i) % K, &word), KFIFO_DONE, "a slot");
         expect((int)(word & KFIFO_MAX_ITEM), (int)(10 + i), "the item in the slot of the start");
@@ -237,7 +238,7 @@ static void texts_of_bad_calls(void) {
         expect(text && rows[i].text && !strstr(text, rows[i].text), 0, "the text names the cause");
         if (!refused) expect(kfifo_get(&pass, &item), KFIFO_GOT, "the item of a call that was made");
     }
-    kfifo_abandon(&pass, 1);
+    expect(kfifo_abandon(&pass, 1), KFIFO_DONE, "abandon");
 }
 
 /* Fifty queues at once: all handles of one have one address, and no two have the same. */
@@ -251,11 +252,11 @@ static void addresses(void) {
         for (int j = 0; j < i; j++) expect(all[i][0].address != all[j][2].address, 1, "the addresses of two queues");
     }
     for (int i = 0; i < QUEUES; i++) {
-        kfifo_abandon(all[i], 2);
+        expect(kfifo_abandon(all[i], 2), KFIFO_DONE, "abandon");
         for (int j = 0; j < i; j++)
             expect(all[i][2].address != all[j][2].address, 1, "an address while a handle is left");
     }
-    for (int i = 0; i < QUEUES; i++) kfifo_abandon(&all[i][2], 1);
+    for (int i = 0; i < QUEUES; i++) expect(kfifo_abandon(&all[i][2], 1), KFIFO_DONE, "abandon");
 }
 
 static void refusals(void) {
@@ -320,10 +321,10 @@ static void refusals(void) {
     expect(kfifo_close(&pass, 1, left, 2, &count), KFIFO_DONE, "close a worn queue");
     kfifo_pass two[2];
     expect(kfifo_open(1, 2, 1, 9, two, 2), KFIFO_DONE, "open for two");
-    kfifo_abandon(&two[1], 1);
+    expect(kfifo_abandon(&two[1], 1), KFIFO_DONE, "abandon");
     expect(kfifo_close(two, 2, left, 2, &count), KFIFO_BAD_CALL, "a closed handle among those of a close");
     expect(kfifo_enqueue(&two[0], 1, 0, 4), KFIFO_DONE, "the open one still works");
-    kfifo_abandon(two, 2);
+    expect(kfifo_abandon(two, 2), KFIFO_DONE, "abandon");
 }
 
 int main(void) {

@@ -133,7 +133,7 @@ static void tokens(void) {
     value = 77;
     expect(kfifo_take(&two[1], &value), KFIFO_EMPTY, "an empty queue");
     expect(value, 77, "the value of a take that got none");
-    kfifo_abandon_values(two, 2);
+    expect(kfifo_abandon_values(two, 2), KFIFO_DONE, "abandon");
 }
 
 /* Takers keep tokens of the one that gives, 15 each at most. With enough tokens that one still fills the ring, and is
@@ -153,7 +153,7 @@ static void enough_tokens(void) {
         }
         for (int i = 0; i < SLOTS; i++) expect(kfifo_give(giver, 7), KFIFO_DONE, "a give until the ring is full");
         expect(kfifo_give(giver, 7), fewer ? KFIFO_NO_TOKEN : KFIFO_FULL, "a give into a full ring");
-        kfifo_abandon_values(all, THREADS);
+        expect(kfifo_abandon_values(all, THREADS), KFIFO_DONE, "abandon");
     }
 }
 
@@ -191,7 +191,7 @@ static void addresses(void) {
         expect(all[i][0].address == all[i][1].address, 1, "the address of a queue's handles");
         for (int j = 0; j < i; j++) expect(all[i][0].address != all[j][1].address, 1, "the addresses of two queues");
     }
-    for (int i = 0; i < QUEUES; i++) kfifo_abandon_values(all[i], 2);
+    for (int i = 0; i < QUEUES; i++) expect(kfifo_abandon_values(all[i], 2), KFIFO_DONE, "abandon");
 }
 
 static void refusals(void) {
@@ -273,10 +273,10 @@ static void ends(void) {
     expect(kfifo_close_values(first, 1, left, 2, &count), KFIFO_BAD_CALL, "a close without one of two handles");
     expect(kfifo_close_values(mixed, 2, left, 2, &count), KFIFO_BAD_CALL, "a close by handles of two queues");
     expect(count, 77, "the count of a close by handles of two queues");
-    kfifo_abandon_values(&second[1], 1);
+    expect(kfifo_abandon_values(&second[1], 1), KFIFO_DONE, "abandon");
     expect(kfifo_close_values(second, 2, left, 2, &count), KFIFO_BAD_CALL, "a closed handle among those of a close");
     expect(kfifo_give(&second[0], 9), KFIFO_DONE, "the open one still works");
-    kfifo_abandon_values(second, 2);
+    expect(kfifo_abandon_values(second, 2), KFIFO_DONE, "abandon");
     expect(kfifo_close_values(first, 2, left, 2, &count), KFIFO_DONE, "close the first");
     expect(count, 0, "values left in the first");
     expect(kfifo_values_room(first, 2), 0, "room of a queue that was closed");

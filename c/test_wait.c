@@ -115,9 +115,9 @@ static void run(uint32_t givers, uint32_t takers, uint32_t k, int of_items, uint
     expect(waits.state, KFIFO_WAITS_FINISHED, "threads that are still said to wait");
     free(out);
     if (of_items)
-        kfifo_abandon(passes, threads);
+        expect(kfifo_abandon(passes, threads), KFIFO_DONE, "abandon");
     else
-        kfifo_abandon_values(of_values, threads);
+        expect(kfifo_abandon_values(of_values, threads), KFIFO_DONE, "abandon");
 }
 
 /* Givers and takers that would go on for ever are finished in the middle: each ends, and what went in came out or is
@@ -134,7 +134,7 @@ static void finish_in_the_middle(void) {
         uint64_t again = 0;
         out = calloc(VALUES + 1, sizeof *out);
         if (!waits || !out) abort();
-        kfifo_waits_open(waits);
+        expect(kfifo_waits_open(waits), KFIFO_DONE, "open anew");
         expect(kfifo_open_values(K, SEGMENTS, 20, passes, THREADS), KFIFO_DONE, "open");
         for (uint32_t i = 0; i < THREADS; i++) {
             sides[i] = (struct side){.values = &passes[i], .waits = waits};
@@ -237,7 +237,7 @@ static void times(void) {
         expect(value, i, "the values in their order");
     }
     expect(kfifo_try_take(&passes[0], &waits, &value), KFIFO_EMPTY, "nothing that timed out is in the queue");
-    kfifo_abandon_values(passes, 2);
+    expect(kfifo_abandon_values(passes, 2), KFIFO_DONE, "abandon");
 }
 
 /* Four givers sleep before a full ring of two segments; a whole segment is taken, by as many takes as there are givers,
@@ -260,7 +260,7 @@ static void room_for_several(void) {
         pthread_join(ids[i], NULL);
         expect(calls[i].status, KFIFO_DONE, "a give that slept");
     }
-    kfifo_abandon_values(passes, GIVERS + 1);
+    expect(kfifo_abandon_values(passes, GIVERS + 1), KFIFO_DONE, "abandon");
 }
 
 /* A giver that sleeps for want of a token comes in when a take lays one down, whoever else sleeps. */
@@ -283,7 +283,7 @@ static void tokens(void) {
     expect(calls[0].status, KFIFO_DONE, "the first give that slept for a token");
     expect(calls[1].status, KFIFO_DONE, "the second give that slept for a token");
     expect(__atomic_load_n(&waits.tokenless, __ATOMIC_SEQ_CST), 0, "givers that sleep without a token afterwards");
-    kfifo_abandon_values(passes, 3);
+    expect(kfifo_abandon_values(passes, 3), KFIFO_DONE, "abandon");
 }
 
 /* Of two givers the first sleeps for a token and the second before a full ring. A take makes room, and its thread keeps
@@ -306,7 +306,7 @@ static void room_without_token(void) {
     expect(kfifo_try_take(&passes[2], &waits, &value), KFIFO_GOT, "a take that lays its token down");
     pthread_join(first, NULL);
     expect(tokenless.status, KFIFO_DONE, "a give that found a token");
-    kfifo_abandon_values(passes, 3);
+    expect(kfifo_abandon_values(passes, 3), KFIFO_DONE, "abandon");
 }
 
 static void finishes(void) {
@@ -333,7 +333,7 @@ static void finishes(void) {
     for (uint64_t i = 0; i < 2; i++) expect(kfifo_try_give(&passes[0], &waits, i), KFIFO_DONE, "a give before the end");
     ids[0] = start(&calls[0], &passes[1], &waits, 1, 5, KFIFO_FOREVER);
     until_asleep(&waits, 1, KFIFO_WAITS_GIVER);
-    kfifo_finish(&waits);
+    expect(kfifo_finish(&waits), KFIFO_DONE, "finish");
     pthread_join(ids[0], NULL);
     expect(calls[0].status, KFIFO_FINISHED, "a giver that slept");
     /* What is left comes out before the end does. */
@@ -347,7 +347,7 @@ static void finishes(void) {
     expect(kfifo_try_take(&passes[2], &waits, &value), KFIFO_FINISHED, "the end at once");
     expect(kfifo_take_wait(&passes[2], &waits, &value, 0), KFIFO_FINISHED, "the end comes before the time is up");
     expect(value, 1, "the value of a take that got none");
-    kfifo_abandon_values(passes, 3);
+    expect(kfifo_abandon_values(passes, 3), KFIFO_DONE, "abandon");
 }
 
 static void ignore(int signal) { (void)signal; }
@@ -378,7 +378,7 @@ static void signals(void) {
         expect(call.status, limited ? KFIFO_TIMED_OUT : KFIFO_GOT, "a take that signals met");
         if (limited) expect(call.spent >= 50 * MILLISECOND, 1, "the time of a take that signals met");
     }
-    kfifo_abandon_values(passes, 2);
+    expect(kfifo_abandon_values(passes, 2), KFIFO_DONE, "abandon");
 }
 
 /* A thread that waits uses no time of a processor. */
@@ -394,7 +394,7 @@ static void idle(void) {
 #ifndef FEWER
     expect(spent < 2 * MILLISECOND, 1, "the time of a processor that an idle take used");
 #endif
-    kfifo_abandon_values(&pass, 1);
+    expect(kfifo_abandon_values(&pass, 1), KFIFO_DONE, "abandon");
 }
 
 static void refusals(void) {
@@ -435,13 +435,13 @@ static void refusals(void) {
             expect(item, 5, "which item");
             expect(kfifo_get_wait(&items, &waits, &item, 1), KFIFO_TIMED_OUT, "no item in time");
         }
-        kfifo_finish(&waits);
+        expect(kfifo_finish(&waits), KFIFO_DONE, "finish");
     }
     expect(kfifo_put_wait(&items, &waits, 5, KFIFO_FOREVER), KFIFO_FINISHED, "a put after the end");
     expect(kfifo_get_wait(&items, &waits, &item, KFIFO_FOREVER), KFIFO_FINISHED, "a get after the end");
     expect(value, 77, "the value of takes that got none");
-    kfifo_abandon_values(&pass, 1);
-    kfifo_abandon(&items, 1);
+    expect(kfifo_abandon_values(&pass, 1), KFIFO_DONE, "abandon");
+    expect(kfifo_abandon(&items, 1), KFIFO_DONE, "abandon");
 }
 
 /* A thread that waits on a queue which is worn out is told so. */
@@ -456,7 +456,7 @@ static void worn(void) {
             i % 3 == 2 ? kfifo_take_wait(&pass, &waits, &value, 0) : kfifo_give_wait(&pass, &waits, (uint64_t)i, 0);
     expect(status, KFIFO_WORN, "worn");
     expect(kfifo_give_wait(&pass, &waits, 1, KFIFO_FOREVER), KFIFO_WORN, "a give that would wait for ever");
-    kfifo_abandon_values(&pass, 1);
+    expect(kfifo_abandon_values(&pass, 1), KFIFO_DONE, "abandon");
 }
 
 int main(void) {

@@ -145,14 +145,14 @@ void ends() {
         expect(first != values.end() && *(*first).number < 2, "what was given comes out before the end");
         expect(!kfifo::may_retry(kfifo::Put::finished) && !kfifo::may_retry(kfifo::Miss::finished), "an end stays");
         auto moved = std::move(handle);
-        expect(refuses([&] { handle.take_wait(); }) && refuses([&] { handle.give_wait(Parcel(1)); }),
+        expect(refuses([&] { (void)handle.take_wait(); }) && refuses([&] { (void)handle.give_wait(Parcel(1)); }),
                "a handle that was moved from");
-        expect(refuses([&] { handle.finish(); }) && refuses([&] { handle.values().begin(); }),
+        expect(refuses([&] { handle.finish(); }) && refuses([&] { (void)handle.values().begin(); }),
                "the end by a handle that was moved from");
     }
     expect(Parcel::alive == 0, "a finished queue destroys what is left");
     Parcels queue(1, 2, 1);
-    queue.close();
+    expect(queue.close().empty(), "a queue with nothing in it");
     expect(refuses([&] { queue.finish(); }), "the end of a closed queue");
 }
 

@@ -40,7 +40,5 @@ int main(int count, char **words) {
         boundary();
         printf("%d\n", (int)status);
     }
-    kfifo_abandon_values(&values, 1);
-    kfifo_abandon(&pass, 1);
-    return 0;
+    return kfifo_abandon_values(&values, 1) != KFIFO_DONE || kfifo_abandon(&pass, 1) != KFIFO_DONE;
 }

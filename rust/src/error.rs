@@ -81,6 +81,7 @@ impl<T> PushError<T> {
     /// ```
     /// assert_eq!(kfifo::PushError::Full(7).into_inner(), 7);
     /// ```
+    #[must_use]
     pub fn into_inner(self) -> T {
         match self {
             PushError::Full(value)
@@ -100,6 +101,7 @@ impl<T> PushError<T> {
     /// assert!(PushError::Full(7).may_retry());
     /// assert!(!PushError::Worn(7).may_retry());
     /// ```
+    #[must_use]
     pub fn may_retry(&self) -> bool {
         match self {
             PushError::Full(_) | PushError::Busy(_) | PushError::NoToken(_) => true,
@@ -175,6 +177,7 @@ impl PopError {
     /// assert!(PopError::Empty.may_retry());
     /// assert!(!PopError::Worn.may_retry());
     /// ```
+    #[must_use]
     pub fn may_retry(&self) -> bool {
         match self {
             PopError::Empty | PopError::Busy => true,

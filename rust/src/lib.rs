@@ -131,6 +131,7 @@ impl Default for Versions {
 ///     Ok(()) // the second order is dropped with the queue
 /// }
 /// ```
+#[must_use]
 pub struct Queue<T> {
     shared: Arc<Shared<T>>,
 }
@@ -222,6 +223,7 @@ impl<T> Queue<T> {
     /// assert!(queue.handle().is_some());
     /// # Ok::<(), kfifo::OpenError>(())
     /// ```
+    #[must_use]
     pub fn handle(&self) -> Option<Handle<T>> {
         let number = self.shared.borrow_pass()?;
         Some(Handle {
@@ -467,6 +469,7 @@ impl<T> Handle<T> {
     /// assert_eq!(handle.values().collect::<Vec<_>>(), ["a", "b"]);
     /// # Ok::<(), kfifo::OpenError>(())
     /// ```
+    #[must_use]
     pub fn values(&self) -> Values<'_, T> {
         Values { handle: self }
     }
@@ -500,6 +503,7 @@ fn nanoseconds_of(time: Duration) -> u64 {
 
 /// The values that come out of a queue until its end: [`Handle::values`].
 #[derive(Debug)]
+#[must_use = "it takes values only when it is asked for them"]
 pub struct Values<'a, T> {
     handle: &'a Handle<T>,
 }
