@@ -290,7 +290,7 @@ template <typename Pass, bool looks> struct KfifoInC {
             status = looks ? kfifo_try_get(pass, &waits, &value) : kfifo_get(pass, &value);
         else
             status = looks ? kfifo_try_take(pass, &waits, &value) : kfifo_take(pass, &value);
-        return status == KFIFO_GOT ? std::uint32_t(value) : 0;
+        return status == KFIFO_DONE ? std::uint32_t(value) : 0;
     }
 
   private:

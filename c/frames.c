@@ -43,7 +43,7 @@ static void *camera(void *nothing) {
 static void *filter(void *nothing) {
     struct line *from = &raw, *to = &filtered;
     uint64_t got = 0, made = 0;
-    while ((filter_end = kfifo_receive_wait(&from->passes[1], &from->waits, &got, KFIFO_FOREVER)) == KFIFO_GOT) {
+    while ((filter_end = kfifo_receive_wait(&from->passes[1], &from->waits, &got, KFIFO_FOREVER)) == KFIFO_DONE) {
         filter_end = kfifo_reserve_wait(&to->passes[0], &to->waits, &made, KFIFO_FOREVER);
         if (filter_end != KFIFO_DONE) break;
         const struct frame *in = &from->cells[got];
@@ -63,7 +63,7 @@ static void *filter(void *nothing) {
 static void *screen(void *nothing) {
     struct line *from = &filtered;
     uint64_t cell = 0;
-    while ((screen_end = kfifo_receive_wait(&from->passes[1], &from->waits, &cell, KFIFO_FOREVER)) == KFIFO_GOT) {
+    while ((screen_end = kfifo_receive_wait(&from->passes[1], &from->waits, &cell, KFIFO_FOREVER)) == KFIFO_DONE) {
         const struct frame *frame = &from->cells[cell];
         shown++;
         wrong += frame->number != shown || frame->pixels[SIZE - 1] != (unsigned char)(2 * (shown & 0x7f));

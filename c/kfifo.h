@@ -38,15 +38,14 @@ extern "C" {
 
 /* What a call returns. */
 typedef enum kfifo_status {
-    KFIFO_DONE = 0,          /* done; of a put: the item is in the queue, or was already taken */
-    KFIFO_FULL = 1,          /* the ring was seen full; the item is not in it */
-    KFIFO_GOT = 2,           /* an item, a value or a cell was taken */
-    KFIFO_EMPTY = 3,         /* the queue was empty */
-    KFIFO_BUSY = 4,          /* the call used up its rounds, and nothing was done: see kfifo_put and kfifo_enqueue */
-    KFIFO_WORN = 5,          /* the versions are used up, and were not renewed; close this queue and open another */
-    KFIFO_BAD_CALL = 6,      /* a null pointer, an argument out of range, a handle closed or missing, or one that has no
-                                cell to publish, cancel or release; nothing done */
-    KFIFO_NO_MEMORY = 7,     /* an allocation failed; nothing was done */
+    KFIFO_DONE = 0,      /* done; of a put: the item is in the queue, or was already taken; of a take: one was taken */
+    KFIFO_FULL = 1,      /* the ring was seen full; the item is not in it */
+    KFIFO_EMPTY = 3,     /* the queue was empty */
+    KFIFO_BUSY = 4,      /* the call used up its rounds, and nothing was done: see kfifo_put and kfifo_enqueue */
+    KFIFO_WORN = 5,      /* the versions are used up, and were not renewed; close this queue and open another */
+    KFIFO_BAD_CALL = 6,  /* a null pointer, an argument out of range, a handle closed or missing, or one that has no
+                            cell to publish, cancel or release; nothing done */
+    KFIFO_NO_MEMORY = 7, /* an allocation failed; nothing was done */
     KFIFO_BAD_THREADS = 8,   /* the number of threads is not 1 to 64; nothing was done */
     KFIFO_LOST = 9,          /* of a close: an allocation failed; the queue is closed, what was left in it is lost */
     KFIFO_NO_TOKEN = 10,     /* of values and cells: the handle has no token, and the pool none; nothing was done */
@@ -63,12 +62,16 @@ typedef enum kfifo_status {
 /* The name of a status, as "KFIFO_EMPTY". */
 static inline const char *kfifo_status_name(kfifo_status status) {
     static const char *const names[] = {
-        "KFIFO_DONE",       "KFIFO_FULL",      "KFIFO_GOT",          "KFIFO_EMPTY",       "KFIFO_BUSY",
-        "KFIFO_WORN",       "KFIFO_BAD_CALL",  "KFIFO_NO_MEMORY",    "KFIFO_BAD_THREADS", "KFIFO_LOST",
-        "KFIFO_NO_TOKEN",   "KFIFO_BAD_K",     "KFIFO_BAD_SEGMENTS", "KFIFO_BAD_LAST",    "KFIFO_BAD_PROBES",
-        "KFIFO_BAD_TOKENS", "KFIFO_TIMED_OUT", "KFIFO_FINISHED",     "KFIFO_BAD_RESERVE",
+        "KFIFO_DONE",         "KFIFO_FULL",      NULL,
+        "KFIFO_EMPTY",        "KFIFO_BUSY",      "KFIFO_WORN",
+        "KFIFO_BAD_CALL",     "KFIFO_NO_MEMORY", "KFIFO_BAD_THREADS",
+        "KFIFO_LOST",         "KFIFO_NO_TOKEN",  "KFIFO_BAD_K",
+        "KFIFO_BAD_SEGMENTS", "KFIFO_BAD_LAST",  "KFIFO_BAD_PROBES",
+        "KFIFO_BAD_TOKENS",   "KFIFO_TIMED_OUT", "KFIFO_FINISHED",
+        "KFIFO_BAD_RESERVE",
     };
-    return KFIFO_CAST(size_t, status) < sizeof names / sizeof names[0] ? names[status] : "no status of this library";
+    const char *name = KFIFO_CAST(size_t, status) < sizeof names / sizeof names[0] ? names[status] : NULL;
+    return name ? name : "no status of this library";
 }
 
 /* A line of text for a status, as "the queue was empty". kfifo_bad_call_text says which cause a BAD_CALL had. */
@@ -76,7 +79,6 @@ static inline const char *kfifo_status_text(kfifo_status status) {
     switch (status) {
     case KFIFO_DONE: return "done";
     case KFIFO_FULL: return "the ring was full";
-    case KFIFO_GOT: return "an item, a value or a cell was taken";
     case KFIFO_EMPTY: return "the queue was empty";
     case KFIFO_BUSY: return "the call used up its rounds";
     case KFIFO_WORN: return "the versions of the queue are used up: close it and open another";
@@ -141,7 +143,8 @@ typedef struct kfifo_cell_pass {
 } kfifo_cell_pass;
 
 /* The exports of the library, which test all but null pointers, and at a close that the handles are of one queue. Call
-   those below. */
+   those below. A take that is done returns KFIFO_C_GOT, where those below return KFIFO_DONE. */
+#define KFIFO_C_GOT UINT32_C(2)
 uint32_t kfifo_c_open(uint32_t k, uint32_t segments, uint32_t probes, uint64_t last, kfifo_pass *passes,
                       size_t threads);
 uint32_t kfifo_c_put(kfifo_pass *pass, uint32_t item);
@@ -189,7 +192,7 @@ void AnnotateIgnoreWritesEnd(const char *file, int line);
 #define KFIFO_ENTER() AnnotateIgnoreWritesBegin(__FILE__, __LINE__)
 #define KFIFO_LEAVE() AnnotateIgnoreWritesEnd(__FILE__, __LINE__)
 #define KFIFO_BEFORE_PUT(pass) __tsan_release((pass)->address)
-#define KFIFO_AFTER_GOT(pass, status) ((status) == KFIFO_GOT ? __tsan_acquire((pass)->address) : KFIFO_CAST(void, 0))
+#define KFIFO_AFTER_TAKE(pass, status) ((status) == KFIFO_DONE ? __tsan_acquire((pass)->address) : KFIFO_CAST(void, 0))
 #define KFIFO_RELEASED(pass) KFIFO_CAST(void *, KFIFO_CAST(char *, (pass)->address) + 8)
 #define KFIFO_BEFORE_RELEASE(pass) ((pass)->starts ? __tsan_release(KFIFO_RELEASED(pass)) : KFIFO_CAST(void, 0))
 #define KFIFO_AFTER_RESERVE(pass, status)                                                                              \
@@ -198,10 +201,15 @@ void AnnotateIgnoreWritesEnd(const char *file, int line);
 #define KFIFO_ENTER() KFIFO_CAST(void, 0)
 #define KFIFO_LEAVE() KFIFO_CAST(void, 0)
 #define KFIFO_BEFORE_PUT(pass) KFIFO_CAST(void, 0)
-#define KFIFO_AFTER_GOT(pass, status) KFIFO_CAST(void, 0)
+#define KFIFO_AFTER_TAKE(pass, status) KFIFO_CAST(void, 0)
 #define KFIFO_BEFORE_RELEASE(pass) KFIFO_CAST(void, 0)
 #define KFIFO_AFTER_RESERVE(pass, status) KFIFO_CAST(void, 0)
 #endif
+
+/* The status of a take that returned this. */
+static inline kfifo_status kfifo_taken(uint32_t returned) {
+    return returned == KFIFO_C_GOT ? KFIFO_DONE : KFIFO_CAST(kfifo_status, returned);
+}
 
 /* With KFIFO_DEBUG each call marks its handle. A second call by a handle while one runs, or a call by a copy of a
    handle, prints the name of the call and what is wrong, and aborts. Threads that share a handle, or use a copy, break
@@ -317,12 +325,12 @@ KFIFO_MUST_USE static inline kfifo_status kfifo_put(kfifo_pass *pass, uint32_t i
     return status;
 }
 
-/* Takes one of the k oldest items: GOT, and writes it; else EMPTY, BUSY, WORN or BAD_CALL, and *item stays. */
+/* Takes one of the k oldest items: DONE, and writes it; else EMPTY, BUSY, WORN or BAD_CALL, and *item stays. */
 KFIFO_MUST_USE static inline kfifo_status kfifo_get(kfifo_pass *pass, uint32_t *item) {
     if (!pass || !item) return KFIFO_BAD_CALL;
     KFIFO_BEGIN(pass);
-    kfifo_status status = KFIFO_CAST(kfifo_status, kfifo_c_get(pass, item));
-    KFIFO_AFTER_GOT(pass, status);
+    kfifo_status status = kfifo_taken(kfifo_c_get(pass, item));
+    KFIFO_AFTER_TAKE(pass, status);
     KFIFO_END(pass);
     return status;
 }
@@ -345,8 +353,8 @@ KFIFO_MUST_USE static inline kfifo_status kfifo_dequeue(kfifo_pass *pass, uint32
                                                         uint16_t turns) {
     if (!pass || !item) return KFIFO_BAD_CALL;
     KFIFO_BEGIN(pass);
-    kfifo_status status = KFIFO_CAST(kfifo_status, kfifo_c_dequeue(pass, item, start, turns));
-    KFIFO_AFTER_GOT(pass, status);
+    kfifo_status status = kfifo_taken(kfifo_c_dequeue(pass, item, start, turns));
+    KFIFO_AFTER_TAKE(pass, status);
     KFIFO_END(pass);
     return status;
 }
@@ -453,14 +461,14 @@ KFIFO_MUST_USE static inline kfifo_status kfifo_give(kfifo_value_pass *pass, uin
     return status;
 }
 
-/* Takes one of the k oldest values: GOT, and writes it; else EMPTY, BUSY, WORN or BAD_CALL, and *value stays. */
+/* Takes one of the k oldest values: DONE, and writes it; else EMPTY, BUSY, WORN or BAD_CALL, and *value stays. */
 KFIFO_MUST_USE static inline kfifo_status kfifo_take(kfifo_value_pass *pass, uint64_t *value) {
     if (!pass || !value) return KFIFO_BAD_CALL;
     KFIFO_BEGIN(pass);
     KFIFO_ENTER();
-    kfifo_status status = KFIFO_CAST(kfifo_status, kfifo_c_take(pass, value));
+    kfifo_status status = kfifo_taken(kfifo_c_take(pass, value));
     KFIFO_LEAVE();
-    KFIFO_AFTER_GOT(pass, status);
+    KFIFO_AFTER_TAKE(pass, status);
     KFIFO_END(pass);
     return status;
 }
@@ -474,7 +482,7 @@ KFIFO_MUST_USE static inline kfifo_status kfifo_take_pointer(kfifo_value_pass *p
     uint64_t value;
     if (!pointer) return KFIFO_BAD_CALL;
     kfifo_status status = kfifo_take(pass, &value);
-    if (status == KFIFO_GOT) *pointer = KFIFO_CAST_POINTER(void *, KFIFO_CAST(uintptr_t, value));
+    if (status == KFIFO_DONE) *pointer = KFIFO_CAST_POINTER(void *, KFIFO_CAST(uintptr_t, value));
     return status;
 }
 
@@ -547,7 +555,7 @@ KFIFO_MUST_USE static inline kfifo_status kfifo_abandon_values(kfifo_value_pass 
            if (status != KFIFO_DONE) return 1;       // worn
        }
 
-       if (kfifo_receive(&passes[1], &cell) == KFIFO_GOT) {
+       if (kfifo_receive(&passes[1], &cell) == KFIFO_DONE) {
            show(&frames[cell]);                      // now it is this one's alone
            if (kfifo_release(&passes[1]) != KFIFO_DONE) return 1;
        }
@@ -612,7 +620,7 @@ KFIFO_MUST_USE static inline kfifo_status kfifo_cancel(kfifo_cell_pass *pass) {
     return status;
 }
 
-/* Takes one of the k oldest cells: GOT, and writes its number. Until the handle's next kfifo_receive or kfifo_release
+/* Takes one of the k oldest cells: DONE, and writes its number. Until the handle's next kfifo_receive or kfifo_release
    the cell is the handle's alone. Else EMPTY, BUSY, WORN or BAD_CALL, and *cell stays. The call first releases the cell
    that the handle received before, also where it then takes none. A handle may have a received and a reserved cell at
    once. */
@@ -621,9 +629,9 @@ KFIFO_MUST_USE static inline kfifo_status kfifo_receive(kfifo_cell_pass *pass, u
     KFIFO_BEGIN(pass);
     KFIFO_BEFORE_RELEASE(pass);
     KFIFO_ENTER();
-    kfifo_status status = KFIFO_CAST(kfifo_status, kfifo_c_receive(pass, cell));
+    kfifo_status status = kfifo_taken(kfifo_c_receive(pass, cell));
     KFIFO_LEAVE();
-    KFIFO_AFTER_GOT(pass, status);
+    KFIFO_AFTER_TAKE(pass, status);
     KFIFO_END(pass);
     return status;
 }

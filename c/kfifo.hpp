@@ -135,7 +135,7 @@ class Pass {
     }
     // The item is read after the call: as an argument beside the call it might be read before.
     Taken taken(kfifo_status status, const std::uint32_t &item, std::uint32_t start, std::uint16_t turns) const {
-        if (status == KFIFO_GOT) return {item, Miss::empty};
+        if (status == KFIFO_DONE) return {item, Miss::empty};
         if (status == KFIFO_BAD_CALL) refuse(1, start, turns, kfifo_status_text(status));
         return {std::nullopt, static_cast<Miss>(status)};
     }
@@ -638,7 +638,7 @@ template <typename T> class ValueQueue {
                 }
                 // Other threads look at this line of the cache at each take.
                 if (is_kept != was_kept) of.kept[handle.which()] = is_kept ? std::optional(number) : std::nullopt;
-                (void)kfifo_after_take(&of.waits, KFIFO_GOT);
+                (void)kfifo_after_take(&of.waits, KFIFO_DONE);
             }
             Handle &handle;
             std::uint64_t number;
@@ -648,12 +648,12 @@ template <typename T> class ValueQueue {
         // As kfifo_try_receive, but where it got a cell it wakes nobody: Received does that.
         kfifo_status look(kfifo_waits *waits, std::uint64_t *number) {
             kfifo_status status = kfifo_receive(pass, number);
-            if (status == KFIFO_GOT) return status;
+            if (status == KFIFO_DONE) return status;
             (void)kfifo_after_take(waits, status);
             if (status != KFIFO_EMPTY || !kfifo_is_finished(waits)) return status;
             // A value may have come between the look and the end.
             status = kfifo_receive(pass, number);
-            if (status == KFIFO_GOT) return status;
+            if (status == KFIFO_DONE) return status;
             (void)kfifo_after_take(waits, status);
             return status == KFIFO_EMPTY ? KFIFO_FINISHED : status;
         }
@@ -672,7 +672,7 @@ template <typename T> class ValueQueue {
             }
             if (!was_kept) {
                 kfifo_status status = calls([&] { return look(waits, &number); });
-                if (status != KFIFO_GOT) return none(static_cast<Miss>(detail::checked(status)));
+                if (status != KFIFO_DONE) return none(static_cast<Miss>(detail::checked(status)));
             }
             Received received(*this, number, was_kept);
             try {

@@ -148,7 +148,7 @@ KFIFO_MUST_USE static inline int kfifo_is_finished(kfifo_waits *waits) {
 
 /* ---- Values ----
 
-   A call that waits returns DONE or GOT; TIMED_OUT, and nothing was given or taken; FINISHED; WORN; or BAD_CALL. It
+   A call that waits returns DONE; TIMED_OUT, and nothing was given or taken; FINISHED; WORN; or BAD_CALL. It
    never returns FULL, NO_TOKEN, EMPTY or BUSY. With 0 nanoseconds it looks once and does not sleep. Who gets
    WORN calls kfifo_finish, so that the others end too, and then closes the queue. */
 
@@ -165,7 +165,7 @@ KFIFO_MUST_USE static inline kfifo_status kfifo_try_give(kfifo_value_pass *pass,
 KFIFO_MUST_USE static inline kfifo_status kfifo_try_take(kfifo_value_pass *pass, kfifo_waits *waits, uint64_t *value) {
     if (!waits) return KFIFO_BAD_CALL;
     kfifo_status status = kfifo_take(pass, value);
-    if (__builtin_expect(status == KFIFO_GOT, 1)) return kfifo_after_take(waits, KFIFO_GOT);
+    if (__builtin_expect(status == KFIFO_DONE, 1)) return kfifo_after_take(waits, KFIFO_DONE);
     (void)kfifo_after_take(waits, status);
     if (status != KFIFO_EMPTY || !kfifo_is_finished(waits)) return status;
     /* A value may have come between the look and the end. */
@@ -188,7 +188,7 @@ KFIFO_MUST_USE static inline kfifo_status kfifo_give_wait(kfifo_value_pass *pass
 KFIFO_MUST_USE static inline kfifo_status kfifo_take_wait(kfifo_value_pass *pass, kfifo_waits *waits, uint64_t *value,
                                                           uint64_t nanoseconds) {
     kfifo_status status = kfifo_try_take(pass, waits, value);
-    if (status == KFIFO_GOT || !kfifo_may_retry(status)) return status;
+    if (status == KFIFO_DONE || !kfifo_may_retry(status)) return status;
     kfifo_waiter waiter = kfifo_waiter_of(waits, KFIFO_WAITS_TAKER, nanoseconds);
     while (KFIFO_WAIT_AGAIN(pass, &waiter, &status)) status = kfifo_try_take(pass, waits, value);
     return status;
@@ -205,7 +205,7 @@ KFIFO_MUST_USE static inline kfifo_status kfifo_take_pointer_wait(kfifo_value_pa
     uint64_t value;
     if (!pointer) return KFIFO_BAD_CALL;
     kfifo_status status = kfifo_take_wait(pass, waits, &value, nanoseconds);
-    if (status == KFIFO_GOT) *pointer = KFIFO_CAST_POINTER(void *, KFIFO_CAST(uintptr_t, value));
+    if (status == KFIFO_DONE) *pointer = KFIFO_CAST_POINTER(void *, KFIFO_CAST(uintptr_t, value));
     return status;
 }
 
@@ -274,7 +274,7 @@ KFIFO_MUST_USE static inline kfifo_status kfifo_publish_wait(kfifo_cell_pass *pa
 KFIFO_MUST_USE static inline kfifo_status kfifo_receive_wait(kfifo_cell_pass *pass, kfifo_waits *waits, uint64_t *cell,
                                                              uint64_t nanoseconds) {
     kfifo_status status = kfifo_try_receive(pass, waits, cell);
-    if (status == KFIFO_GOT || !kfifo_may_retry(status)) return status;
+    if (status == KFIFO_DONE || !kfifo_may_retry(status)) return status;
     kfifo_waiter waiter = kfifo_waiter_of(waits, KFIFO_WAITS_TAKER, nanoseconds);
     while (KFIFO_WAIT_AGAIN(pass, &waiter, &status)) status = kfifo_try_receive(pass, waits, cell);
     return status;
@@ -292,7 +292,7 @@ KFIFO_MUST_USE static inline kfifo_status kfifo_try_put(kfifo_pass *pass, kfifo_
 KFIFO_MUST_USE static inline kfifo_status kfifo_try_get(kfifo_pass *pass, kfifo_waits *waits, uint32_t *item) {
     if (!waits) return KFIFO_BAD_CALL;
     kfifo_status status = kfifo_get(pass, item);
-    if (__builtin_expect(status == KFIFO_GOT, 1)) return kfifo_after_take(waits, KFIFO_GOT);
+    if (__builtin_expect(status == KFIFO_DONE, 1)) return kfifo_after_take(waits, KFIFO_DONE);
     (void)kfifo_after_take(waits, status);
     if (status != KFIFO_EMPTY || !kfifo_is_finished(waits)) return status;
     status = kfifo_after_take(waits, kfifo_get(pass, item));
@@ -311,7 +311,7 @@ KFIFO_MUST_USE static inline kfifo_status kfifo_put_wait(kfifo_pass *pass, kfifo
 KFIFO_MUST_USE static inline kfifo_status kfifo_get_wait(kfifo_pass *pass, kfifo_waits *waits, uint32_t *item,
                                                          uint64_t nanoseconds) {
     kfifo_status status = kfifo_try_get(pass, waits, item);
-    if (status == KFIFO_GOT || !kfifo_may_retry(status)) return status;
+    if (status == KFIFO_DONE || !kfifo_may_retry(status)) return status;
     kfifo_waiter waiter = kfifo_waiter_of(waits, KFIFO_WAITS_TAKER, nanoseconds);
     while (KFIFO_WAIT_AGAIN(pass, &waiter, &status)) status = kfifo_try_get(pass, waits, item);
     return status;

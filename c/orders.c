@@ -43,7 +43,7 @@ static void *produce(void *argument) {
 static void *consume(void *argument) {
     struct side *self = argument;
     void *order = NULL;
-    while ((self->end = kfifo_take_pointer_wait(self->pass, &waits, &order, KFIFO_FOREVER)) == KFIFO_GOT) {
+    while ((self->end = kfifo_take_pointer_wait(self->pass, &waits, &order, KFIFO_FOREVER)) == KFIFO_DONE) {
         self->total += ((struct order *)order)->price;
         self->orders++;
         free(order);

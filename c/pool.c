@@ -20,7 +20,7 @@ struct worker {
 static void *work(void *argument) {
     struct worker *self = argument;
     uint32_t item = 0;
-    while ((self->end = kfifo_get_wait(self->pass, &waits, &item, KFIFO_FOREVER)) == KFIFO_GOT) {
+    while ((self->end = kfifo_get_wait(self->pass, &waits, &item, KFIFO_FOREVER)) == KFIFO_DONE) {
         self->sum += numbers[item];
         self->jobs++;
     }

@@ -54,14 +54,14 @@ static void misuse(void) {
     expect(kfifo_publish(&two[0]), KFIFO_DONE, "a publish");
     expect(kfifo_publish(&two[0]), KFIFO_BAD_CALL, "a publish of a published cell");
     expect(kfifo_cancel(&two[0]), KFIFO_BAD_CALL, "a cancel of a published cell");
-    expect(kfifo_receive(&two[1], &other), KFIFO_GOT, "a receive beside a reserved cell");
+    expect(kfifo_receive(&two[1], &other), KFIFO_DONE, "a receive beside a reserved cell");
     expect(other, cell, "the cell that was published");
     expect(kfifo_publish(&two[1]), KFIFO_DONE, "a publish beside a received cell");
     expect(kfifo_publish(&two[1]), KFIFO_BAD_CALL, "a publish of a received cell");
     expect(kfifo_cancel(&two[1]), KFIFO_BAD_CALL, "a cancel of a received cell");
     expect(kfifo_release(&two[1]), KFIFO_DONE, "a release");
     expect(kfifo_release(&two[1]), KFIFO_BAD_CALL, "a second release");
-    expect(kfifo_receive(&two[1], &other), KFIFO_GOT, "a receive after a release");
+    expect(kfifo_receive(&two[1], &other), KFIFO_DONE, "a receive after a release");
     expect(kfifo_receive(&two[1], &other), KFIFO_EMPTY, "a receive that releases");
     expect(kfifo_release(&two[1]), KFIFO_BAD_CALL, "a release of what a receive released");
     expect(kfifo_abandon_cells(two, 2), KFIFO_DONE, "abandon");
@@ -82,7 +82,7 @@ static void cancels(void) {
         if (!i) expect(kfifo_publish(&three[0]), KFIFO_DONE, "a publish");
     }
     expect(kfifo_reserve(&three[1], &cell[1]), KFIFO_DONE, "a reserve by the second");
-    expect(kfifo_receive(&three[1], &cell[0]), KFIFO_GOT, "a receive beside it");
+    expect(kfifo_receive(&three[1], &cell[0]), KFIFO_DONE, "a receive beside it");
     expect(kfifo_release(&three[1]), KFIFO_DONE, "a release beside it");
     expect(kfifo_reserve(&three[0], &cell[2]), KFIFO_NO_TOKEN, "the second has one reserved and one of its own");
     expect(kfifo_cancel(&three[1]), KFIFO_DONE, "a cancel");
@@ -101,7 +101,7 @@ static void batches(uint32_t tokens) {
     for (uint32_t i = 0; i < 100 * tokens; i++) {
         expect(kfifo_reserve(&two[0], &cell), KFIFO_DONE, "a reserve by the one that gives");
         expect(kfifo_publish(&two[0]), KFIFO_DONE, "its publish");
-        expect(kfifo_receive(&two[1], &cell), KFIFO_GOT, "a receive by the one that takes");
+        expect(kfifo_receive(&two[1], &cell), KFIFO_DONE, "a receive by the one that takes");
         expect(kfifo_release(&two[1]), KFIFO_DONE, "its release");
     }
     expect(kfifo_abandon_cells(two, 2), KFIFO_DONE, "abandon");
@@ -118,7 +118,7 @@ static void in_order(void) {
         expect(kfifo_reserve(&two[0], &cell), KFIFO_DONE, "a reserve by the one that gives");
         if (i >= TOKENS) expect(cell, i, "the next cell of the one that takes");
         expect(kfifo_publish(&two[0]), KFIFO_DONE, "its publish");
-        expect(kfifo_receive(&two[1], &cell), KFIFO_GOT, "a receive by the one that takes");
+        expect(kfifo_receive(&two[1], &cell), KFIFO_DONE, "a receive by the one that takes");
         expect(kfifo_release(&two[1]), KFIFO_DONE, "its release");
     }
     expect(kfifo_abandon_cells(two, 2), KFIFO_DONE, "abandon");
@@ -172,7 +172,7 @@ static void refusals(void) {
     expect(kfifo_reserve(&one, &cell), KFIFO_DONE, "a reserve after a refused publish");
     expect(cell, last, "the cell is still reserved after a refused publish");
     expect(kfifo_publish(&one), KFIFO_FULL, "a ring that is full again");
-    expect(kfifo_receive(&one, &cell), KFIFO_GOT, "got");
+    expect(kfifo_receive(&one, &cell), KFIFO_DONE, "got");
     expect(cell != last, 1, "a reserved cell is not in the queue");
     expect(kfifo_publish(&one), KFIFO_DONE, "the cell that was refused");
     expect(kfifo_reserve(&one, &last), KFIFO_NO_TOKEN, "no cell is left");
@@ -211,7 +211,7 @@ static void too_many_threads(void) {
         expect(kfifo_close_cells(all, counts[i], left, 2, &count), KFIFO_BAD_THREADS, "a close by too many handles");
         expect(count, 77, "the count of a close by too many handles");
         expect(kfifo_abandon_cells(all, counts[i]), KFIFO_BAD_THREADS, "an abandon of too many handles");
-        expect(kfifo_receive(&all[0], &cell), KFIFO_GOT, "a receive after calls with too many handles");
+        expect(kfifo_receive(&all[0], &cell), KFIFO_DONE, "a receive after calls with too many handles");
         expect(kfifo_abandon_cells(all, THREADS), KFIFO_DONE, "an abandon of 64 handles");
     }
     uint64_t room[THREADS * 4];
@@ -236,7 +236,7 @@ static void closes(void) {
         expect(kfifo_reserve(&two[i % 2], &published[i]), KFIFO_DONE, "a cell to be left");
         expect(kfifo_publish(&two[i % 2]), KFIFO_DONE, "a publish of a cell to be left");
     }
-    expect(kfifo_receive(&two[0], &cell), KFIFO_GOT, "a receive before a close");
+    expect(kfifo_receive(&two[0], &cell), KFIFO_DONE, "a receive before a close");
     expect(cell, published[0], "the oldest cell");
     expect(kfifo_reserve(&two[1], &cell), KFIFO_DONE, "a reserve before a close");
     expect(kfifo_open_cells(1, 8, 8, other, 2), KFIFO_DONE, "open another");
@@ -290,7 +290,7 @@ static void times(void) {
     }
     expect(kfifo_reserve_wait(&one, &waits, &cell, 0), KFIFO_DONE, "a reserve before a full ring");
     expect(kfifo_publish_wait(&one, &waits, 1000000), KFIFO_TIMED_OUT, "a publish that waits");
-    expect(kfifo_receive_wait(&one, &waits, &cell, 0), KFIFO_GOT, "a receive that need not wait");
+    expect(kfifo_receive_wait(&one, &waits, &cell, 0), KFIFO_DONE, "a receive that need not wait");
     expect(kfifo_publish_wait(&one, &waits, 0), KFIFO_DONE, "a publish after a receive");
     expect(kfifo_reserve_wait(&one, &waits, &cell, 1000000), KFIFO_TIMED_OUT, "a reserve that waits");
     expect(kfifo_try_release(&one, &waits), KFIFO_DONE, "a release");
@@ -299,7 +299,7 @@ static void times(void) {
     expect(kfifo_try_reserve(&one, &waits, &cell), KFIFO_FINISHED, "a reserve after the end");
     expect(kfifo_publish_wait(&one, &waits, KFIFO_FOREVER), KFIFO_FINISHED, "a publish after the end");
     for (int i = 0; i < 2; i++)
-        expect(kfifo_receive_wait(&one, &waits, &cell, KFIFO_FOREVER), KFIFO_GOT, "a receive after the end");
+        expect(kfifo_receive_wait(&one, &waits, &cell, KFIFO_FOREVER), KFIFO_DONE, "a receive after the end");
     expect(kfifo_receive_wait(&one, &waits, &cell, KFIFO_FOREVER), KFIFO_FINISHED, "the end");
     expect(kfifo_abandon_cells(&one, 1), KFIFO_DONE, "abandon after the end");
     expect(kfifo_try_reserve(&one, &waits, &cell), KFIFO_BAD_CALL, "a closed handle after the end");
@@ -366,7 +366,7 @@ static void *consume(void *argument) {
     struct side *self = argument;
     uint64_t cell = 0;
     kfifo_status status;
-    while ((status = received(self->pass, &cell)) == KFIFO_GOT) {
+    while ((status = received(self->pass, &cell)) == KFIFO_DONE) {
         struct cell *mine = &cells[cell];
         for (int j = 0; j < WORDS; j++) self->wrong += mine->copies[j] != mine->index;
         out[mine->producer * EACH + mine->index]++;
@@ -414,7 +414,7 @@ static void *step(void *argument) {
     uint64_t got = 0, made = 0;
     while (atomic_load(&left_to_do) != 0) {
         kfifo_status status = kfifo_receive(self->pass, &got);
-        if (status == KFIFO_GOT && cells[got].index != 0) {
+        if (status == KFIFO_DONE && cells[got].index != 0) {
             status = kfifo_reserve(self->pass, &made);
             if (status != KFIFO_DONE) stopped(status);
             self->wrong += made == got || cells[got].copies[0] != cells[got].index;
@@ -423,7 +423,7 @@ static void *step(void *argument) {
             if (status != KFIFO_DONE) stopped(status);
             self->wrong += kfifo_release(self->pass) != KFIFO_DONE;
             self->count++;
-        } else if (status == KFIFO_GOT) {
+        } else if (status == KFIFO_DONE) {
             self->count++;
             atomic_fetch_sub(&left_to_do, 1);
         } else if (kfifo_may_retry(status)) {

@@ -72,15 +72,15 @@ static const struct {
 enum { CALLS = sizeof calls / sizeof calls[0] };
 
 static void *wait_for_item(void *pass) {
-    return kfifo_get_wait(pass, &waits, &item, KFIFO_FOREVER) == KFIFO_GOT ? pass : NULL;
+    return kfifo_get_wait(pass, &waits, &item, KFIFO_FOREVER) == KFIFO_DONE ? pass : NULL;
 }
 
 static void *wait_for_value(void *pass) {
-    return kfifo_take_wait(pass, &waits, &value, KFIFO_FOREVER) == KFIFO_GOT ? pass : NULL;
+    return kfifo_take_wait(pass, &waits, &value, KFIFO_FOREVER) == KFIFO_DONE ? pass : NULL;
 }
 
 static void *wait_for_cell(void *pass) {
-    return kfifo_receive_wait(pass, &waits, &cell, KFIFO_FOREVER) == KFIFO_GOT ? pass : NULL;
+    return kfifo_receive_wait(pass, &waits, &cell, KFIFO_FOREVER) == KFIFO_DONE ? pass : NULL;
 }
 
 /* The call by the second handle, while another thread sleeps in one by it. */

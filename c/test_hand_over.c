@@ -20,7 +20,7 @@ static kfifo_waits there_waits, back_waits;
 static void *answer(void *argument) {
     uint64_t value = 0;
     for (int i = 0; i < HAND_OVERS / 2; i++) {
-        if (kfifo_take_wait(&there[1], &there_waits, &value, KFIFO_FOREVER) != KFIFO_GOT) abort();
+        if (kfifo_take_wait(&there[1], &there_waits, &value, KFIFO_FOREVER) != KFIFO_DONE) abort();
         if (kfifo_give_wait(&back[1], &back_waits, value + 1, KFIFO_FOREVER) != KFIFO_DONE) abort();
     }
     return argument;
@@ -28,7 +28,7 @@ static void *answer(void *argument) {
 
 static void *drain(void *argument) {
     uint64_t value = 0, wanted = 0;
-    while (kfifo_take_wait(&there[1], &there_waits, &value, KFIFO_FOREVER) == KFIFO_GOT)
+    while (kfifo_take_wait(&there[1], &there_waits, &value, KFIFO_FOREVER) == KFIFO_DONE)
         if (value != wanted++) abort();
     *(uint64_t *)argument = wanted;
     return NULL;
@@ -42,7 +42,7 @@ int main(void) {
     if (pthread_create(&other, NULL, answer, NULL)) return 1;
     for (int i = 0; i < HAND_OVERS / 2; i++) {
         if (kfifo_give_wait(&there[0], &there_waits, value, KFIFO_FOREVER) != KFIFO_DONE) return 1;
-        if (kfifo_take_wait(&back[0], &back_waits, &value, KFIFO_FOREVER) != KFIFO_GOT) return 1;
+        if (kfifo_take_wait(&back[0], &back_waits, &value, KFIFO_FOREVER) != KFIFO_DONE) return 1;
     }
     pthread_join(other, NULL);
 

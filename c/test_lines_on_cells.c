@@ -28,7 +28,7 @@ static int run(void) {
             if (status != KFIFO_DONE) return 1;       // worn
         }
 
-        if (kfifo_receive(&passes[1], &cell) == KFIFO_GOT) {
+        if (kfifo_receive(&passes[1], &cell) == KFIFO_DONE) {
             show(&frames[cell]);                      // now it is this one's alone
             if (kfifo_release(&passes[1]) != KFIFO_DONE) return 1;
         }

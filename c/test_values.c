@@ -66,7 +66,7 @@ static void *consume(void *argument) {
         int last = atomic_load(&still_giving) == 0;
         uint64_t value = 0;
         kfifo_status status = kfifo_take(self->pass, &value);
-        if (status == KFIFO_GOT) {
+        if (status == KFIFO_DONE) {
             out[((value >> 40) - 1) * EACH + (value & 0xffffffffff)]++;
             self->count++;
         } else if (status == KFIFO_EMPTY && last) {
@@ -127,7 +127,7 @@ static void tokens(void) {
         for (uint64_t i = 0; i < 3; i++) expect(kfifo_give(&two[0], round), KFIFO_DONE, "a give with a token");
         expect(kfifo_give(&two[0], 1), KFIFO_NO_TOKEN, "a give without one");
         for (uint64_t i = 0; i < 3; i++)
-            expect(kfifo_take(&two[1], &value), KFIFO_GOT, "a take that lays a token down");
+            expect(kfifo_take(&two[1], &value), KFIFO_DONE, "a take that lays a token down");
         expect(value, round, "the value that was given");
     }
     value = 77;
@@ -148,7 +148,7 @@ static void enough_tokens(void) {
         for (int taker = 0; taker < THREADS - 1; taker++) {
             for (int i = 0; i < 15; i++) {
                 expect(kfifo_give(giver, 7), KFIFO_DONE, "a give whose token a taker keeps");
-                expect(kfifo_take(&all[taker], &value), KFIFO_GOT, "a take that keeps a token");
+                expect(kfifo_take(&all[taker], &value), KFIFO_DONE, "a take that keeps a token");
             }
         }
         for (int i = 0; i < SLOTS; i++) expect(kfifo_give(giver, 7), KFIFO_DONE, "a give until the ring is full");
@@ -175,7 +175,7 @@ static void too_many_threads(void) {
         expect(kfifo_close_values(all, counts[i], left, 2, &count), KFIFO_BAD_THREADS, "a close by too many handles");
         expect(count, 77, "the count of a close by too many handles");
         expect(kfifo_abandon_values(all, counts[i]), KFIFO_BAD_THREADS, "an abandon of too many handles");
-        expect(kfifo_take(&all[THREADS - 1], &value), KFIFO_GOT, "a take after calls with too many handles");
+        expect(kfifo_take(&all[THREADS - 1], &value), KFIFO_DONE, "a take after calls with too many handles");
         expect(kfifo_abandon_values(all, THREADS), KFIFO_DONE, "an abandon of 64 handles");
         expect(kfifo_give(&all[THREADS - 1], 1), KFIFO_BAD_CALL, "an abandoned handle");
     }
@@ -228,12 +228,12 @@ static void refusals(void) {
     expect(kfifo_give(&one, 0), KFIFO_DONE, "value 0");
     expect(kfifo_give_pointer(&one, &value), KFIFO_DONE, "a pointer");
     expect(kfifo_give(&one, 3), KFIFO_FULL, "full");
-    expect(kfifo_take(&one, &value), KFIFO_GOT, "got");
+    expect(kfifo_take(&one, &value), KFIFO_DONE, "got");
     expect(value, 0, "the first value");
     expect(kfifo_values_room(&one, 1), 2, "room of a queue of two slots");
     expect(kfifo_values_room(&one, 0), 0, "room of none of the handles");
     expect(kfifo_take_pointer(&one, NULL), KFIFO_BAD_CALL, "no pointer");
-    expect(kfifo_take_pointer(&one, &pointer), KFIFO_GOT, "the pointer");
+    expect(kfifo_take_pointer(&one, &pointer), KFIFO_DONE, "the pointer");
     expect(pointer == &value, 1, "which pointer");
     expect(kfifo_close_values(NULL, 1, left, 2, &count), KFIFO_BAD_CALL, "no passes to close");
     expect(kfifo_close_values(&one, 1, NULL, 2, &count), KFIFO_BAD_CALL, "no values");

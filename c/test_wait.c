@@ -72,7 +72,7 @@ static void *take_all(void *argument) {
         uint32_t item = 0;
         self->end = self->values ? kfifo_take_wait(self->values, self->waits, &value, KFIFO_FOREVER)
                                  : kfifo_get_wait(self->items, self->waits, &item, KFIFO_FOREVER);
-        if (self->end != KFIFO_GOT) return NULL;
+        if (self->end != KFIFO_DONE) return NULL;
         atomic_fetch_add(&out[self->values ? value : item], 1);
         self->count++;
     }
@@ -217,7 +217,7 @@ static void times(void) {
     until_asleep(&waits, 1, KFIFO_WAITS_TAKER);
     expect(kfifo_try_give(&passes[0], &waits, 5), KFIFO_DONE, "a give to a thread that sleeps");
     pthread_join(id, NULL);
-    expect(call.status, KFIFO_GOT, "a long take");
+    expect(call.status, KFIFO_DONE, "a long take");
     expect(call.value, 5, "the value of a long take");
     expect(call.spent < 60 * 1000 * MILLISECOND, 1, "a long take ends early");
     for (uint64_t i = 0; i < 2; i++)
@@ -229,11 +229,11 @@ static void times(void) {
     }
     id = start(&call, &passes[1], &waits, 1, 2, KFIFO_FOREVER - 1);
     until_asleep(&waits, 1, KFIFO_WAITS_GIVER);
-    expect(kfifo_take_wait(&passes[0], &waits, &value, 0), KFIFO_GOT, "a take that makes room");
+    expect(kfifo_take_wait(&passes[0], &waits, &value, 0), KFIFO_DONE, "a take that makes room");
     pthread_join(id, NULL);
     expect(call.status, KFIFO_DONE, "a long give");
     for (uint64_t i = 1; i < 3; i++) {
-        expect(kfifo_try_take(&passes[0], &waits, &value), KFIFO_GOT, "a take of the rest");
+        expect(kfifo_try_take(&passes[0], &waits, &value), KFIFO_DONE, "a take of the rest");
         expect(value, i, "the values in their order");
     }
     expect(kfifo_try_take(&passes[0], &waits, &value), KFIFO_EMPTY, "nothing that timed out is in the queue");
@@ -255,7 +255,7 @@ static void room_for_several(void) {
     for (int i = 0; i < GIVERS; i++) ids[i] = start(&calls[i], &passes[i], &waits, 1, 100, KFIFO_FOREVER);
     until_asleep(&waits, GIVERS, KFIFO_WAITS_GIVER);
     for (int i = 0; i < K; i++)
-        expect(kfifo_try_take(&passes[GIVERS], &waits, &value), KFIFO_GOT, "a take of the first segment");
+        expect(kfifo_try_take(&passes[GIVERS], &waits, &value), KFIFO_DONE, "a take of the first segment");
     for (int i = 0; i < GIVERS; i++) {
         pthread_join(ids[i], NULL);
         expect(calls[i].status, KFIFO_DONE, "a give that slept");
@@ -277,7 +277,7 @@ static void tokens(void) {
     until_asleep(&waits, 2, KFIFO_WAITS_GIVER);
     expect(__atomic_load_n(&waits.tokenless, __ATOMIC_SEQ_CST), 2, "givers that sleep without a token");
     for (int i = 0; i < 2; i++)
-        expect(kfifo_try_take(&passes[2], &waits, &value), KFIFO_GOT, "a take that lays a token down");
+        expect(kfifo_try_take(&passes[2], &waits, &value), KFIFO_DONE, "a take that lays a token down");
     pthread_join(first, NULL);
     pthread_join(second, NULL);
     expect(calls[0].status, KFIFO_DONE, "the first give that slept for a token");
@@ -300,10 +300,10 @@ static void room_without_token(void) {
     until_asleep(&waits, 1, KFIFO_WAITS_GIVER);
     pthread_t second = start(&full, &passes[1], &waits, 1, 4, KFIFO_FOREVER);
     until_asleep(&waits, 2, KFIFO_WAITS_GIVER);
-    expect(kfifo_try_take(&passes[2], &waits, &value), KFIFO_GOT, "a take that keeps its token");
+    expect(kfifo_try_take(&passes[2], &waits, &value), KFIFO_DONE, "a take that keeps its token");
     pthread_join(second, NULL);
     expect(full.status, KFIFO_DONE, "a give that found room");
-    expect(kfifo_try_take(&passes[2], &waits, &value), KFIFO_GOT, "a take that lays its token down");
+    expect(kfifo_try_take(&passes[2], &waits, &value), KFIFO_DONE, "a take that lays its token down");
     pthread_join(first, NULL);
     expect(tokenless.status, KFIFO_DONE, "a give that found a token");
     expect(kfifo_abandon_values(passes, 3), KFIFO_DONE, "abandon");
@@ -340,7 +340,7 @@ static void finishes(void) {
     for (uint64_t i = 0; i < 2; i++) {
         expect(i ? kfifo_take_wait(&passes[2], &waits, &value, KFIFO_FOREVER)
                  : kfifo_try_take(&passes[2], &waits, &value),
-               KFIFO_GOT, "the rest");
+               KFIFO_DONE, "the rest");
         expect(value, i, "the values of the rest");
     }
     expect(kfifo_take_wait(&passes[2], &waits, &value, KFIFO_FOREVER), KFIFO_FINISHED, "the end after the rest");
@@ -375,7 +375,7 @@ static void signals(void) {
             expect(kfifo_try_give(&passes[0], &waits, 5), KFIFO_DONE, "a give after signals");
         }
         pthread_join(id, NULL);
-        expect(call.status, limited ? KFIFO_TIMED_OUT : KFIFO_GOT, "a take that signals met");
+        expect(call.status, limited ? KFIFO_TIMED_OUT : KFIFO_DONE, "a take that signals met");
         if (limited) expect(call.spent >= 50 * MILLISECOND, 1, "the time of a take that signals met");
     }
     expect(kfifo_abandon_values(passes, 2), KFIFO_DONE, "abandon");
@@ -428,10 +428,10 @@ static void refusals(void) {
         if (!finished) {
             expect(kfifo_give_pointer_wait(&pass, &waits, pointer, 0), KFIFO_DONE, "a pointer");
             pointer = NULL;
-            expect(kfifo_take_pointer_wait(&pass, &waits, &pointer, 0), KFIFO_GOT, "the pointer");
+            expect(kfifo_take_pointer_wait(&pass, &waits, &pointer, 0), KFIFO_DONE, "the pointer");
             expect(pointer == &value, 1, "which pointer");
             expect(kfifo_try_put(&items, &waits, 5), KFIFO_DONE, "an item");
-            expect(kfifo_try_get(&items, &waits, &item), KFIFO_GOT, "the item");
+            expect(kfifo_try_get(&items, &waits, &item), KFIFO_DONE, "the item");
             expect(item, 5, "which item");
             expect(kfifo_get_wait(&items, &waits, &item, 1), KFIFO_TIMED_OUT, "no item in time");
         }
