@@ -39,15 +39,24 @@ class Error : public std::invalid_argument {
 };
 
 // What a put came to. The numbers are those of kfifo.h.
-enum class [[nodiscard]] Put{
-    done = KFIFO_DONE,           full = KFIFO_FULL, busy = KFIFO_BUSY, worn = KFIFO_WORN, no_token = KFIFO_NO_TOKEN,
+// clang-format off
+enum class [[nodiscard]] Put {
+    done = KFIFO_DONE,
+    full = KFIFO_FULL,
+    busy = KFIFO_BUSY,           // of the bounded calls, whose names end in _once
+    worn = KFIFO_WORN,
+    no_token = KFIFO_NO_TOKEN,
     timed_out = KFIFO_TIMED_OUT, // of a call that waits: its time was up
     finished = KFIFO_FINISHED    // finish() was called before
 };
+// clang-format on
 
 // What a take came to that took nothing.
-enum class [[nodiscard]] Miss{
-    empty = KFIFO_EMPTY, busy = KFIFO_BUSY, worn = KFIFO_WORN, timed_out = KFIFO_TIMED_OUT,
+enum class Miss {
+    empty = KFIFO_EMPTY,
+    busy = KFIFO_BUSY, // of the bounded calls, whose names end in _once
+    worn = KFIFO_WORN,
+    timed_out = KFIFO_TIMED_OUT,
     finished = KFIFO_FINISHED // finish() was called, and the queue was empty then
 };
 
@@ -100,13 +109,21 @@ class Pass {
         return taken(kfifo_get(handle, &item), item, 0, 1);
     }
 
+    // The same, but bounded: at most 65,535 rounds, after which the answer is busy.
+    Put enqueue_once(std::uint32_t item) const { return put(kfifo_put_once(handle, item), item, 0, 1); }
+
+    Taken dequeue_once() const {
+        std::uint32_t item = 0;
+        return taken(kfifo_get_once(handle, &item), item, 0, 1);
+    }
+
     // The same, with a start and turns of your own: the scan begins at slot `start`, below k, and makes at most `turns`
     // rounds, at least 1.
-    Put enqueue(std::uint32_t item, std::uint32_t start, std::uint16_t turns) const {
+    Put enqueue_once(std::uint32_t item, std::uint32_t start, std::uint16_t turns) const {
         return put(kfifo_enqueue(handle, item, start, turns), item, start, turns);
     }
 
-    Taken dequeue(std::uint32_t start, std::uint16_t turns) const {
+    Taken dequeue_once(std::uint32_t start, std::uint16_t turns) const {
         std::uint32_t item = 0;
         return taken(kfifo_dequeue(handle, &item, start, turns), item, start, turns);
     }
@@ -217,9 +234,16 @@ template <typename Rep, typename Period> std::uint64_t nanoseconds_of(const std:
     return static_cast<std::uint64_t>(std::chrono::ceil<std::chrono::nanoseconds>(time).count());
 }
 
-// How a call is made again while it may do better: not at all.
+// How a call by a handle is made again while it may do better: not at all.
 struct Once {
-    template <typename Call> kfifo_status operator()(Call call) const { return call(); }
+    template <typename Call> kfifo_status operator()(const kfifo_cell_pass *, Call call) const { return call(); }
+};
+
+// While it is busy.
+struct UnlessBusy {
+    template <typename Call> kfifo_status operator()(const kfifo_cell_pass *pass, Call call) const {
+        KFIFO_UNLESS_BUSY(pass, call());
+    }
 };
 
 // Again and again, with sleep between, for so long at most in all, also of several calls.
@@ -228,7 +252,7 @@ class Within {
     Within(kfifo_waits *waits, std::uint32_t kind, std::uint64_t nanoseconds)
         : waiter(kfifo_waiter_of(waits, kind, nanoseconds)) {}
 
-    template <typename Call> kfifo_status operator()(Call call) {
+    template <typename Call> kfifo_status operator()(const kfifo_cell_pass *, Call call) {
         kfifo_status status = call();
         if (!kfifo_may_retry(status)) return status;
         while (kfifo_wait_again(&waiter, &status)) status = call();
@@ -246,10 +270,10 @@ template <typename Clock, typename Duration> class Until {
     Until(kfifo_waits *waits, std::uint32_t kind, const std::chrono::time_point<Clock, Duration> &time)
         : of(waits), which(kind), end(time) {}
 
-    template <typename Call> kfifo_status operator()(Call call) {
+    template <typename Call> kfifo_status operator()(const kfifo_cell_pass *pass, Call call) {
         for (;;) {
             auto now = Clock::now();
-            kfifo_status status = Within(of, which, now < end ? nanoseconds_of(end - now) : 0)(call);
+            kfifo_status status = Within(of, which, now < end ? nanoseconds_of(end - now) : 0)(pass, call);
             if (status != KFIFO_TIMED_OUT || Clock::now() >= end) return status;
         }
     }
@@ -468,7 +492,6 @@ template <typename T> class ValueQueue {
         std::vector<std::optional<std::uint64_t>> kept; // by pass: the cell whose value a take could not move out
         bool is_closed = false;
         std::vector<std::uint64_t> left;
-        kfifo_waits waits{}; // what the threads wait by
     };
 
   public:
@@ -502,26 +525,38 @@ template <typename T> class ValueQueue {
         // copied, and not moved: if the copy throws, nothing was done. A T that cannot be copied and whose moves may
         // throw is moved all the same: if a move throws, the value is not in the queue, and its state is what that
         // move makes of it.
-        Put give(T &&value) { return give_by(detail::Once(), std::move(value)); }
+        Put give(T &&value) { return give_by(detail::UnlessBusy(), std::move(value)); }
 
         // Gives a copy, which is made in its cell. If that throws, nothing was done.
         Put give(const T &value) {
             return put(
-                detail::Once(), [&](Reserved &cell) { cell.make(value); }, [](T &) {});
+                detail::UnlessBusy(), [&](Reserved &cell) { cell.make(value); }, [](T &) {});
         }
 
         // Makes a value of these arguments in its cell, and gives it. If the constructor throws, nothing was given. On
         // any answer but done the value is destroyed, or none was made. It does not wait.
         template <typename... Arguments> Put emplace(Arguments &&...arguments) {
             return put(
-                detail::Once(), [&](Reserved &cell) { cell.make(std::forward<Arguments>(arguments)...); }, [](T &) {});
+                detail::UnlessBusy(), [&](Reserved &cell) { cell.make(std::forward<Arguments>(arguments)...); },
+                [](T &) {});
         }
 
         // Takes one of the k oldest values. It does not wait.
         //
         // Where a move of T may throw and T can be copied, the value is copied out. If that throws, nothing is lost:
         // the value is the handle's, and its next take, or that of the next one to have this handle, takes it first.
-        TakenValue<T> take() { return take_by(detail::Once()); }
+        TakenValue<T> take() { return take_by(detail::UnlessBusy()); }
+
+        // The same three, but bounded: each look at the queue makes at most 65,535 rounds, after which the answer is
+        // busy. That comes only where another thread changed the queue in the meantime.
+        Put give_once(T &&value) { return give_by(detail::Once(), std::move(value)); }
+
+        template <typename... Arguments> Put emplace_once(Arguments &&...arguments) {
+            return put(
+                detail::Once(), [&](Reserved &cell) { cell.make(std::forward<Arguments>(arguments)...); }, [](T &) {});
+        }
+
+        TakenValue<T> take_once() { return take_by(detail::Once()); }
 
         // Gives a value, and sleeps while there is no room for it: Put::done, Put::finished or Put::worn.
         Put give_wait(T &&value) { return give_by(within(KFIFO_WAITS_GIVER, KFIFO_FOREVER), std::move(value)); }
@@ -557,7 +592,7 @@ template <typename T> class ValueQueue {
         [[nodiscard]] Values values() { return Values(*this); }
 
         // Says that no more values will come, as ValueQueue::finish.
-        void finish() { (void)kfifo_finish(usable()); }
+        void finish() { (void)kfifo_finish_by(usable()); }
 
       private:
         friend class ValueQueue;
@@ -568,7 +603,7 @@ template <typename T> class ValueQueue {
 
         kfifo_waits *usable() const {
             if (!state) throw Error(KFIFO_BAD_CALL, "the handle was moved from");
-            return &state->waits;
+            return KFIFO_WAITS(pass);
         }
 
         detail::Within within(std::uint32_t kind, std::uint64_t nanoseconds) const {
@@ -597,14 +632,14 @@ template <typename T> class ValueQueue {
 
         // Reserves a cell, makes a value in it and publishes it. A value that is refused is handed back.
         template <typename Calls, typename Make, typename Back> Put put(Calls calls, Make make, Back back) {
-            kfifo_waits *waits = usable();
+            (void)usable();
             detail::InCall in_call(pass, "a give of kfifo::ValueQueue");
             std::uint64_t number = 0;
-            kfifo_status status = calls([&] { return kfifo_try_reserve(pass, waits, &number); });
+            kfifo_status status = calls(pass, [&] { return kfifo_reserve(pass, &number); });
             if (status != KFIFO_DONE) return static_cast<Put>(detail::checked(status));
             Reserved reserved(*this, number);
             make(reserved);
-            status = calls([&] { return kfifo_try_publish(pass, waits); });
+            status = calls(pass, [&] { return kfifo_publish_once(pass); });
             reserved.is_published = status == KFIFO_DONE;
             if (!reserved.is_published) back(state->cells[number]);
             return static_cast<Put>(detail::checked(status));
@@ -625,7 +660,7 @@ template <typename T> class ValueQueue {
         }
 
         // Ends a take: destroys what is left of the value and releases its cell, or keeps both for the next take where
-        // the value could not be moved out. Then it looks for givers that wait. Before the release the look would miss
+        // the value could not be moved out. Either looks for givers that wait: before the release the look would miss
         // one that then finds no token.
         struct Received {
             Received(Handle &of, std::uint64_t what, bool was) : handle(of), number(what), was_kept(was) {}
@@ -635,24 +670,25 @@ template <typename T> class ValueQueue {
                 if (!is_kept) {
                     of.cells.destroy(handle.bits, number);
                     (void)kfifo_release(handle.pass);
+                } else {
+                    (void)kfifo_after_take(KFIFO_WAITS(handle.pass), KFIFO_DONE);
                 }
                 // Other threads look at this line of the cache at each take.
                 if (is_kept != was_kept) of.kept[handle.which()] = is_kept ? std::optional(number) : std::nullopt;
-                (void)kfifo_after_take(&of.waits, KFIFO_DONE);
             }
             Handle &handle;
             std::uint64_t number;
             bool was_kept, is_kept = false;
         };
 
-        // As kfifo_try_receive, but where it got a cell it wakes nobody: Received does that.
+        // As kfifo_receive_once, but where it got a cell it wakes nobody: Received does that.
         kfifo_status look(kfifo_waits *waits, std::uint64_t *number) {
-            kfifo_status status = kfifo_receive(pass, number);
+            kfifo_status status = kfifo_bare_receive(pass, number);
             if (status == KFIFO_DONE) return status;
             (void)kfifo_after_take(waits, status);
             if (status != KFIFO_EMPTY || !kfifo_is_finished(waits)) return status;
             // A value may have come between the look and the end.
-            status = kfifo_receive(pass, number);
+            status = kfifo_bare_receive(pass, number);
             if (status == KFIFO_DONE) return status;
             (void)kfifo_after_take(waits, status);
             return status == KFIFO_EMPTY ? KFIFO_FINISHED : status;
@@ -671,7 +707,7 @@ template <typename T> class ValueQueue {
                 number = kept.value_or(0);
             }
             if (!was_kept) {
-                kfifo_status status = calls([&] { return look(waits, &number); });
+                kfifo_status status = calls(pass, [&] { return look(waits, &number); });
                 if (status != KFIFO_DONE) return none(static_cast<Miss>(detail::checked(status)));
             }
             Received received(*this, number, was_kept);
@@ -777,7 +813,10 @@ template <typename T> class ValueQueue {
     // Says that no more values will come, and wakes all that wait. Any thread may call it, and again. A give that
     // begins after it answers finished; a take does so once the queue is empty. A give that it meets halfway may still
     // put its value in: call it when the producers have ended, or close the queue to have what is left.
-    void finish() { (void)kfifo_finish(&usable().waits); }
+    void finish() {
+        if (usable().is_closed) throw Error(KFIFO_BAD_CALL, "the queue is closed");
+        (void)kfifo_finish_by(KFIFO_WAITS(&state->passes.all[0]));
+    }
 
     // Closes the queue and gives back the values that are left, in its order. Throws Error, and nothing changes, where
     // a handle is still out, and std::bad_alloc, and no value is lost, where there is no memory for them. Where the

@@ -15,7 +15,6 @@ enum { THREADS = 2 };
 static kfifo_pass items[THREADS], items_copy[THREADS];
 static kfifo_value_pass values[THREADS], values_copy[THREADS];
 static kfifo_cell_pass cells[THREADS], cells_copy[THREADS];
-static kfifo_waits waits;
 static uint32_t item, left_items[8];
 static uint64_t value, cell, word, left[16];
 static size_t count;
@@ -72,15 +71,15 @@ static const struct {
 enum { CALLS = sizeof calls / sizeof calls[0] };
 
 static void *wait_for_item(void *pass) {
-    return kfifo_get_wait(pass, &waits, &item, KFIFO_FOREVER) == KFIFO_DONE ? pass : NULL;
+    return kfifo_get_wait(pass, &item, KFIFO_FOREVER) == KFIFO_DONE ? pass : NULL;
 }
 
 static void *wait_for_value(void *pass) {
-    return kfifo_take_wait(pass, &waits, &value, KFIFO_FOREVER) == KFIFO_DONE ? pass : NULL;
+    return kfifo_take_wait(pass, &value, KFIFO_FOREVER) == KFIFO_DONE ? pass : NULL;
 }
 
 static void *wait_for_cell(void *pass) {
-    return kfifo_receive_wait(pass, &waits, &cell, KFIFO_FOREVER) == KFIFO_DONE ? pass : NULL;
+    return kfifo_receive_wait(pass, &cell, KFIFO_FOREVER) == KFIFO_DONE ? pass : NULL;
 }
 
 /* The call by the second handle, while another thread sleeps in one by it. */
@@ -90,7 +89,10 @@ static void call_at_the_same_time(size_t index) {
     void *pass = kind == 'i' ? (void *)&items[1] : kind == 'v' ? (void *)&values[1] : (void *)&cells[1];
     void *(*sleeps)(void *) = kind == 'i' ? wait_for_item : kind == 'v' ? wait_for_value : wait_for_cell;
     if (pthread_create(&other, NULL, sleeps, pass)) exit(2);
-    while (kfifo_waits_state(&waits) < KFIFO_WAITS_TAKER) sched_yield();
+    kfifo_waits *waits = kind == 'i'   ? KFIFO_WAITS(&items[1])
+                         : kind == 'v' ? KFIFO_WAITS(&values[1])
+                                       : KFIFO_WAITS(&cells[1]);
+    while (kfifo_waits_state(waits) < KFIFO_WAITS_TAKER) sched_yield();
     /* Of an array the first handle is in no call. */
     int has_all =
         strstr(calls[index].name, "close") || strstr(calls[index].name, "abandon") || strstr(calls[index].name, "room");

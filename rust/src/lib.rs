@@ -49,7 +49,7 @@ mod shared;
 
 pub use error::{OpenError, PopError, PushError};
 
-use shared::Shared;
+use shared::{Looks, Shared};
 use std::cell::Cell;
 use std::fmt::{self, Debug, Formatter};
 use std::marker::PhantomData;
@@ -356,7 +356,21 @@ impl<T> Handle<T> {
     pub fn push(&self, value: T) -> Result<(), PushError<T>> {
         // SAFETY: this handle alone has its pass, and as it is not `Sync`, no other thread is in a call by it. Nor is
         // this one: no call runs code of the caller's while it uses the pass.
-        unsafe { self.shared.push(self.number, value, None) }
+        unsafe { self.shared.push(self.number, value, Looks::UnlessBusy) }
+    }
+
+    /// As [`Handle::push`], but bounded: it makes at most 65,535 rounds in a generation, after which it is refused as
+    /// [`PushError::Busy`]. That comes only where another thread changed the queue in the meantime.
+    ///
+    /// ```
+    /// let queue = kfifo::Queue::new(4, 64, 1)?;
+    /// let handle = queue.handle().expect("a handle is free");
+    /// assert_eq!(handle.push_once(7), Ok(())); // no other thread, so it is not busy
+    /// # Ok::<(), kfifo::OpenError>(())
+    /// ```
+    pub fn push_once(&self, value: T) -> Result<(), PushError<T>> {
+        // SAFETY: as in `push`.
+        unsafe { self.shared.push(self.number, value, Looks::Once) }
     }
 
     /// Puts a value, and sleeps while there is no room for it: refused is `Finished` or `Worn` alone.
@@ -383,7 +397,10 @@ impl<T> Handle<T> {
     /// ```
     pub fn push_wait(&self, value: T) -> Result<(), PushError<T>> {
         // SAFETY: as in `push`.
-        unsafe { self.shared.push(self.number, value, Some(ffi::FOREVER)) }
+        unsafe {
+            self.shared
+                .push(self.number, value, Looks::Within(ffi::FOREVER))
+        }
     }
 
     /// As [`Handle::push_wait`], for so long at most: then it is refused as `TimedOut`. With no time it does not sleep.
@@ -403,7 +420,7 @@ impl<T> Handle<T> {
         // SAFETY: as in `push`.
         unsafe {
             self.shared
-                .push(self.number, value, Some(nanoseconds_of(time)))
+                .push(self.number, value, Looks::Within(nanoseconds_of(time)))
         }
     }
 
@@ -419,7 +436,20 @@ impl<T> Handle<T> {
     /// ```
     pub fn pop(&self) -> Result<T, PopError> {
         // SAFETY: as in `push`.
-        unsafe { self.shared.pop(self.number, None) }
+        unsafe { self.shared.pop(self.number, Looks::UnlessBusy) }
+    }
+
+    /// As [`Handle::pop`], but bounded, as [`Handle::push_once`] is: also [`PopError::Busy`].
+    ///
+    /// ```
+    /// let queue = kfifo::Queue::<u64>::new(4, 64, 1)?;
+    /// let handle = queue.handle().expect("a handle is free");
+    /// assert_eq!(handle.pop_once(), Err(kfifo::PopError::Empty));
+    /// # Ok::<(), kfifo::OpenError>(())
+    /// ```
+    pub fn pop_once(&self) -> Result<T, PopError> {
+        // SAFETY: as in `push`.
+        unsafe { self.shared.pop(self.number, Looks::Once) }
     }
 
     /// Takes a value, and sleeps while there is none: an error is `Finished` or `Worn` alone.
@@ -438,7 +468,7 @@ impl<T> Handle<T> {
     /// ```
     pub fn pop_wait(&self) -> Result<T, PopError> {
         // SAFETY: as in `push`.
-        unsafe { self.shared.pop(self.number, Some(ffi::FOREVER)) }
+        unsafe { self.shared.pop(self.number, Looks::Within(ffi::FOREVER)) }
     }
 
     /// As [`Handle::pop_wait`], for so long at most: then the error is `TimedOut`. With no time it does not sleep.
@@ -453,7 +483,10 @@ impl<T> Handle<T> {
     /// ```
     pub fn pop_timeout(&self, time: Duration) -> Result<T, PopError> {
         // SAFETY: as in `push`.
-        unsafe { self.shared.pop(self.number, Some(nanoseconds_of(time))) }
+        unsafe {
+            self.shared
+                .pop(self.number, Looks::Within(nanoseconds_of(time)))
+        }
     }
 
     /// The values that come, until the queue is finished and empty; it sleeps while there is none.
@@ -469,7 +502,6 @@ impl<T> Handle<T> {
     /// assert_eq!(handle.values().collect::<Vec<_>>(), ["a", "b"]);
     /// # Ok::<(), kfifo::OpenError>(())
     /// ```
-    #[must_use]
     pub fn values(&self) -> Values<'_, T> {
         Values { handle: self }
     }

@@ -4,6 +4,7 @@ use crate::cells::Cells;
 use crate::error::{OpenError, PopError, PushError};
 use crate::ffi;
 use std::cell::UnsafeCell;
+use std::hint::spin_loop;
 use std::mem::ManuallyDrop;
 use std::process::abort;
 use std::sync::atomic::{AtomicU64, Ordering};
@@ -60,6 +61,26 @@ impl Drop for Passes {
         // SAFETY: these are all passes of a queue, and nobody else uses one: `&mut self`. Those that are closed already
         // stay so.
         unsafe { ffi::kfifo_c_abandon_cells(self.0.as_mut_ptr().cast(), self.0.len()) };
+    }
+}
+
+/// How often a call looks at the queue.
+#[derive(Clone, Copy)]
+pub(crate) enum Looks {
+    /// Once: it may come to BUSY.
+    Once,
+    /// Until it is not busy.
+    UnlessBusy,
+    /// Until it comes to something, with sleep between, for so many nanoseconds at most.
+    Within(u64),
+}
+
+/// Pauses after BUSY, mostly the longer the more often it came. How long differs from handle to handle: threads that
+/// made their calls in step could keep each other busy.
+fn pause(number: usize, times: u32) {
+    let mixed = (number as u64 + u64::from(times)).wrapping_mul(0x9e37_79b9_7f4a_7c15) >> 32;
+    for _ in 0..=mixed % (16 << times.min(6)) {
+        spin_loop();
     }
 }
 
@@ -287,18 +308,28 @@ impl<T> Shared<T> {
         value
     }
 
-    /// Makes a call again until it comes to something or the time is up; without a time it does not. `status` is what
-    /// the call came to first.
+    /// Makes a call again as often as it may look. `status` is what the call came to first.
     #[cold]
-    fn wait(
+    fn again(
         &self,
+        number: usize,
         kind: u32,
-        nanoseconds: Option<u64>,
+        looks: Looks,
         mut status: u32,
         mut call: impl FnMut() -> u32,
     ) -> u32 {
-        let Some(nanoseconds) = nanoseconds else {
-            return status;
+        let nanoseconds = match looks {
+            Looks::Once => return status,
+            Looks::Within(nanoseconds) => nanoseconds,
+            Looks::UnlessBusy => {
+                let mut times = 0;
+                while status == ffi::BUSY {
+                    pause(number, times);
+                    times += 1;
+                    status = call();
+                }
+                return status;
+            }
         };
         let mut waiter = ffi::Waiter::new(&self.waits, kind, nanoseconds);
         // SAFETY: the waiter is of this queue's waits, and one waiter is used for one call.
@@ -308,7 +339,7 @@ impl<T> Shared<T> {
         status
     }
 
-    /// Puts a value, and waits so long for room; with no time it looks once and does not sleep.
+    /// Puts a value, and looks for room so often.
     ///
     /// # Safety
     ///
@@ -317,7 +348,7 @@ impl<T> Shared<T> {
         &self,
         number: usize,
         value: T,
-        nanoseconds: Option<u64>,
+        looks: Looks,
     ) -> Result<(), PushError<T>> {
         let _call = self.enter(number, "a push");
         let value = ManuallyDrop::new(value);
@@ -326,7 +357,7 @@ impl<T> Shared<T> {
         let give = || unsafe { self.give(number, &value) };
         let mut status = give();
         if status != ffi::DONE {
-            status = self.wait(ffi::GIVER, nanoseconds, status, give);
+            status = self.again(number, ffi::GIVER, looks, status, give);
         }
         if status == ffi::DONE {
             return Ok(());
@@ -345,23 +376,19 @@ impl<T> Shared<T> {
         })
     }
 
-    /// Takes a value, and waits so long for one; with no time it looks once and does not sleep.
+    /// Takes a value, and looks for one so often.
     ///
     /// # Safety
     ///
     /// No other call uses the pass at the same time.
-    pub(crate) unsafe fn pop(
-        &self,
-        number: usize,
-        nanoseconds: Option<u64>,
-    ) -> Result<T, PopError> {
+    pub(crate) unsafe fn pop(&self, number: usize, looks: Looks) -> Result<T, PopError> {
         let _call = self.enter(number, "a pop");
         let mut cell = 0;
         // SAFETY: as in `push`. GOT ends the calls.
         let mut receive = || unsafe { self.receive(number, &mut cell) };
         let mut status = receive();
         if status != ffi::GOT {
-            status = self.wait(ffi::TAKER, nanoseconds, status, receive);
+            status = self.again(number, ffi::TAKER, looks, status, receive);
         }
         match status {
             // SAFETY: the cell has just been received.
@@ -382,7 +409,7 @@ impl<T> Shared<T> {
         let mut values = Vec::new();
         let end = loop {
             // SAFETY: `self` is no reference: nobody else makes a call.
-            match unsafe { self.pop(0, None) } {
+            match unsafe { self.pop(0, Looks::UnlessBusy) } {
                 Ok(value) => values.push(value),
                 Err(end) => break end,
             }
@@ -422,6 +449,10 @@ impl<T> Shared<T> {
         cells
     }
 }
+
+#[cfg(test)]
+#[path = "../tests/unit/busy.rs"]
+mod busy;
 
 #[cfg(all(test, debug_assertions))]
 #[path = "../tests/unit/misuse.rs"]
