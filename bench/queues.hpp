@@ -277,9 +277,9 @@ template <typename Pass, bool looks> struct KfifoInC {
     bool push(std::size_t thread, std::uint32_t item) {
         Pass *pass = &passes[thread];
         if constexpr (of_items)
-            return (looks ? kfifo_put(pass, item) : kfifo_c_put(pass, item)) == KFIFO_DONE;
+            return (looks ? kfifo_put(pass, item) : kfifo_status(kfifo_c_put(pass, item))) == KFIFO_DONE;
         else
-            return (looks ? kfifo_give(pass, item) : kfifo_c_give(pass, item)) == KFIFO_DONE;
+            return (looks ? kfifo_give(pass, item) : kfifo_status(kfifo_c_give(pass, item))) == KFIFO_DONE;
     }
     std::uint32_t pop(std::size_t thread) {
         Pass *pass = &passes[thread];

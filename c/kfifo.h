@@ -184,10 +184,11 @@ typedef struct kfifo_waits {
     char after[116];
 } kfifo_waits;
 
-/* The same, with how many handles of the queue are open. */
+/* The same, with how many handles of the queue are open, and how many callers are left: in C the open handles, and in
+   C++ those that somebody has and the queue object, which hands out others. */
 typedef struct kfifo_shared {
     kfifo_waits waits;
-    uint32_t handles;
+    uint32_t handles, callers;
 } kfifo_shared;
 
 /* The parts of `state`. */
@@ -209,6 +210,28 @@ static inline uint32_t kfifo_waits_state(kfifo_waits *waits) {
 /* Whether the queue was finished. */
 static inline int kfifo_is_finished(kfifo_waits *waits) {
     return (kfifo_waits_state(waits) & KFIFO_WAITS_FINISHED) != 0;
+}
+
+/* Whether the caller is the only one that is left, so that nobody will give to it or take from it. */
+static inline int kfifo_is_alone(kfifo_waits *waits) {
+    return __atomic_load_n(&KFIFO_CAST_POINTER(kfifo_shared *, waits)->callers, __ATOMIC_SEQ_CST) == 1;
+}
+
+/* Sets the number of callers of a queue that was just opened. */
+static inline void kfifo_callers_are(kfifo_waits *waits, uint32_t number) {
+    __atomic_store_n(&KFIFO_CAST_POINTER(kfifo_shared *, waits)->callers, number, __ATOMIC_SEQ_CST);
+}
+
+/* One caller more, and one fewer: where one is left, it ends its wait. Its look at the number of callers comes after it
+   has announced itself, and this one's look for threads that wait after the number: so one of the two sees the other.
+ */
+static inline void kfifo_caller_comes(kfifo_waits *waits) {
+    __atomic_add_fetch(&KFIFO_CAST_POINTER(kfifo_shared *, waits)->callers, 1, __ATOMIC_SEQ_CST);
+}
+
+static inline void kfifo_caller_goes(kfifo_waits *waits) {
+    uint32_t left = __atomic_sub_fetch(&KFIFO_CAST_POINTER(kfifo_shared *, waits)->callers, 1, __ATOMIC_SEQ_CST);
+    if (left == 1 && kfifo_waits_state(waits) > KFIFO_WAITS_FINISHED) kfifo_wait_finished(waits);
 }
 
 /* What the threads of a handle's queue wait by: NULL of a closed handle. The library writes an address there that it
@@ -289,13 +312,14 @@ static inline kfifo_shared *kfifo_shared_new(size_t threads) {
     kfifo_shared *shared = KFIFO_CAST(kfifo_shared *, malloc(sizeof *shared));
     if (!shared) return NULL;
     shared->waits.state = shared->waits.filled = shared->waits.emptied = shared->waits.tokenless = 0;
-    shared->handles = KFIFO_CAST(uint32_t, threads);
+    shared->handles = shared->callers = KFIFO_CAST(uint32_t, threads);
     return shared;
 }
 
 /* One handle of a queue is closed. */
 static inline void kfifo_shared_leave(void *address) {
     kfifo_shared *shared = KFIFO_CAST(kfifo_shared *, address);
+    kfifo_caller_goes(&shared->waits);
     if (__atomic_sub_fetch(&shared->handles, 1, __ATOMIC_ACQ_REL) == 0) free(shared);
 }
 

@@ -255,8 +255,14 @@ class Within {
     template <typename Call> kfifo_status operator()(const kfifo_cell_pass *, Call call) {
         kfifo_status status = call();
         if (!kfifo_may_retry(status)) return status;
-        while (kfifo_wait_again(&waiter, &status)) status = call();
-        return status;
+        for (;;) {
+            if (kfifo_may_be_over(waiter.waits, status)) {
+                status = call();
+                if (kfifo_may_retry(status) && status != KFIFO_BUSY) status = KFIFO_FINISHED;
+            }
+            if (!kfifo_wait_again(&waiter, &status)) return status;
+            status = call();
+        }
     }
 
   private:
@@ -435,7 +441,11 @@ template <typename T> class ValueQueue {
     struct State {
         State(std::uint32_t k, std::uint32_t segments, std::size_t threads, std::uint32_t tokens, Versions versions)
             : passes(k, segments, threads, tokens, versions), cells(passes.all.size(), tokens),
-              free_passes(all_passes()), kept(passes.all.size()) {}
+              free_passes(all_passes()), kept(passes.all.size()) {
+            kfifo_callers_are(waits(), 1); // the queue object
+        }
+
+        kfifo_waits *waits() const { return KFIFO_WAITS(&passes.all[0]); }
         State(const State &) = delete;
         State &operator=(const State &) = delete;
 
@@ -495,7 +505,24 @@ template <typename T> class ValueQueue {
     };
 
   public:
+    class Handle;
     class Values;
+
+    // Finishes the queue when it goes: Handle::finish_at_end.
+    class [[nodiscard]] FinishGuard {
+      public:
+        FinishGuard(FinishGuard &&) noexcept = default;
+        FinishGuard &operator=(FinishGuard &&) = delete;
+        FinishGuard(const FinishGuard &) = delete;
+        ~FinishGuard() {
+            if (state && !state->is_closed) (void)kfifo_finish_by(state->waits());
+        }
+
+      private:
+        friend class Handle;
+        explicit FinishGuard(std::shared_ptr<State> of) : state(std::move(of)) {}
+        std::shared_ptr<State> state;
+    };
 
     // What a thread makes its calls with. It can be moved, also to another thread between two calls, and not copied.
     // Each call that gives a value wakes a thread that waits for one, and each that takes one a thread that waits for
@@ -515,6 +542,7 @@ template <typename T> class ValueQueue {
             if (!state) return;
             { detail::InCall in_call(pass, "the end of a kfifo::ValueQueue::Handle"); }
             state->return_pass(which());
+            kfifo_caller_goes(state->waits());
         }
 
         // Gives a value to the queue. On any answer but done the value is what it was. It does not wait. Where there
@@ -591,13 +619,24 @@ template <typename T> class ValueQueue {
         // there is none, and throws Error with KFIFO_WORN where take answers Miss::worn.
         [[nodiscard]] Values values() { return Values(*this); }
 
+        // Finishes the queue when the guard goes, also by an exception, so that no thread sleeps on. Keep the guard as
+        // long as the thread gives:
+        //
+        //     auto end = giver.finish_at_end();
+        FinishGuard finish_at_end() const {
+            (void)usable();
+            return FinishGuard(state);
+        }
+
         // Says that no more values will come, as ValueQueue::finish.
         void finish() { (void)kfifo_finish_by(usable()); }
 
       private:
         friend class ValueQueue;
         Handle(std::shared_ptr<State> of, std::size_t number)
-            : state(std::move(of)), pass(&state->passes.all[number]), bits(state->cells.bits_of(number)) {}
+            : state(std::move(of)), pass(&state->passes.all[number]), bits(state->cells.bits_of(number)) {
+            kfifo_caller_comes(state->waits());
+        }
 
         std::size_t which() const { return std::size_t(pass - state->passes.all.data()); }
 
@@ -799,7 +838,16 @@ template <typename T> class ValueQueue {
     ValueQueue(const ValueQueue &) = delete;
     ValueQueue &operator=(const ValueQueue &) = delete;
     ValueQueue(ValueQueue &&) noexcept = default;
-    ValueQueue &operator=(ValueQueue &&) noexcept = default;
+    ValueQueue &operator=(ValueQueue &&other) noexcept {
+        std::swap(state, other.state);
+        std::swap(was_closed, other.was_closed);
+        return *this;
+    }
+
+    // Where one handle is left, its calls that wait end.
+    ~ValueQueue() {
+        if (state && !state->is_closed) kfifo_caller_goes(state->waits());
+    }
 
     // A handle that nobody has. Throws Error where each was out at one moment: never where there are as many handles as
     // threads, and no thread has two.
@@ -815,7 +863,7 @@ template <typename T> class ValueQueue {
     // put its value in: call it when the producers have ended, or close the queue to have what is left.
     void finish() {
         if (usable().is_closed) throw Error(KFIFO_BAD_CALL, "the queue is closed");
-        (void)kfifo_finish_by(KFIFO_WAITS(&state->passes.all[0]));
+        (void)kfifo_finish_by(state->waits());
     }
 
     // Closes the queue and gives back the values that are left, in its order. Throws Error, and nothing changes, where

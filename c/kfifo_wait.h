@@ -79,31 +79,45 @@ static inline int kfifo_wait_again_by(const void *pass, uint32_t starts, uint32_
 #define KFIFO_WAIT_AGAIN(pass, waiter, status) kfifo_wait_again((waiter), (status))
 #endif
 
+/* Whether a call that came to this cannot do better, since the caller is alone: it makes the call once more, since
+   something may have come before the others went. */
+static inline int kfifo_may_be_over(kfifo_waits *waits, kfifo_status status) {
+    return kfifo_may_retry(status) && status != KFIFO_BUSY && kfifo_is_alone(waits);
+}
+
+/* Returns what a call comes to that is made again while it may do better: FINISHED where nobody else is left. */
+#define KFIFO_WAITING(pass, kind, call)                                                                                \
+    kfifo_status status = (call);                                                                                      \
+    if (__builtin_expect(!kfifo_may_retry(status), 1)) return status;                                                  \
+    kfifo_waits *waits = KFIFO_WAITS(pass);                                                                            \
+    kfifo_waiter waiter = kfifo_waiter_of(waits, (kind), nanoseconds);                                                 \
+    for (;;) {                                                                                                         \
+        if (kfifo_may_be_over(waits, status)) {                                                                        \
+            status = (call);                                                                                           \
+            if (kfifo_may_retry(status) && status != KFIFO_BUSY) status = KFIFO_FINISHED;                              \
+        }                                                                                                              \
+        if (!KFIFO_WAIT_AGAIN(pass, &waiter, &status)) return status;                                                  \
+        status = (call);                                                                                               \
+    }
+
 /* ---- Values ----
 
    A call that waits returns DONE; TIMED_OUT, and nothing was given or taken; FINISHED; WORN; or BAD_CALL. It
-   never returns FULL, NO_TOKEN, EMPTY or BUSY. With 0 nanoseconds it looks once and does not sleep. Who gets
-   WORN calls kfifo_finish, so that the others end too, and then closes the queue. */
+   never returns FULL, NO_TOKEN, EMPTY or BUSY. FINISHED comes too where no other handle of the queue is open. With 0
+   nanoseconds it looks once and does not sleep. Who gets WORN calls kfifo_finish, so that the others end too, and then
+   closes the queue. */
 
 /* Gives a value, and waits at most `nanoseconds` while there is no room for it. */
 KFIFO_MUST_USE static inline kfifo_status kfifo_give_wait(kfifo_value_pass *pass, uint64_t value,
                                                           uint64_t nanoseconds) {
-    kfifo_status status = kfifo_give_once(pass, value);
-    if (!kfifo_may_retry(status)) return status;
-    kfifo_waiter waiter = kfifo_waiter_of(KFIFO_WAITS(pass), KFIFO_WAITS_GIVER, nanoseconds);
-    while (KFIFO_WAIT_AGAIN(pass, &waiter, &status)) status = kfifo_give_once(pass, value);
-    return status;
+    KFIFO_WAITING(pass, KFIFO_WAITS_GIVER, kfifo_give_once(pass, value));
 }
 
 /* Takes a value, and waits at most `nanoseconds` while there is none. FINISHED comes exactly where the queue was
    finished, and then found empty. */
 KFIFO_MUST_USE static inline kfifo_status kfifo_take_wait(kfifo_value_pass *pass, uint64_t *value,
                                                           uint64_t nanoseconds) {
-    kfifo_status status = kfifo_take_once(pass, value);
-    if (!kfifo_may_retry(status)) return status;
-    kfifo_waiter waiter = kfifo_waiter_of(KFIFO_WAITS(pass), KFIFO_WAITS_TAKER, nanoseconds);
-    while (KFIFO_WAIT_AGAIN(pass, &waiter, &status)) status = kfifo_take_once(pass, value);
-    return status;
+    KFIFO_WAITING(pass, KFIFO_WAITS_TAKER, kfifo_take_once(pass, value));
 }
 
 /* The same with a pointer for a value. */
@@ -127,49 +141,29 @@ KFIFO_MUST_USE static inline kfifo_status kfifo_take_pointer_wait(kfifo_value_pa
 /* Reserves a cell, and waits at most `nanoseconds` while there is none. */
 KFIFO_MUST_USE static inline kfifo_status kfifo_reserve_wait(kfifo_cell_pass *pass, uint64_t *cell,
                                                              uint64_t nanoseconds) {
-    kfifo_status status = kfifo_reserve(pass, cell);
-    if (!kfifo_may_retry(status)) return status;
-    kfifo_waiter waiter = kfifo_waiter_of(KFIFO_WAITS(pass), KFIFO_WAITS_GIVER, nanoseconds);
-    while (KFIFO_WAIT_AGAIN(pass, &waiter, &status)) status = kfifo_reserve(pass, cell);
-    return status;
+    KFIFO_WAITING(pass, KFIFO_WAITS_GIVER, kfifo_reserve(pass, cell));
 }
 
 /* Puts the reserved cell into the queue, and waits at most `nanoseconds` while there is no room for it. */
 KFIFO_MUST_USE static inline kfifo_status kfifo_publish_wait(kfifo_cell_pass *pass, uint64_t nanoseconds) {
-    kfifo_status status = kfifo_publish_once(pass);
-    if (!kfifo_may_retry(status)) return status;
-    kfifo_waiter waiter = kfifo_waiter_of(KFIFO_WAITS(pass), KFIFO_WAITS_GIVER, nanoseconds);
-    while (KFIFO_WAIT_AGAIN(pass, &waiter, &status)) status = kfifo_publish_once(pass);
-    return status;
+    KFIFO_WAITING(pass, KFIFO_WAITS_GIVER, kfifo_publish_once(pass));
 }
 
 /* Takes a cell, and waits at most `nanoseconds` while there is none. The call first releases the cell that the
    handle received before. FINISHED comes exactly where the queue was finished, and then found empty. */
 KFIFO_MUST_USE static inline kfifo_status kfifo_receive_wait(kfifo_cell_pass *pass, uint64_t *cell,
                                                              uint64_t nanoseconds) {
-    kfifo_status status = kfifo_receive_once(pass, cell);
-    if (!kfifo_may_retry(status)) return status;
-    kfifo_waiter waiter = kfifo_waiter_of(KFIFO_WAITS(pass), KFIFO_WAITS_TAKER, nanoseconds);
-    while (KFIFO_WAIT_AGAIN(pass, &waiter, &status)) status = kfifo_receive_once(pass, cell);
-    return status;
+    KFIFO_WAITING(pass, KFIFO_WAITS_TAKER, kfifo_receive_once(pass, cell));
 }
 
 /* ---- Items: the same ---- */
 
 KFIFO_MUST_USE static inline kfifo_status kfifo_put_wait(kfifo_pass *pass, uint32_t item, uint64_t nanoseconds) {
-    kfifo_status status = kfifo_put_once(pass, item);
-    if (!kfifo_may_retry(status)) return status;
-    kfifo_waiter waiter = kfifo_waiter_of(KFIFO_WAITS(pass), KFIFO_WAITS_GIVER, nanoseconds);
-    while (KFIFO_WAIT_AGAIN(pass, &waiter, &status)) status = kfifo_put_once(pass, item);
-    return status;
+    KFIFO_WAITING(pass, KFIFO_WAITS_GIVER, kfifo_put_once(pass, item));
 }
 
 KFIFO_MUST_USE static inline kfifo_status kfifo_get_wait(kfifo_pass *pass, uint32_t *item, uint64_t nanoseconds) {
-    kfifo_status status = kfifo_get_once(pass, item);
-    if (!kfifo_may_retry(status)) return status;
-    kfifo_waiter waiter = kfifo_waiter_of(KFIFO_WAITS(pass), KFIFO_WAITS_TAKER, nanoseconds);
-    while (KFIFO_WAIT_AGAIN(pass, &waiter, &status)) status = kfifo_get_once(pass, item);
-    return status;
+    KFIFO_WAITING(pass, KFIFO_WAITS_TAKER, kfifo_get_once(pass, item));
 }
 
 #ifdef __cplusplus

@@ -268,31 +268,31 @@ static void worn(void) {
 /* ---- Threads that wait ---- */
 
 static void times(void) {
-    kfifo_cell_pass one;
+    kfifo_cell_pass two[2];
     uint64_t cell = 77;
-    expect(kfifo_open_cells(1, 2, 3, &one, 1), KFIFO_DONE, "open for times");
-    expect(kfifo_receive_wait(&one, &cell, 1000000), KFIFO_TIMED_OUT, "a receive that waits");
+    expect(kfifo_open_cells(1, 2, 3, two, 2), KFIFO_DONE, "open for times");
+    expect(kfifo_receive_wait(&two[0], &cell, 1000000), KFIFO_TIMED_OUT, "a receive that waits");
     for (int i = 0; i < 2; i++) {
-        expect(kfifo_reserve_wait(&one, &cell, 0), KFIFO_DONE, "a reserve that need not wait");
-        expect(kfifo_publish_wait(&one, 0), KFIFO_DONE, "a publish that need not wait");
+        expect(kfifo_reserve_wait(&two[0], &cell, 0), KFIFO_DONE, "a reserve that need not wait");
+        expect(kfifo_publish_wait(&two[0], 0), KFIFO_DONE, "a publish that need not wait");
     }
-    expect(kfifo_reserve_wait(&one, &cell, 0), KFIFO_DONE, "a reserve before a full ring");
-    expect(kfifo_publish_wait(&one, 1000000), KFIFO_TIMED_OUT, "a publish that waits");
-    expect(kfifo_receive_wait(&one, &cell, 0), KFIFO_DONE, "a receive that need not wait");
-    expect(kfifo_publish_wait(&one, 0), KFIFO_DONE, "a publish after a receive");
-    expect(kfifo_reserve_wait(&one, &cell, 1000000), KFIFO_TIMED_OUT, "a reserve that waits");
-    expect(kfifo_release(&one), KFIFO_DONE, "a release");
-    expect(kfifo_reserve_wait(&one, &cell, 0), KFIFO_DONE, "a reserve after a release");
-    expect(kfifo_finish_cells(&one), KFIFO_DONE, "finish");
-    expect(kfifo_reserve(&one, &cell), KFIFO_FINISHED, "a reserve after the end");
-    expect(kfifo_publish_wait(&one, KFIFO_FOREVER), KFIFO_FINISHED, "a publish after the end");
+    expect(kfifo_reserve_wait(&two[0], &cell, 0), KFIFO_DONE, "a reserve before a full ring");
+    expect(kfifo_publish_wait(&two[0], 1000000), KFIFO_TIMED_OUT, "a publish that waits");
+    expect(kfifo_receive_wait(&two[0], &cell, 0), KFIFO_DONE, "a receive that need not wait");
+    expect(kfifo_publish_wait(&two[0], 0), KFIFO_DONE, "a publish after a receive");
+    expect(kfifo_reserve_wait(&two[0], &cell, 1000000), KFIFO_TIMED_OUT, "a reserve that waits");
+    expect(kfifo_release(&two[0]), KFIFO_DONE, "a release");
+    expect(kfifo_reserve_wait(&two[0], &cell, 0), KFIFO_DONE, "a reserve after a release");
+    expect(kfifo_finish_cells(&two[0]), KFIFO_DONE, "finish");
+    expect(kfifo_reserve(&two[0], &cell), KFIFO_FINISHED, "a reserve after the end");
+    expect(kfifo_publish_wait(&two[0], KFIFO_FOREVER), KFIFO_FINISHED, "a publish after the end");
     for (int i = 0; i < 2; i++)
-        expect(kfifo_receive_wait(&one, &cell, KFIFO_FOREVER), KFIFO_DONE, "a receive after the end");
-    expect(kfifo_receive_wait(&one, &cell, KFIFO_FOREVER), KFIFO_FINISHED, "the end");
-    expect(kfifo_abandon_cells(&one, 1), KFIFO_DONE, "abandon after the end");
-    expect(kfifo_reserve(&one, &cell), KFIFO_BAD_CALL, "a closed handle after the end");
-    expect(kfifo_publish(&one), KFIFO_BAD_CALL, "a publish by a closed handle after the end");
-    expect(kfifo_receive(&one, &cell), KFIFO_BAD_CALL, "a receive by a closed handle after the end");
+        expect(kfifo_receive_wait(&two[0], &cell, KFIFO_FOREVER), KFIFO_DONE, "a receive after the end");
+    expect(kfifo_receive_wait(&two[0], &cell, KFIFO_FOREVER), KFIFO_FINISHED, "the end");
+    expect(kfifo_abandon_cells(two, 2), KFIFO_DONE, "abandon after the end");
+    expect(kfifo_reserve(&two[0], &cell), KFIFO_BAD_CALL, "a closed handle after the end");
+    expect(kfifo_publish(&two[0]), KFIFO_BAD_CALL, "a publish by a closed handle after the end");
+    expect(kfifo_receive(&two[0], &cell), KFIFO_BAD_CALL, "a receive by a closed handle after the end");
 }
 
 /* ---- Many threads ---- */

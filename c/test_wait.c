@@ -337,6 +337,32 @@ static void finishes(void) {
     expect(kfifo_abandon_values(passes, 3), KFIFO_DONE, "abandon");
 }
 
+/* Where one handle is left, its takes and gives that would wait return FINISHED, also one that sleeps. */
+static void alone(void) {
+    for (int gives = 0; gives < 2; gives++) {
+        kfifo_value_pass passes[3];
+        struct call call;
+        uint64_t value = 0;
+        expect(kfifo_open_values(1, 2, 9, passes, 3), KFIFO_DONE, "open for one that is left");
+        for (uint64_t i = 0; i < 2; i++) expect(kfifo_give(&passes[2], i), KFIFO_DONE, "a value");
+        for (int i = 0; !gives && i < 2; i++) expect(kfifo_take(&passes[2], &value), KFIFO_DONE, "its take");
+        pthread_t id = start(&call, &passes[0], gives, 7, KFIFO_FOREVER);
+        until_asleep(&passes[0], 1, gives ? KFIFO_WAITS_GIVER : KFIFO_WAITS_TAKER);
+        expect(kfifo_abandon_values(&passes[1], 1), KFIFO_DONE, "abandon the second");
+        rest(MILLISECOND);
+        expect((uint64_t)call.status, (uint64_t)-1, "a call waits while two are left");
+        expect(kfifo_abandon_values(&passes[2], 1), KFIFO_DONE, "abandon the third");
+        pthread_join(id, NULL);
+        expect(call.status, KFIFO_FINISHED, "a call that sleeps when the others go");
+        expect(gives ? kfifo_give_wait(&passes[0], 8, KFIFO_FOREVER)
+                     : kfifo_take_wait(&passes[0], &value, KFIFO_FOREVER),
+               KFIFO_FINISHED, "a call that would wait for nobody");
+        expect(gives ? kfifo_give(&passes[0], 8) : kfifo_take(&passes[0], &value), gives ? KFIFO_FULL : KFIFO_EMPTY,
+               "a call that does not wait");
+        expect(kfifo_abandon_values(passes, 1), KFIFO_DONE, "abandon the first");
+    }
+}
+
 static void ignore(int signal) { (void)signal; }
 
 /* Signals end no wait. */
@@ -369,22 +395,22 @@ static void signals(void) {
 
 /* A thread that waits uses no time of a processor. */
 static void idle(void) {
-    kfifo_value_pass pass;
+    kfifo_value_pass passes[2];
     uint64_t value = 0, before = now(CLOCK_THREAD_CPUTIME_ID), spent;
-    expect(kfifo_open_values(4, 16, 9, &pass, 1), KFIFO_DONE, "open to be idle");
-    expect(kfifo_take_wait(&pass, &value, IDLE_NANOSECONDS), KFIFO_TIMED_OUT, "an idle take");
+    expect(kfifo_open_values(4, 16, 9, passes, 2), KFIFO_DONE, "open to be idle");
+    expect(kfifo_take_wait(&passes[0], &value, IDLE_NANOSECONDS), KFIFO_TIMED_OUT, "an idle take");
     spent = now(CLOCK_THREAD_CPUTIME_ID) - before;
     printf("an idle take of %.1f seconds used %.3f milliseconds of a processor\n", IDLE_NANOSECONDS / 1e9,
            (double)spent / 1e6);
 #ifndef FEWER
     expect(spent < 2 * MILLISECOND, 1, "the time of a processor that an idle take used");
 #endif
-    expect(kfifo_abandon_values(&pass, 1), KFIFO_DONE, "abandon");
+    expect(kfifo_abandon_values(passes, 2), KFIFO_DONE, "abandon");
 }
 
 static void refusals(void) {
     kfifo_value_pass pass, closed = {0};
-    kfifo_pass items, no_items = {0};
+    kfifo_pass items[2], no_items = {0};
     uint64_t value = 77;
     uint32_t item = 77;
     void *pointer = &value;
@@ -393,7 +419,7 @@ static void refusals(void) {
     expect(kfifo_finish_values(&closed), KFIFO_BAD_CALL, "a closed handle to finish by");
     expect(kfifo_finish(&no_items), KFIFO_BAD_CALL, "a closed handle of items to finish by");
     expect(kfifo_open_values(1, 2, 9, &pass, 1), KFIFO_DONE, "open values");
-    expect(kfifo_open(1, 2, 1, KFIFO_LAST, &items, 1), KFIFO_DONE, "open items");
+    expect(kfifo_open(1, 2, 1, KFIFO_LAST, items, 2), KFIFO_DONE, "open items");
     for (int finished = 0; finished < 2; finished++) {
         expect(kfifo_give_wait(NULL, 1, KFIFO_FOREVER), KFIFO_BAD_CALL, "no pass");
         expect(kfifo_give_wait(&closed, 1, KFIFO_FOREVER), KFIFO_BAD_CALL, "a closed handle");
@@ -402,42 +428,42 @@ static void refusals(void) {
         expect(kfifo_take_wait(&closed, &value, KFIFO_FOREVER), KFIFO_BAD_CALL, "a closed handle of a take");
         expect(kfifo_take_pointer_wait(&pass, NULL, KFIFO_FOREVER), KFIFO_BAD_CALL, "no pointer");
         expect(kfifo_put_wait(NULL, 1, KFIFO_FOREVER), KFIFO_BAD_CALL, "no pass to put by");
-        expect(kfifo_put_wait(&items, 0, KFIFO_FOREVER), KFIFO_BAD_CALL, "item 0");
-        expect(kfifo_put_wait(&items, KFIFO_MAX_ITEM + 1, KFIFO_FOREVER), KFIFO_BAD_CALL, "item 2^24");
+        expect(kfifo_put_wait(&items[0], 0, KFIFO_FOREVER), KFIFO_BAD_CALL, "item 0");
+        expect(kfifo_put_wait(&items[0], KFIFO_MAX_ITEM + 1, KFIFO_FOREVER), KFIFO_BAD_CALL, "item 2^24");
         expect(kfifo_put_wait(&no_items, 1, KFIFO_FOREVER), KFIFO_BAD_CALL, "a closed handle of a put");
-        expect(kfifo_get_wait(&items, NULL, KFIFO_FOREVER), KFIFO_BAD_CALL, "no item");
+        expect(kfifo_get_wait(&items[0], NULL, KFIFO_FOREVER), KFIFO_BAD_CALL, "no item");
         expect(kfifo_get_wait(&no_items, &item, KFIFO_FOREVER), KFIFO_BAD_CALL, "a closed handle of a get");
         if (!finished) {
             expect(kfifo_give_pointer_wait(&pass, pointer, 0), KFIFO_DONE, "a pointer");
             pointer = NULL;
             expect(kfifo_take_pointer_wait(&pass, &pointer, 0), KFIFO_DONE, "the pointer");
             expect(pointer == &value, 1, "which pointer");
-            expect(kfifo_put(&items, 5), KFIFO_DONE, "an item");
-            expect(kfifo_get(&items, &item), KFIFO_DONE, "the item");
+            expect(kfifo_put(&items[0], 5), KFIFO_DONE, "an item");
+            expect(kfifo_get(&items[0], &item), KFIFO_DONE, "the item");
             expect(item, 5, "which item");
-            expect(kfifo_get_wait(&items, &item, 1), KFIFO_TIMED_OUT, "no item in time");
+            expect(kfifo_get_wait(&items[0], &item, 1), KFIFO_TIMED_OUT, "no item in time");
         }
         expect(kfifo_finish_values(&pass), KFIFO_DONE, "finish");
-        expect(kfifo_finish(&items), KFIFO_DONE, "finish the items");
+        expect(kfifo_finish(&items[0]), KFIFO_DONE, "finish the items");
     }
-    expect(kfifo_put_wait(&items, 5, KFIFO_FOREVER), KFIFO_FINISHED, "a put after the end");
-    expect(kfifo_get_wait(&items, &item, KFIFO_FOREVER), KFIFO_FINISHED, "a get after the end");
+    expect(kfifo_put_wait(&items[0], 5, KFIFO_FOREVER), KFIFO_FINISHED, "a put after the end");
+    expect(kfifo_get_wait(&items[0], &item, KFIFO_FOREVER), KFIFO_FINISHED, "a get after the end");
     expect(value, 77, "the value of takes that got none");
     expect(kfifo_abandon_values(&pass, 1), KFIFO_DONE, "abandon");
-    expect(kfifo_abandon(&items, 1), KFIFO_DONE, "abandon");
+    expect(kfifo_abandon(items, 2), KFIFO_DONE, "abandon");
 }
 
 /* A thread that waits on a queue which is worn out is told so. */
 static void worn(void) {
-    kfifo_value_pass pass = {0};
+    kfifo_value_pass pass[2];
     uint64_t value = 0;
     kfifo_status status = KFIFO_DONE;
-    expect(kfifo_open_values_with(1, 2, 4, 2, 0, &pass, 1), KFIFO_DONE, "open for few versions");
+    expect(kfifo_open_values_with(1, 2, 4, 2, 0, pass, 2), KFIFO_DONE, "open for few versions");
     for (int i = 0; i < 100 && status != KFIFO_WORN; i++)
-        status = i % 3 == 2 ? kfifo_take_wait(&pass, &value, 0) : kfifo_give_wait(&pass, (uint64_t)i, 0);
+        status = i % 3 == 2 ? kfifo_take_wait(&pass[0], &value, 0) : kfifo_give_wait(&pass[0], (uint64_t)i, 0);
     expect(status, KFIFO_WORN, "worn");
-    expect(kfifo_give_wait(&pass, 1, KFIFO_FOREVER), KFIFO_WORN, "a give that would wait for ever");
-    expect(kfifo_abandon_values(&pass, 1), KFIFO_DONE, "abandon");
+    expect(kfifo_give_wait(&pass[0], 1, KFIFO_FOREVER), KFIFO_WORN, "a give that would wait for ever");
+    expect(kfifo_abandon_values(pass, 2), KFIFO_DONE, "abandon");
 }
 
 int main(void) {
@@ -448,6 +474,7 @@ int main(void) {
     tokens();
     room_without_token();
     finishes();
+    alone();
     signals();
     worn();
     idle();

@@ -156,11 +156,48 @@ void ends() {
     expect(refuses([&] { queue.finish(); }), "the end of a closed queue");
 }
 
+// A producer that throws ends the consumers, and a handle that is left alone waits for nobody.
+void ends_by_itself() {
+    using Words = kfifo::ValueQueue<std::string>;
+    Words queue(1, 2, 2);
+    std::thread consumer([&, handle = queue.handle()]() mutable {
+        int read = 0;
+        for (std::string word : handle.values()) read += word == "one";
+        expect(read == 1, "what came before the exception");
+    });
+    try {
+        auto giver = queue.handle();
+        auto end = giver.finish_at_end();
+        expect(giver.give("one") == kfifo::Put::done, "a give before the exception");
+        throw std::runtime_error("the producer fails");
+    } catch (const std::runtime_error &) {
+    }
+    consumer.join();
+    std::optional<Words> gone(std::in_place, 1, 2, 2);
+    auto last = gone->handle();
+    auto other = std::make_unique<Words::Handle>(gone->handle());
+    std::atomic<bool> has_ended{false};
+    std::thread waits([&] {
+        expect(last.take_wait().why == kfifo::Miss::finished, "a take that sleeps when the others go");
+        has_ended = true;
+    });
+    std::this_thread::sleep_for(5ms);
+    gone.reset();
+    std::this_thread::sleep_for(5ms);
+    expect(!has_ended, "a take waits while another handle is left");
+    other.reset();
+    waits.join();
+    for (int i = 0; i < 2; i++) expect(last.give("word") == kfifo::Put::done, "a give by the last handle");
+    expect(last.give_wait("word") == kfifo::Put::finished, "a give that would wait for nobody");
+    expect(last.give("word") == kfifo::Put::full, "a give that does not wait");
+}
+
 } // namespace
 
 int main() {
     times();
     ends();
+    ends_by_itself();
     for (std::size_t givers : {1, 2, 4})
         for (std::size_t takers : {1, 2, 8}) run(givers, takers);
     std::puts(failures ? "threads that wait fail in C++"

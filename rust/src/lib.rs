@@ -49,7 +49,7 @@ mod shared;
 
 pub use error::{OpenError, PopError, PushError};
 
-use shared::{Looks, Shared};
+use shared::{Looks, Shared, User};
 use std::cell::Cell;
 use std::fmt::{self, Debug, Formatter};
 use std::marker::PhantomData;
@@ -133,7 +133,7 @@ impl Default for Versions {
 /// ```
 #[must_use]
 pub struct Queue<T> {
-    shared: Arc<Shared<T>>,
+    shared: User<T>,
 }
 
 impl<T> Queue<T> {
@@ -208,7 +208,7 @@ impl<T> Queue<T> {
     ) -> Result<Queue<T>, OpenError> {
         let shared = Shared::open(k, segments, handles, tokens, versions)?;
         Ok(Queue {
-            shared: Arc::new(shared),
+            shared: User::new(Arc::new(shared)),
         })
     }
 
@@ -227,7 +227,7 @@ impl<T> Queue<T> {
     pub fn handle(&self) -> Option<Handle<T>> {
         let number = self.shared.borrow_pass()?;
         Some(Handle {
-            shared: Arc::clone(&self.shared),
+            shared: self.shared.clone(),
             number,
             not_sync: PhantomData,
         })
@@ -272,7 +272,7 @@ impl<T> Queue<T> {
     /// # Ok::<(), kfifo::OpenError>(())
     /// ```
     pub fn into_values(self) -> Result<Vec<T>, Queue<T>> {
-        match Arc::try_unwrap(self.shared) {
+        match self.shared.into_shared() {
             Ok(shared) => Ok(shared.into_values()),
             Err(shared) => Err(Queue { shared }),
         }
@@ -328,7 +328,7 @@ impl<T> Debug for Queue<T> {
 /// }
 /// ```
 pub struct Handle<T> {
-    shared: Arc<Shared<T>>,
+    shared: User<T>,
     number: usize,
     not_sync: PhantomData<Cell<()>>,
 }
@@ -373,7 +373,8 @@ impl<T> Handle<T> {
         unsafe { self.shared.push(self.number, value, Looks::Once) }
     }
 
-    /// Puts a value, and sleeps while there is no room for it: refused is `Finished` or `Worn` alone.
+    /// Puts a value, and sleeps while there is no room for it: refused is `Finished` or `Worn` alone. It is `Finished` too
+    /// where neither the queue object nor another handle is left, since nobody makes room then.
     ///
     /// ```
     /// let queue = kfifo::Queue::new(1, 2, 2)?;
@@ -452,7 +453,8 @@ impl<T> Handle<T> {
         unsafe { self.shared.pop(self.number, Looks::Once) }
     }
 
-    /// Takes a value, and sleeps while there is none: an error is `Finished` or `Worn` alone.
+    /// Takes a value, and sleeps while there is none: an error is `Finished` or `Worn` alone. It is `Finished` too where
+    /// neither the queue object nor another handle is left, since nothing comes then.
     ///
     /// ```
     /// let queue = kfifo::Queue::new(4, 64, 2)?;
@@ -506,6 +508,24 @@ impl<T> Handle<T> {
         Values { handle: self }
     }
 
+    /// A guard that finishes the queue when it is dropped, also by a panic, so that no thread sleeps on.
+    ///
+    /// ```
+    /// let queue = kfifo::Queue::<u64>::new(4, 64, 2)?;
+    /// let producer = queue.handle().expect("a handle is free");
+    /// let failed = std::thread::spawn(move || {
+    ///     let _end = producer.finish_on_drop();
+    ///     panic!("the producer fails");
+    /// });
+    /// let consumer = queue.handle().expect("a handle is free");
+    /// assert_eq!(consumer.pop_wait(), Err(kfifo::PopError::Finished));
+    /// assert!(failed.join().is_err());
+    /// # Ok::<(), kfifo::OpenError>(())
+    /// ```
+    pub fn finish_on_drop(&self) -> FinishOnDrop<'_, T> {
+        FinishOnDrop { handle: self }
+    }
+
     /// As [`Queue::finish`].
     ///
     /// ```
@@ -517,6 +537,19 @@ impl<T> Handle<T> {
     /// ```
     pub fn finish(&self) {
         self.shared.finish();
+    }
+}
+
+/// Finishes the queue when it is dropped: [`Handle::finish_on_drop`].
+#[derive(Debug)]
+#[must_use = "the queue is finished when it is dropped"]
+pub struct FinishOnDrop<'a, T> {
+    handle: &'a Handle<T>,
+}
+
+impl<T> Drop for FinishOnDrop<'_, T> {
+    fn drop(&mut self) {
+        self.handle.finish();
     }
 }
 

@@ -6,8 +6,11 @@ use crate::ffi;
 use std::cell::UnsafeCell;
 use std::hint::spin_loop;
 use std::mem::ManuallyDrop;
+use std::ops::Deref;
 use std::process::abort;
-use std::sync::atomic::{AtomicU64, Ordering};
+use std::ptr;
+use std::sync::Arc;
+use std::sync::atomic::{AtomicU64, AtomicUsize, Ordering};
 
 /// The passes of a queue, which are closed when they are dropped.
 struct Passes(Box<[UnsafeCell<ffi::Pass>]>);
@@ -64,6 +67,51 @@ impl Drop for Passes {
     }
 }
 
+/// The queue object, or a handle. Where one is left, its calls that wait end.
+pub(crate) struct User<T>(Arc<Shared<T>>);
+
+impl<T> User<T> {
+    pub(crate) fn new(shared: Arc<Shared<T>>) -> User<T> {
+        shared.users.fetch_add(1, Ordering::SeqCst);
+        User(shared)
+    }
+
+    /// What all users share, where this is the only one.
+    pub(crate) fn into_shared(self) -> Result<Shared<T>, User<T>> {
+        // It is not dropped: where that left one user, its calls that wait would end.
+        let this = ManuallyDrop::new(self);
+        // SAFETY: what is read stands in a `ManuallyDrop` that goes at the end of this call.
+        let shared = unsafe { ptr::read(&this.0) };
+        Arc::try_unwrap(shared).map_err(User)
+    }
+}
+
+impl<T> Clone for User<T> {
+    fn clone(&self) -> User<T> {
+        User::new(Arc::clone(&self.0))
+    }
+}
+
+impl<T> Deref for User<T> {
+    type Target = Shared<T>;
+
+    fn deref(&self) -> &Shared<T> {
+        &self.0
+    }
+}
+
+impl<T> Drop for User<T> {
+    fn drop(&mut self) {
+        // The look for threads that wait comes after the number, and their look at the number after they have announced
+        // themselves: so one of the two sees the other.
+        let left = self.users.fetch_sub(1, Ordering::SeqCst) - 1;
+        if left == 1 && self.waits.state.load(Ordering::SeqCst) > ffi::IS_FINISHED {
+            // SAFETY: the waits are this queue's.
+            unsafe { ffi::kfifo_wait_finished(&self.waits) };
+        }
+    }
+}
+
 /// How often a call looks at the queue.
 #[derive(Clone, Copy)]
 pub(crate) enum Looks {
@@ -116,6 +164,8 @@ pub(crate) struct Shared<T> {
     /// How many cells there are.
     count: usize,
     waits: ffi::Waits,
+    /// The queue object and the handles that somebody has.
+    users: AtomicUsize,
 }
 
 // SAFETY: `T` may go to another thread, and so may the passes: the library ties none to a thread.
@@ -143,6 +193,7 @@ impl<T> Shared<T> {
             cells: Cells::new(handles, tokens).ok_or(OpenError::OutOfMemory)?,
             count: handles * tokens as usize,
             waits: ffi::Waits::open(),
+            users: AtomicUsize::new(0),
         })
     }
 
@@ -195,6 +246,16 @@ impl<T> Shared<T> {
             .fetch_or(ffi::IS_FINISHED, Ordering::SeqCst);
         // SAFETY: the waits are this queue's.
         unsafe { ffi::kfifo_wait_finished(&self.waits) };
+    }
+
+    /// Whether one user is left, so that nobody will push to it or pop from it.
+    fn is_alone(&self) -> bool {
+        self.users.load(Ordering::SeqCst) == 1
+    }
+
+    /// Whether a call that came to this cannot do better, since its handle is alone.
+    fn is_over(&self, status: u32) -> bool {
+        matches!(status, ffi::FULL | ffi::EMPTY | ffi::NO_TOKEN) && self.is_alone()
     }
 
     fn is_finished(&self) -> bool {
@@ -332,11 +393,20 @@ impl<T> Shared<T> {
             }
         };
         let mut waiter = ffi::Waiter::new(&self.waits, kind, nanoseconds);
-        // SAFETY: the waiter is of this queue's waits, and one waiter is used for one call.
-        while unsafe { ffi::kfifo_wait_again(&mut waiter, &mut status) } != 0 {
+        loop {
+            if self.is_over(status) {
+                // Something may have come before the others went.
+                status = call();
+                if self.is_over(status) {
+                    status = ffi::FINISHED;
+                }
+            }
+            // SAFETY: the waiter is of this queue's waits, and one waiter is used for one call.
+            if unsafe { ffi::kfifo_wait_again(&mut waiter, &mut status) } == 0 {
+                return status;
+            }
             status = call();
         }
-        status
     }
 
     /// Puts a value, and looks for room so often.
