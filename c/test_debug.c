@@ -8,6 +8,7 @@
 #include "test_ends.h"
 #include <pthread.h>
 #include <sched.h>
+#include <time.h>
 
 enum { THREADS = 2 };
 
@@ -93,6 +94,7 @@ static void call_at_the_same_time(size_t index) {
                          : kind == 'v' ? KFIFO_WAITS(&values[1])
                                        : KFIFO_WAITS(&cells[1]);
     while (kfifo_waits_state(waits) < KFIFO_WAITS_TAKER) sched_yield();
+    nanosleep(&(struct timespec){0, 20000000}, NULL); /* it has announced itself, looks once more, and then sleeps */
     /* Of an array the first handle is in no call. */
     int has_all =
         strstr(calls[index].name, "close") || strstr(calls[index].name, "abandon") || strstr(calls[index].name, "room");
