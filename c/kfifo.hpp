@@ -589,6 +589,27 @@ template <typename T> class ValueQueue {
         // Gives a value, and sleeps while there is no room for it: Put::done, Put::finished or Put::worn.
         Put give_wait(T &&value) { return give_by(within(KFIFO_WAITS_GIVER, KFIFO_FOREVER), std::move(value)); }
 
+        // The same with a copy, which is made in its cell, and with a value that is made there of these arguments. Each
+        // is made when a cell is free, and destroyed where the queue then refuses it.
+        Put give_wait(const T &value) {
+            return put(
+                within(KFIFO_WAITS_GIVER, KFIFO_FOREVER), [&](Reserved &cell) { cell.make(value); }, [](T &) {});
+        }
+
+        template <typename... Arguments> Put emplace_wait(Arguments &&...arguments) {
+            return put(
+                within(KFIFO_WAITS_GIVER, KFIFO_FOREVER),
+                [&](Reserved &cell) { cell.make(std::forward<Arguments>(arguments)...); }, [](T &) {});
+        }
+
+        // As emplace_wait, for so long at most: also timed_out.
+        template <typename Rep, typename Period, typename... Arguments>
+        Put emplace_for(const std::chrono::duration<Rep, Period> &time, Arguments &&...arguments) {
+            return put(
+                within(KFIFO_WAITS_GIVER, detail::nanoseconds_of(time)),
+                [&](Reserved &cell) { cell.make(std::forward<Arguments>(arguments)...); }, [](T &) {});
+        }
+
         // Takes a value, and sleeps while there is none: a value, Miss::finished or Miss::worn.
         TakenValue<T> take_wait() { return take_by(within(KFIFO_WAITS_TAKER, KFIFO_FOREVER)); }
 

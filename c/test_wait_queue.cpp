@@ -118,6 +118,25 @@ void times() {
     taker.join();
 }
 
+// Values that are copied or made in the queue, by calls that wait.
+void made_in_place() {
+    kfifo::ValueQueue<std::string> queue(1, 2, 2);
+    auto handle = queue.handle(), other = queue.handle();
+    const std::string first(100, 'a');
+    expect(handle.give_wait(first) == kfifo::Put::done && first == std::string(100, 'a'), "a copy");
+    expect(handle.emplace_for(1s, 100, 'b') == kfifo::Put::done, "a value that is made within a time");
+    expect(handle.emplace_for(1ms, 100, 'c') == kfifo::Put::timed_out, "a value that no room is for in time");
+    std::thread waits(
+        [&] { expect(handle.emplace_wait(100, 'd') == kfifo::Put::done, "a value that waits for room"); });
+    std::this_thread::sleep_for(5ms);
+    for (char letter : {'a', 'b', 'd'})
+        expect(other.take_wait().value == std::string(100, letter), "the values in their order");
+    waits.join();
+    queue.finish();
+    expect(handle.give_wait(first) == kfifo::Put::finished && handle.emplace_wait("e") == kfifo::Put::finished,
+           "gives after the end");
+}
+
 // Whether a call throws an Error with BAD_CALL.
 template <typename Call> bool refuses(Call call) {
     try {
@@ -198,6 +217,7 @@ int main() {
     times();
     ends();
     ends_by_itself();
+    made_in_place();
     for (std::size_t givers : {1, 2, 4})
         for (std::size_t takers : {1, 2, 8}) run(givers, takers);
     std::puts(failures ? "threads that wait fail in C++"
