@@ -38,8 +38,8 @@ static void fail(const char *what) {
 static int take(kfifo_value_pass *pass) {
     uint64_t value;
     const kfifo_status status = kfifo_take(pass, &value);
-    if (status != KFIFO_GOT && !kfifo_may_retry(status)) fail(kfifo_status_text(status));
-    return status == KFIFO_GOT;
+    if (status != KFIFO_DONE && !kfifo_may_retry(status)) fail(kfifo_status_text(status));
+    return status == KFIFO_DONE;
 }
 
 /* Gives a value, if it finds room. */
@@ -144,6 +144,6 @@ int main(int count, char **words) {
         if (is_half) give_and_take(pass);
         if (!is_half && take(pass)) fail("the queue is not empty");
     }
-    kfifo_abandon_values(passes, handles);
+    if (kfifo_abandon_values(passes, handles) != KFIFO_DONE) fail("the handles were not closed");
     return 0;
 }

@@ -95,9 +95,9 @@ struct KfifoAtRandom : Kfifo {
         return std::uint32_t((std::uint64_t(state) * k) >> 32);
     }
     bool push(std::size_t thread, std::uint32_t item) {
-        return passes[thread].enqueue(item, start(thread), turns) == kfifo::Put::done;
+        return passes[thread].enqueue_once(item, start(thread), turns) == kfifo::Put::done;
     }
-    std::uint32_t pop(std::size_t thread) { return passes[thread].dequeue(start(thread), turns).item.value_or(0); }
+    std::uint32_t pop(std::size_t thread) { return passes[thread].dequeue_once(start(thread), turns).item.value_or(0); }
 };
 
 // crossbeam's ArrayQueue.
@@ -286,11 +286,10 @@ template <std::size_t count> struct KfifoValues {
 };
 
 // This repository's queues by their calls for C: items or values, by the calls that look for threads that wait, or by
-// the plain ones.
+// the exports, which do not.
 template <typename Pass, bool looks> struct KfifoInC {
     using Attached = NothingAttached;
     std::vector<Pass> passes;
-    kfifo_waits waits{};
 
     KfifoInC(std::uint32_t k, std::size_t capacity, std::size_t threads) : passes(threads) {
         auto segments = std::uint32_t(capacity) / k;
@@ -303,26 +302,26 @@ template <typename Pass, bool looks> struct KfifoInC {
     }
     ~KfifoInC() {
         if constexpr (of_items)
-            kfifo_abandon(passes.data(), passes.size());
+            (void)kfifo_abandon(passes.data(), passes.size());
         else
-            kfifo_abandon_values(passes.data(), passes.size());
+            (void)kfifo_abandon_values(passes.data(), passes.size());
     }
     bool push(std::size_t thread, std::uint32_t item) {
         Pass *pass = &passes[thread];
         if constexpr (of_items)
-            return (looks ? kfifo_try_put(pass, &waits, item) : kfifo_put(pass, item)) == KFIFO_DONE;
+            return (looks ? kfifo_put(pass, item) : kfifo_status(kfifo_c_put(pass, item))) == KFIFO_DONE;
         else
-            return (looks ? kfifo_try_give(pass, &waits, item) : kfifo_give(pass, item)) == KFIFO_DONE;
+            return (looks ? kfifo_give(pass, item) : kfifo_status(kfifo_c_give(pass, item))) == KFIFO_DONE;
     }
     std::uint32_t pop(std::size_t thread) {
         Pass *pass = &passes[thread];
         Value value = 0;
         kfifo_status status;
         if constexpr (of_items)
-            status = looks ? kfifo_try_get(pass, &waits, &value) : kfifo_get(pass, &value);
+            status = looks ? kfifo_get(pass, &value) : kfifo_taken(kfifo_c_get(pass, &value));
         else
-            status = looks ? kfifo_try_take(pass, &waits, &value) : kfifo_take(pass, &value);
-        return status == KFIFO_GOT ? std::uint32_t(value) : 0;
+            status = looks ? kfifo_take(pass, &value) : kfifo_taken(kfifo_c_take(pass, &value));
+        return status == KFIFO_DONE ? std::uint32_t(value) : 0;
     }
 
   private:

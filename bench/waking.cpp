@@ -35,7 +35,9 @@ constexpr std::size_t capacity = 64;
 struct Kfifo {
     kfifo::ValueQueue<std::uint64_t> queue{4, capacity / 4, 2};
     kfifo::ValueQueue<std::uint64_t>::Handle giver = queue.handle(), taker = queue.handle();
-    void give(std::uint64_t value) { giver.give_wait(std::move(value)); }
+    void give(std::uint64_t value) {
+        if (giver.give_wait(std::move(value)) != kfifo::Put::done) std::abort();
+    }
     std::uint64_t take() { return taker.take_wait().value.value_or(0); }
 };
 

@@ -8,11 +8,12 @@ int main(void) {
     size_t count = 0;
     if (kfifo_open(4, 256, 4, KFIFO_LAST, passes, 4) != KFIFO_DONE) return 1;
     kfifo_status put = kfifo_put(&passes[0], 7);      /* KFIFO_DONE */
-    kfifo_status took = kfifo_get(&passes[1], &item); /* KFIFO_GOT, and item is 7 */
+    kfifo_status took = kfifo_get(&passes[1], &item); /* KFIFO_DONE, and item is 7 */
     kfifo_status none = kfifo_get(&passes[1], &item); /* KFIFO_EMPTY */
-    kfifo_close(passes, 4, left, 4 * 256, &count);    /* the items that are left, here none */
+    /* Close the queue, and have the items that are left, here none. */
+    if (kfifo_close(passes, 4, left, 4 * 256, &count) != KFIFO_DONE) return 1;
 
-    if (put != KFIFO_DONE || took != KFIFO_GOT || item != 7 || count != 0) return 1;
+    if (put != KFIFO_DONE || took != KFIFO_DONE || item != 7 || count != 0) return 1;
     printf("item %u went in and came out; then %s, and %zu are left\n", (unsigned)item, kfifo_status_text(none), count);
     return none != KFIFO_EMPTY;
 }

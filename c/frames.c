@@ -3,6 +3,7 @@
 #include "kfifo_wait.h"
 #include <pthread.h>
 #include <stdio.h>
+#include <stdlib.h>
 #include <string.h>
 
 enum { FRAMES = 20000, SIZE = 256, K = 1, SEGMENTS = 8, TOKENS = 4, SIDES = 2 };
@@ -16,7 +17,6 @@ struct frame {
 struct line {
     kfifo_cell_pass passes[SIDES]; /* of the thread that publishes, and of the one that receives */
     struct frame cells[SIDES * TOKENS];
-    kfifo_waits waits;
 };
 
 static struct line raw, filtered;
@@ -27,14 +27,14 @@ static void *camera(void *nothing) {
     struct line *to = &raw;
     uint64_t cell = 0;
     for (uint32_t number = 1; number <= FRAMES; number++) {
-        camera_end = kfifo_reserve_wait(&to->passes[0], &to->waits, &cell, KFIFO_FOREVER);
+        camera_end = kfifo_reserve_wait(&to->passes[0], &cell, KFIFO_FOREVER);
         if (camera_end != KFIFO_DONE) break;
         to->cells[cell].number = number; /* the cell is this thread's alone */
         memset(to->cells[cell].pixels, (int)(number & 0x7f), SIZE);
-        camera_end = kfifo_publish_wait(&to->passes[0], &to->waits, KFIFO_FOREVER);
+        camera_end = kfifo_publish_wait(&to->passes[0], KFIFO_FOREVER);
         if (camera_end != KFIFO_DONE) break; /* the cell is still reserved */
     }
-    kfifo_finish(&to->waits);
+    if (kfifo_finish_cells(&to->passes[0]) != KFIFO_DONE) abort();
     return nothing;
 }
 
@@ -42,32 +42,32 @@ static void *camera(void *nothing) {
 static void *filter(void *nothing) {
     struct line *from = &raw, *to = &filtered;
     uint64_t got = 0, made = 0;
-    while ((filter_end = kfifo_receive_wait(&from->passes[1], &from->waits, &got, KFIFO_FOREVER)) == KFIFO_GOT) {
-        filter_end = kfifo_reserve_wait(&to->passes[0], &to->waits, &made, KFIFO_FOREVER);
+    while ((filter_end = kfifo_receive_wait(&from->passes[1], &got, KFIFO_FOREVER)) == KFIFO_DONE) {
+        filter_end = kfifo_reserve_wait(&to->passes[0], &made, KFIFO_FOREVER);
         if (filter_end != KFIFO_DONE) break;
         const struct frame *in = &from->cells[got];
         struct frame *out = &to->cells[made];
         out->number = in->number;
         for (int i = 0; i < SIZE; i++) out->pixels[i] = (unsigned char)(2 * in->pixels[i]);
-        filter_end = kfifo_publish_wait(&to->passes[0], &to->waits, KFIFO_FOREVER);
+        filter_end = kfifo_publish_wait(&to->passes[0], KFIFO_FOREVER);
         if (filter_end != KFIFO_DONE) break;
-        kfifo_try_release(&from->passes[1], &from->waits); /* the camera may fill it anew */
+        if (kfifo_release(&from->passes[1]) != KFIFO_DONE) abort(); /* the camera may fill it anew */
     }
     /* The others end too, whatever ended this one. */
-    kfifo_finish(&from->waits);
-    kfifo_finish(&to->waits);
+    if (kfifo_finish_cells(&from->passes[1]) != KFIFO_DONE) abort();
+    if (kfifo_finish_cells(&to->passes[0]) != KFIFO_DONE) abort();
     return nothing;
 }
 
 static void *screen(void *nothing) {
     struct line *from = &filtered;
     uint64_t cell = 0;
-    while ((screen_end = kfifo_receive_wait(&from->passes[1], &from->waits, &cell, KFIFO_FOREVER)) == KFIFO_GOT) {
+    while ((screen_end = kfifo_receive_wait(&from->passes[1], &cell, KFIFO_FOREVER)) == KFIFO_DONE) {
         const struct frame *frame = &from->cells[cell];
         shown++;
         wrong += frame->number != shown || frame->pixels[SIZE - 1] != (unsigned char)(2 * (shown & 0x7f));
     }
-    kfifo_finish(&from->waits);
+    if (kfifo_finish_cells(&from->passes[1]) != KFIFO_DONE) abort();
     return nothing;
 }
 
@@ -83,8 +83,8 @@ int main(void) {
     for (int i = 0; i < 3; i++)
         if (pthread_create(&threads[i], NULL, work[i], NULL)) return 1;
     for (int i = 0; i < 3; i++) pthread_join(threads[i], NULL);
-    kfifo_abandon_cells(raw.passes, SIDES);
-    kfifo_abandon_cells(filtered.passes, SIDES);
+    if (kfifo_abandon_cells(raw.passes, SIDES) != KFIFO_DONE) return 1;
+    if (kfifo_abandon_cells(filtered.passes, SIDES) != KFIFO_DONE) return 1;
     if (camera_end != KFIFO_DONE) fprintf(stderr, "the camera ended: %s\n", kfifo_status_text(camera_end));
     if (filter_end != KFIFO_FINISHED) fprintf(stderr, "the filter ended: %s\n", kfifo_status_text(filter_end));
     if (screen_end != KFIFO_FINISHED) fprintf(stderr, "the screen ended: %s\n", kfifo_status_text(screen_end));

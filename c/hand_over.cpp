@@ -20,12 +20,12 @@ int main() {
     int read = 0;
 
     std::thread producer([&, handle = queue.handle()]() mutable {
+        auto end = handle.finish_at_end(); // also by an exception
         for (int number = 1; number <= messages; number++) {
             Message message{number, "message " + std::to_string(number)};
             put = handle.give_wait(std::move(message));
             if (put != kfifo::Put::done) break; // worn: the message is still ours
         }
-        handle.finish();
     });
     std::thread consumer([&, handle = queue.handle()]() mutable {
         try {

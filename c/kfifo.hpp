@@ -32,39 +32,41 @@ class Error : public std::invalid_argument {
   public:
     explicit Error(kfifo_status status) : Error(status, kfifo_status_text(status)) {}
     Error(kfifo_status status, const std::string &why) : std::invalid_argument("kfifo: " + why), of(status) {}
-    kfifo_status status() const noexcept { return of; }
+    [[nodiscard]] kfifo_status status() const noexcept { return of; }
 
   private:
     kfifo_status of;
 };
 
 // What a put came to. The numbers are those of kfifo.h.
-enum class Put {
+// clang-format off
+enum class [[nodiscard]] Put {
     done = KFIFO_DONE,
     full = KFIFO_FULL,
-    busy = KFIFO_BUSY,
+    busy = KFIFO_BUSY,           // of the bounded calls, whose names end in _once
     worn = KFIFO_WORN,
     no_token = KFIFO_NO_TOKEN,
     timed_out = KFIFO_TIMED_OUT, // of a call that waits: its time was up
     finished = KFIFO_FINISHED    // finish() was called before
 };
+// clang-format on
 
 // What a take came to that took nothing.
 enum class Miss {
     empty = KFIFO_EMPTY,
-    busy = KFIFO_BUSY,
+    busy = KFIFO_BUSY, // of the bounded calls, whose names end in _once
     worn = KFIFO_WORN,
     timed_out = KFIFO_TIMED_OUT,
     finished = KFIFO_FINISHED // finish() was called, and the queue was empty then
 };
 
 // A line of text, as "the ring was full".
-inline const char *text(Put put) noexcept { return kfifo_status_text(static_cast<kfifo_status>(put)); }
-inline const char *text(Miss miss) noexcept { return kfifo_status_text(static_cast<kfifo_status>(miss)); }
+[[nodiscard]] inline const char *text(Put put) noexcept { return kfifo_status_text(static_cast<kfifo_status>(put)); }
+[[nodiscard]] inline const char *text(Miss miss) noexcept { return kfifo_status_text(static_cast<kfifo_status>(miss)); }
 
 // Whether a later call may do better: a loop that retries another answer, as Put::worn, never ends.
-inline bool may_retry(Put put) noexcept { return kfifo_may_retry(static_cast<kfifo_status>(put)); }
-inline bool may_retry(Miss miss) noexcept { return kfifo_may_retry(static_cast<kfifo_status>(miss)); }
+[[nodiscard]] inline bool may_retry(Put put) noexcept { return kfifo_may_retry(static_cast<kfifo_status>(put)); }
+[[nodiscard]] inline bool may_retry(Miss miss) noexcept { return kfifo_may_retry(static_cast<kfifo_status>(miss)); }
 
 namespace detail {
 
@@ -89,7 +91,7 @@ inline kfifo_status checked(kfifo_status status) {
 
 // ---- A queue of items, which are numbers from 1 to KFIFO_MAX_ITEM ----
 
-struct Taken {
+struct [[nodiscard]] Taken {
     std::optional<std::uint32_t> item; // the item, if one was taken
     Miss why = Miss::empty;            // else why not
 };
@@ -107,19 +109,27 @@ class Pass {
         return taken(kfifo_get(handle, &item), item, 0, 1);
     }
 
+    // The same, but bounded: at most 65,535 rounds, after which the answer is busy.
+    Put enqueue_once(std::uint32_t item) const { return put(kfifo_put_once(handle, item), item, 0, 1); }
+
+    Taken dequeue_once() const {
+        std::uint32_t item = 0;
+        return taken(kfifo_get_once(handle, &item), item, 0, 1);
+    }
+
     // The same, with a start and turns of your own: the scan begins at slot `start`, below k, and makes at most `turns`
     // rounds, at least 1.
-    Put enqueue(std::uint32_t item, std::uint32_t start, std::uint16_t turns) const {
+    Put enqueue_once(std::uint32_t item, std::uint32_t start, std::uint16_t turns) const {
         return put(kfifo_enqueue(handle, item, start, turns), item, start, turns);
     }
 
-    Taken dequeue(std::uint32_t start, std::uint16_t turns) const {
+    Taken dequeue_once(std::uint32_t start, std::uint16_t turns) const {
         std::uint32_t item = 0;
         return taken(kfifo_dequeue(handle, &item, start, turns), item, start, turns);
     }
 
     // One word of the queue, as kfifo_word reads it.
-    std::uint64_t word(std::size_t index) const {
+    [[nodiscard]] std::uint64_t word(std::size_t index) const {
         std::uint64_t word = 0;
         kfifo_status status = kfifo_word(handle, index, &word);
         if (status != KFIFO_DONE) refuse(1, 0, 1, "the queue has no word with this index");
@@ -142,7 +152,7 @@ class Pass {
     }
     // The item is read after the call: as an argument beside the call it might be read before.
     Taken taken(kfifo_status status, const std::uint32_t &item, std::uint32_t start, std::uint16_t turns) const {
-        if (status == KFIFO_GOT) return {item, Miss::empty};
+        if (status == KFIFO_DONE) return {item, Miss::empty};
         if (status == KFIFO_BAD_CALL) refuse(1, start, turns, kfifo_status_text(status));
         return {std::nullopt, static_cast<Miss>(status)};
     }
@@ -171,11 +181,12 @@ class Queue {
     Queue &operator=(Queue &&) = delete;
 
     ~Queue() {
-        if (handles) kfifo_abandon(handles->data(), handles->size());
+        // These are all handles, each once: nothing is refused.
+        if (handles) (void)kfifo_abandon(handles->data(), handles->size());
     }
 
     // The pass of a thread, from 0. Throws Error where the queue has no such thread.
-    Pass pass(std::size_t thread) {
+    [[nodiscard]] Pass pass(std::size_t thread) {
         std::vector<kfifo_pass> &all = usable();
         if (thread >= all.size())
             throw Error(KFIFO_BAD_CALL, "the thread is not 0 to " + std::to_string(all.size() - 1));
@@ -183,7 +194,7 @@ class Queue {
     }
 
     // Closes the queue and gives back the items that are left. Nothing else may be called after.
-    std::vector<std::uint32_t> close() {
+    [[nodiscard]] std::vector<std::uint32_t> close() {
         std::vector<kfifo_pass> &all = usable();
         std::vector<std::uint32_t> items(slots);
         std::size_t count = 0;
@@ -223,9 +234,16 @@ template <typename Rep, typename Period> std::uint64_t nanoseconds_of(const std:
     return static_cast<std::uint64_t>(std::chrono::ceil<std::chrono::nanoseconds>(time).count());
 }
 
-// How a call is made again while it may do better: not at all.
+// How a call by a handle is made again while it may do better: not at all.
 struct Once {
-    template <typename Call> kfifo_status operator()(Call call) const { return call(); }
+    template <typename Call> kfifo_status operator()(const kfifo_cell_pass *, Call call) const { return call(); }
+};
+
+// While it is busy.
+struct UnlessBusy {
+    template <typename Call> kfifo_status operator()(const kfifo_cell_pass *pass, Call call) const {
+        KFIFO_UNLESS_BUSY(pass, call());
+    }
 };
 
 // Again and again, with sleep between, for so long at most in all, also of several calls.
@@ -234,11 +252,17 @@ class Within {
     Within(kfifo_waits *waits, std::uint32_t kind, std::uint64_t nanoseconds)
         : waiter(kfifo_waiter_of(waits, kind, nanoseconds)) {}
 
-    template <typename Call> kfifo_status operator()(Call call) {
+    template <typename Call> kfifo_status operator()(const kfifo_cell_pass *, Call call) {
         kfifo_status status = call();
         if (!kfifo_may_retry(status)) return status;
-        while (kfifo_wait_again(&waiter, &status)) status = call();
-        return status;
+        for (;;) {
+            if (kfifo_may_be_over(waiter.waits, status)) {
+                status = call();
+                if (kfifo_may_retry(status) && status != KFIFO_BUSY) status = KFIFO_FINISHED;
+            }
+            if (!kfifo_wait_again(&waiter, &status)) return status;
+            status = call();
+        }
     }
 
   private:
@@ -252,10 +276,10 @@ template <typename Clock, typename Duration> class Until {
     Until(kfifo_waits *waits, std::uint32_t kind, const std::chrono::time_point<Clock, Duration> &time)
         : of(waits), which(kind), end(time) {}
 
-    template <typename Call> kfifo_status operator()(Call call) {
+    template <typename Call> kfifo_status operator()(const kfifo_cell_pass *pass, Call call) {
         for (;;) {
             auto now = Clock::now();
-            kfifo_status status = Within(of, which, now < end ? nanoseconds_of(end - now) : 0)(call);
+            kfifo_status status = Within(of, which, now < end ? nanoseconds_of(end - now) : 0)(pass, call);
             if (status != KFIFO_TIMED_OUT || Clock::now() >= end) return status;
         }
     }
@@ -295,7 +319,7 @@ struct CellPasses {
     }
     CellPasses(const CellPasses &) = delete;
     CellPasses &operator=(const CellPasses &) = delete;
-    ~CellPasses() { kfifo_abandon_cells(all.data(), all.size()); }
+    ~CellPasses() { (void)kfifo_abandon_cells(all.data(), all.size()); }
 
     std::vector<kfifo_cell_pass> all;
 };
@@ -387,7 +411,7 @@ template <typename T> class Cells {
 
 } // namespace detail
 
-template <typename T> struct TakenValue {
+template <typename T> struct [[nodiscard]] TakenValue {
     std::optional<T> value; // the value, if one was taken
     Miss why = Miss::empty; // else why not
 };
@@ -417,7 +441,11 @@ template <typename T> class ValueQueue {
     struct State {
         State(std::uint32_t k, std::uint32_t segments, std::size_t threads, std::uint32_t tokens, Versions versions)
             : passes(k, segments, threads, tokens, versions), cells(passes.all.size(), tokens),
-              free_passes(all_passes()), kept(passes.all.size()) {}
+              free_passes(all_passes()), kept(passes.all.size()) {
+            kfifo_callers_are(waits(), 1); // the queue object
+        }
+
+        kfifo_waits *waits() const { return KFIFO_WAITS(&passes.all[0]); }
         State(const State &) = delete;
         State &operator=(const State &) = delete;
 
@@ -474,11 +502,27 @@ template <typename T> class ValueQueue {
         std::vector<std::optional<std::uint64_t>> kept; // by pass: the cell whose value a take could not move out
         bool is_closed = false;
         std::vector<std::uint64_t> left;
-        kfifo_waits waits{}; // what the threads wait by
     };
 
   public:
+    class Handle;
     class Values;
+
+    // Finishes the queue when it goes: Handle::finish_at_end.
+    class [[nodiscard]] FinishGuard {
+      public:
+        FinishGuard(FinishGuard &&) noexcept = default;
+        FinishGuard &operator=(FinishGuard &&) = delete;
+        FinishGuard(const FinishGuard &) = delete;
+        ~FinishGuard() {
+            if (state && !state->is_closed) (void)kfifo_finish_by(state->waits());
+        }
+
+      private:
+        friend class Handle;
+        explicit FinishGuard(std::shared_ptr<State> of) : state(std::move(of)) {}
+        std::shared_ptr<State> state;
+    };
 
     // What a thread makes its calls with. It can be moved, also to another thread between two calls, and not copied.
     // Each call that gives a value wakes a thread that waits for one, and each that takes one a thread that waits for
@@ -498,6 +542,7 @@ template <typename T> class ValueQueue {
             if (!state) return;
             { detail::InCall in_call(pass, "the end of a kfifo::ValueQueue::Handle"); }
             state->return_pass(which());
+            kfifo_caller_goes(state->waits());
         }
 
         // Gives a value to the queue. On any answer but done the value is what it was. It does not wait. Where there
@@ -508,29 +553,62 @@ template <typename T> class ValueQueue {
         // copied, and not moved: if the copy throws, nothing was done. A T that cannot be copied and whose moves may
         // throw is moved all the same: if a move throws, the value is not in the queue, and its state is what that
         // move makes of it.
-        Put give(T &&value) { return give_by(detail::Once(), std::move(value)); }
+        Put give(T &&value) { return give_by(detail::UnlessBusy(), std::move(value)); }
 
         // Gives a copy, which is made in its cell. If that throws, nothing was done.
         Put give(const T &value) {
             return put(
-                detail::Once(), [&](Reserved &cell) { cell.make(value); }, [](T &) {});
+                detail::UnlessBusy(), [&](Reserved &cell) { cell.make(value); }, [](T &) {});
         }
 
         // Makes a value of these arguments in its cell, and gives it. If the constructor throws, nothing was given. On
         // any answer but done the value is destroyed, or none was made. It does not wait.
         template <typename... Arguments> Put emplace(Arguments &&...arguments) {
             return put(
-                detail::Once(), [&](Reserved &cell) { cell.make(std::forward<Arguments>(arguments)...); }, [](T &) {});
+                detail::UnlessBusy(), [&](Reserved &cell) { cell.make(std::forward<Arguments>(arguments)...); },
+                [](T &) {});
         }
 
         // Takes one of the k oldest values. It does not wait.
         //
         // Where a move of T may throw and T can be copied, the value is copied out. If that throws, nothing is lost:
         // the value is the handle's, and its next take, or that of the next one to have this handle, takes it first.
-        TakenValue<T> take() { return take_by(detail::Once()); }
+        TakenValue<T> take() { return take_by(detail::UnlessBusy()); }
+
+        // The same three, but bounded: each look at the queue makes at most 65,535 rounds, after which the answer is
+        // busy. That comes only where another thread changed the queue in the meantime.
+        Put give_once(T &&value) { return give_by(detail::Once(), std::move(value)); }
+
+        template <typename... Arguments> Put emplace_once(Arguments &&...arguments) {
+            return put(
+                detail::Once(), [&](Reserved &cell) { cell.make(std::forward<Arguments>(arguments)...); }, [](T &) {});
+        }
+
+        TakenValue<T> take_once() { return take_by(detail::Once()); }
 
         // Gives a value, and sleeps while there is no room for it: Put::done, Put::finished or Put::worn.
         Put give_wait(T &&value) { return give_by(within(KFIFO_WAITS_GIVER, KFIFO_FOREVER), std::move(value)); }
+
+        // The same with a copy, which is made in its cell, and with a value that is made there of these arguments. Each
+        // is made when a cell is free, and destroyed where the queue then refuses it.
+        Put give_wait(const T &value) {
+            return put(
+                within(KFIFO_WAITS_GIVER, KFIFO_FOREVER), [&](Reserved &cell) { cell.make(value); }, [](T &) {});
+        }
+
+        template <typename... Arguments> Put emplace_wait(Arguments &&...arguments) {
+            return put(
+                within(KFIFO_WAITS_GIVER, KFIFO_FOREVER),
+                [&](Reserved &cell) { cell.make(std::forward<Arguments>(arguments)...); }, [](T &) {});
+        }
+
+        // As emplace_wait, for so long at most: also timed_out.
+        template <typename Rep, typename Period, typename... Arguments>
+        Put emplace_for(const std::chrono::duration<Rep, Period> &time, Arguments &&...arguments) {
+            return put(
+                within(KFIFO_WAITS_GIVER, detail::nanoseconds_of(time)),
+                [&](Reserved &cell) { cell.make(std::forward<Arguments>(arguments)...); }, [](T &) {});
+        }
 
         // Takes a value, and sleeps while there is none: a value, Miss::finished or Miss::worn.
         TakenValue<T> take_wait() { return take_by(within(KFIFO_WAITS_TAKER, KFIFO_FOREVER)); }
@@ -560,21 +638,32 @@ template <typename T> class ValueQueue {
 
         // The values that come, until the queue is finished and empty: for (T value : handle.values()). It sleeps while
         // there is none, and throws Error with KFIFO_WORN where take answers Miss::worn.
-        Values values() { return Values(*this); }
+        [[nodiscard]] Values values() { return Values(*this); }
+
+        // Finishes the queue when the guard goes, also by an exception, so that no thread sleeps on. Keep the guard as
+        // long as the thread gives:
+        //
+        //     auto end = giver.finish_at_end();
+        FinishGuard finish_at_end() const {
+            (void)usable();
+            return FinishGuard(state);
+        }
 
         // Says that no more values will come, as ValueQueue::finish.
-        void finish() { kfifo_finish(usable()); }
+        void finish() { (void)kfifo_finish_by(usable()); }
 
       private:
         friend class ValueQueue;
         Handle(std::shared_ptr<State> of, std::size_t number)
-            : state(std::move(of)), pass(&state->passes.all[number]), bits(state->cells.bits_of(number)) {}
+            : state(std::move(of)), pass(&state->passes.all[number]), bits(state->cells.bits_of(number)) {
+            kfifo_caller_comes(state->waits());
+        }
 
         std::size_t which() const { return std::size_t(pass - state->passes.all.data()); }
 
         kfifo_waits *usable() const {
             if (!state) throw Error(KFIFO_BAD_CALL, "the handle was moved from");
-            return &state->waits;
+            return KFIFO_WAITS(pass);
         }
 
         detail::Within within(std::uint32_t kind, std::uint64_t nanoseconds) const {
@@ -590,7 +679,7 @@ template <typename T> class ValueQueue {
                 // Once it is published another thread may have the cell.
                 if (is_published) return;
                 if (is_made) handle.state->cells.destroy(handle.bits, number);
-                kfifo_cancel(handle.pass);
+                (void)kfifo_cancel(handle.pass);
             }
             template <typename... Arguments> void make(Arguments &&...arguments) {
                 handle.state->cells.make(handle.bits, number, std::forward<Arguments>(arguments)...);
@@ -603,14 +692,14 @@ template <typename T> class ValueQueue {
 
         // Reserves a cell, makes a value in it and publishes it. A value that is refused is handed back.
         template <typename Calls, typename Make, typename Back> Put put(Calls calls, Make make, Back back) {
-            kfifo_waits *waits = usable();
+            (void)usable();
             detail::InCall in_call(pass, "a give of kfifo::ValueQueue");
             std::uint64_t number = 0;
-            kfifo_status status = calls([&] { return kfifo_try_reserve(pass, waits, &number); });
+            kfifo_status status = calls(pass, [&] { return kfifo_reserve(pass, &number); });
             if (status != KFIFO_DONE) return static_cast<Put>(detail::checked(status));
             Reserved reserved(*this, number);
             make(reserved);
-            status = calls([&] { return kfifo_try_publish(pass, waits); });
+            status = calls(pass, [&] { return kfifo_publish_once(pass); });
             reserved.is_published = status == KFIFO_DONE;
             if (!reserved.is_published) back(state->cells[number]);
             return static_cast<Put>(detail::checked(status));
@@ -631,7 +720,7 @@ template <typename T> class ValueQueue {
         }
 
         // Ends a take: destroys what is left of the value and releases its cell, or keeps both for the next take where
-        // the value could not be moved out. Then it looks for givers that wait. Before the release the look would miss
+        // the value could not be moved out. Either looks for givers that wait: before the release the look would miss
         // one that then finds no token.
         struct Received {
             Received(Handle &of, std::uint64_t what, bool was) : handle(of), number(what), was_kept(was) {}
@@ -640,26 +729,27 @@ template <typename T> class ValueQueue {
                 State &of = *handle.state;
                 if (!is_kept) {
                     of.cells.destroy(handle.bits, number);
-                    kfifo_release(handle.pass);
+                    (void)kfifo_release(handle.pass);
+                } else {
+                    (void)kfifo_after_take(KFIFO_WAITS(handle.pass), KFIFO_DONE);
                 }
                 // Other threads look at this line of the cache at each take.
                 if (is_kept != was_kept) of.kept[handle.which()] = is_kept ? std::optional(number) : std::nullopt;
-                (void)kfifo_after_take(&of.waits, KFIFO_GOT);
             }
             Handle &handle;
             std::uint64_t number;
             bool was_kept, is_kept = false;
         };
 
-        // As kfifo_try_receive, but where it got a cell it wakes nobody: Received does that.
+        // As kfifo_receive_once, but where it got a cell it wakes nobody: Received does that.
         kfifo_status look(kfifo_waits *waits, std::uint64_t *number) {
-            kfifo_status status = kfifo_receive(pass, number);
-            if (status == KFIFO_GOT) return status;
+            kfifo_status status = kfifo_bare_receive(pass, number);
+            if (status == KFIFO_DONE) return status;
             (void)kfifo_after_take(waits, status);
             if (status != KFIFO_EMPTY || !kfifo_is_finished(waits)) return status;
             // A value may have come between the look and the end.
-            status = kfifo_receive(pass, number);
-            if (status == KFIFO_GOT) return status;
+            status = kfifo_bare_receive(pass, number);
+            if (status == KFIFO_DONE) return status;
             (void)kfifo_after_take(waits, status);
             return status == KFIFO_EMPTY ? KFIFO_FINISHED : status;
         }
@@ -677,8 +767,8 @@ template <typename T> class ValueQueue {
                 number = kept.value_or(0);
             }
             if (!was_kept) {
-                kfifo_status status = calls([&] { return look(waits, &number); });
-                if (status != KFIFO_GOT) return none(static_cast<Miss>(detail::checked(status)));
+                kfifo_status status = calls(pass, [&] { return look(waits, &number); });
+                if (status != KFIFO_DONE) return none(static_cast<Miss>(detail::checked(status)));
             }
             Received received(*this, number, was_kept);
             try {
@@ -769,11 +859,20 @@ template <typename T> class ValueQueue {
     ValueQueue(const ValueQueue &) = delete;
     ValueQueue &operator=(const ValueQueue &) = delete;
     ValueQueue(ValueQueue &&) noexcept = default;
-    ValueQueue &operator=(ValueQueue &&) noexcept = default;
+    ValueQueue &operator=(ValueQueue &&other) noexcept {
+        std::swap(state, other.state);
+        std::swap(was_closed, other.was_closed);
+        return *this;
+    }
+
+    // Where one handle is left, its calls that wait end.
+    ~ValueQueue() {
+        if (state && !state->is_closed) kfifo_caller_goes(state->waits());
+    }
 
     // A handle that nobody has. Throws Error where each was out at one moment: never where there are as many handles as
     // threads, and no thread has two.
-    Handle handle() {
+    [[nodiscard]] Handle handle() {
         if (usable().is_closed) throw Error(KFIFO_BAD_CALL, "the queue is closed");
         std::optional<std::size_t> number = state->borrow_pass();
         if (!number) throw Error(KFIFO_BAD_CALL, "each handle of the queue is in use");
@@ -783,7 +882,10 @@ template <typename T> class ValueQueue {
     // Says that no more values will come, and wakes all that wait. Any thread may call it, and again. A give that
     // begins after it answers finished; a take does so once the queue is empty. A give that it meets halfway may still
     // put its value in: call it when the producers have ended, or close the queue to have what is left.
-    void finish() { kfifo_finish(&usable().waits); }
+    void finish() {
+        if (usable().is_closed) throw Error(KFIFO_BAD_CALL, "the queue is closed");
+        (void)kfifo_finish_by(state->waits());
+    }
 
     // Closes the queue and gives back the values that are left, in its order. Throws Error, and nothing changes, where
     // a handle is still out, and std::bad_alloc, and no value is lost, where there is no memory for them. Where the
@@ -791,7 +893,7 @@ template <typename T> class ValueQueue {
     //
     // Where a move of T may throw and T can be copied, the values are copied out. If that throws, no value is lost: the
     // queue takes no more calls, but a further close gives them all back.
-    std::vector<T> close() {
+    [[nodiscard]] std::vector<T> close() {
         if (!usable().is_idle()) throw Error(KFIFO_BAD_CALL, "a handle of the queue is in use");
         std::vector<T> values;
         values.reserve(state->is_closed ? state->left.size() : state->cells.with_values().size());

@@ -12,8 +12,6 @@ struct order {
     double price;
 };
 
-static kfifo_waits waits; /* what all these threads wait by */
-
 struct side {
     kfifo_value_pass *pass;
     uint32_t number, orders;
@@ -28,10 +26,10 @@ static void *produce(void *argument) {
         if (!order) abort();
         double price = 0.25 * i;
         *order = (struct order){.customer = self->number, .price = price};
-        self->end = kfifo_give_pointer_wait(self->pass, &waits, order, KFIFO_FOREVER);
+        self->end = kfifo_give_pointer_wait(self->pass, order, KFIFO_FOREVER);
         if (self->end != KFIFO_DONE) {
-            free(order);          /* the queue takes no more, and the order is still ours */
-            kfifo_finish(&waits); /* the others end too */
+            free(order); /* the queue takes no more, and the order is still ours */
+            if (kfifo_finish_values(self->pass) != KFIFO_DONE) abort(); /* the others end too */
             break;
         }
         self->total += price; /* the order itself may be gone by now */
@@ -43,12 +41,12 @@ static void *produce(void *argument) {
 static void *consume(void *argument) {
     struct side *self = argument;
     void *order = NULL;
-    while ((self->end = kfifo_take_pointer_wait(self->pass, &waits, &order, KFIFO_FOREVER)) == KFIFO_GOT) {
+    while ((self->end = kfifo_take_pointer_wait(self->pass, &order, KFIFO_FOREVER)) == KFIFO_DONE) {
         self->total += ((struct order *)order)->price;
         self->orders++;
         free(order);
     }
-    if (self->end != KFIFO_FINISHED) kfifo_finish(&waits); /* the others end too */
+    if (self->end != KFIFO_FINISHED && kfifo_finish_values(self->pass) != KFIFO_DONE) abort(); /* the others end too */
     return NULL;
 }
 
@@ -69,7 +67,7 @@ int main(void) {
     uint32_t made = 0, done = 0;
     double owed = 0, paid = 0;
     for (uint32_t i = 0; i < THREADS; i++) {
-        if (i == PRODUCERS) kfifo_finish(&waits); /* all producers have ended */
+        if (i == PRODUCERS && kfifo_finish_values(&passes[0]) != KFIFO_DONE) abort(); /* all producers have ended */
         pthread_join(threads[i], NULL);
         if (sides[i].end != (i < PRODUCERS ? KFIFO_DONE : KFIFO_FINISHED))
             fprintf(stderr, "thread %u ended: %s\n", (unsigned)i, kfifo_status_text(sides[i].end));

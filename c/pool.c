@@ -3,11 +3,11 @@
 #include "kfifo_wait.h"
 #include <pthread.h>
 #include <stdio.h>
+#include <stdlib.h>
 
 enum { WORKERS = 4, JOBS = 10000, K = 4, SEGMENTS = 256 };
 
 static uint64_t numbers[JOBS + 1]; /* the jobs; numbers[0] is never used */
-static kfifo_waits waits;          /* what all these threads wait by */
 
 struct worker {
     kfifo_pass *pass;
@@ -19,11 +19,11 @@ struct worker {
 static void *work(void *argument) {
     struct worker *self = argument;
     uint32_t item = 0;
-    while ((self->end = kfifo_get_wait(self->pass, &waits, &item, KFIFO_FOREVER)) == KFIFO_GOT) {
+    while ((self->end = kfifo_get_wait(self->pass, &item, KFIFO_FOREVER)) == KFIFO_DONE) {
         self->sum += numbers[item];
         self->jobs++;
     }
-    if (self->end != KFIFO_FINISHED) kfifo_finish(&waits); /* the others end too */
+    if (self->end != KFIFO_FINISHED && kfifo_finish(self->pass) != KFIFO_DONE) abort(); /* the others end too */
     return NULL;
 }
 
@@ -44,7 +44,7 @@ int main(void) {
     uint64_t sum = 0;
     for (uint32_t job = 1; job <= JOBS; job++) {
         numbers[job] = (uint64_t)job * job;
-        status = kfifo_put_wait(&passes[WORKERS], &waits, job, KFIFO_FOREVER);
+        status = kfifo_put_wait(&passes[WORKERS], job, KFIFO_FOREVER);
         if (status != KFIFO_DONE) {
             fprintf(stderr, "job %u was not put: %s\n", (unsigned)job, kfifo_status_text(status));
             break;
@@ -52,7 +52,7 @@ int main(void) {
         put++;
         sum += numbers[job];
     }
-    kfifo_finish(&waits); /* a worker ends when it then finds the queue empty */
+    if (kfifo_finish(&passes[WORKERS]) != KFIFO_DONE) abort(); /* a worker ends when it then finds the queue empty */
     uint32_t jobs = 0;
     uint64_t total = 0;
     for (uint32_t i = 0; i < WORKERS; i++) {

@@ -54,14 +54,14 @@ static void misuse(void) {
     expect(kfifo_publish(&two[0]), KFIFO_DONE, "a publish");
     expect(kfifo_publish(&two[0]), KFIFO_BAD_CALL, "a publish of a published cell");
     expect(kfifo_cancel(&two[0]), KFIFO_BAD_CALL, "a cancel of a published cell");
-    expect(kfifo_receive(&two[1], &other), KFIFO_GOT, "a receive beside a reserved cell");
+    expect(kfifo_receive(&two[1], &other), KFIFO_DONE, "a receive beside a reserved cell");
     expect(other, cell, "the cell that was published");
     expect(kfifo_publish(&two[1]), KFIFO_DONE, "a publish beside a received cell");
     expect(kfifo_publish(&two[1]), KFIFO_BAD_CALL, "a publish of a received cell");
     expect(kfifo_cancel(&two[1]), KFIFO_BAD_CALL, "a cancel of a received cell");
     expect(kfifo_release(&two[1]), KFIFO_DONE, "a release");
     expect(kfifo_release(&two[1]), KFIFO_BAD_CALL, "a second release");
-    expect(kfifo_receive(&two[1], &other), KFIFO_GOT, "a receive after a release");
+    expect(kfifo_receive(&two[1], &other), KFIFO_DONE, "a receive after a release");
     expect(kfifo_receive(&two[1], &other), KFIFO_EMPTY, "a receive that releases");
     expect(kfifo_release(&two[1]), KFIFO_BAD_CALL, "a release of what a receive released");
     expect(kfifo_abandon_cells(two, 2), KFIFO_DONE, "abandon");
@@ -82,7 +82,7 @@ static void cancels(void) {
         if (!i) expect(kfifo_publish(&three[0]), KFIFO_DONE, "a publish");
     }
     expect(kfifo_reserve(&three[1], &cell[1]), KFIFO_DONE, "a reserve by the second");
-    expect(kfifo_receive(&three[1], &cell[0]), KFIFO_GOT, "a receive beside it");
+    expect(kfifo_receive(&three[1], &cell[0]), KFIFO_DONE, "a receive beside it");
     expect(kfifo_release(&three[1]), KFIFO_DONE, "a release beside it");
     expect(kfifo_reserve(&three[0], &cell[2]), KFIFO_NO_TOKEN, "the second has one reserved and one of its own");
     expect(kfifo_cancel(&three[1]), KFIFO_DONE, "a cancel");
@@ -101,7 +101,7 @@ static void batches(uint32_t tokens) {
     for (uint32_t i = 0; i < 100 * tokens; i++) {
         expect(kfifo_reserve(&two[0], &cell), KFIFO_DONE, "a reserve by the one that gives");
         expect(kfifo_publish(&two[0]), KFIFO_DONE, "its publish");
-        expect(kfifo_receive(&two[1], &cell), KFIFO_GOT, "a receive by the one that takes");
+        expect(kfifo_receive(&two[1], &cell), KFIFO_DONE, "a receive by the one that takes");
         expect(kfifo_release(&two[1]), KFIFO_DONE, "its release");
     }
     expect(kfifo_abandon_cells(two, 2), KFIFO_DONE, "abandon");
@@ -118,7 +118,7 @@ static void in_order(void) {
         expect(kfifo_reserve(&two[0], &cell), KFIFO_DONE, "a reserve by the one that gives");
         if (i >= TOKENS) expect(cell, i, "the next cell of the one that takes");
         expect(kfifo_publish(&two[0]), KFIFO_DONE, "its publish");
-        expect(kfifo_receive(&two[1], &cell), KFIFO_GOT, "a receive by the one that takes");
+        expect(kfifo_receive(&two[1], &cell), KFIFO_DONE, "a receive by the one that takes");
         expect(kfifo_release(&two[1]), KFIFO_DONE, "its release");
     }
     expect(kfifo_abandon_cells(two, 2), KFIFO_DONE, "abandon");
@@ -126,7 +126,6 @@ static void in_order(void) {
 
 static void refusals(void) {
     static kfifo_cell_pass one, many[65];
-    static kfifo_waits waits;
     uint64_t left[3], cell = 77;
     size_t count = 77;
     expect(kfifo_open_cells(0, 2, 1, &one, 1), KFIFO_BAD_K, "k 0");
@@ -150,18 +149,10 @@ static void refusals(void) {
     expect(kfifo_receive(NULL, &cell), KFIFO_BAD_CALL, "no pass to receive by");
     expect(kfifo_receive(&one, NULL), KFIFO_BAD_CALL, "no variable to receive into");
     expect(kfifo_release(NULL), KFIFO_BAD_CALL, "no pass to release by");
-    expect(kfifo_try_reserve(&one, NULL, &cell), KFIFO_BAD_CALL, "no waits to reserve by");
-    expect(kfifo_try_reserve(NULL, &waits, &cell), KFIFO_BAD_CALL, "no pass to reserve by, and wait");
-    expect(kfifo_try_reserve(&one, &waits, NULL), KFIFO_BAD_CALL, "no variable to reserve into, and wait");
-    expect(kfifo_try_publish(&one, NULL), KFIFO_BAD_CALL, "no waits to publish by");
-    expect(kfifo_try_publish(NULL, &waits), KFIFO_BAD_CALL, "no pass to publish by, and wait");
-    expect(kfifo_publish_wait(&one, &waits, KFIFO_FOREVER), KFIFO_BAD_CALL, "a publish that waits for no cell");
-    expect(kfifo_try_cancel(&one, NULL), KFIFO_BAD_CALL, "no waits to cancel by");
-    expect(kfifo_try_cancel(&one, &waits), KFIFO_BAD_CALL, "a cancel of no cell, and wait");
-    expect(kfifo_try_receive(&one, NULL, &cell), KFIFO_BAD_CALL, "no waits to receive by");
-    expect(kfifo_try_receive(&one, &waits, NULL), KFIFO_BAD_CALL, "no variable to receive into, and wait");
-    expect(kfifo_try_release(&one, NULL), KFIFO_BAD_CALL, "no waits to release by");
-    expect(kfifo_try_release(&one, &waits), KFIFO_BAD_CALL, "a release of no cell, and wait");
+    expect(kfifo_publish_wait(&one, KFIFO_FOREVER), KFIFO_BAD_CALL, "a publish that waits for no cell");
+    expect(kfifo_cancel(&one), KFIFO_BAD_CALL, "a cancel of no cell");
+    expect(kfifo_release(&one), KFIFO_BAD_CALL, "a release of no cell");
+    expect(kfifo_finish_cells(NULL), KFIFO_BAD_CALL, "no pass to finish by");
     for (int i = 0; i < 2; i++) {
         expect(kfifo_reserve(&one, &cell), KFIFO_DONE, "a reserve while there is room");
         expect(kfifo_publish(&one), KFIFO_DONE, "a publish while there is room");
@@ -172,7 +163,7 @@ static void refusals(void) {
     expect(kfifo_reserve(&one, &cell), KFIFO_DONE, "a reserve after a refused publish");
     expect(cell, last, "the cell is still reserved after a refused publish");
     expect(kfifo_publish(&one), KFIFO_FULL, "a ring that is full again");
-    expect(kfifo_receive(&one, &cell), KFIFO_GOT, "got");
+    expect(kfifo_receive(&one, &cell), KFIFO_DONE, "got");
     expect(cell != last, 1, "a reserved cell is not in the queue");
     expect(kfifo_publish(&one), KFIFO_DONE, "the cell that was refused");
     expect(kfifo_reserve(&one, &last), KFIFO_NO_TOKEN, "no cell is left");
@@ -211,7 +202,7 @@ static void too_many_threads(void) {
         expect(kfifo_close_cells(all, counts[i], left, 2, &count), KFIFO_BAD_THREADS, "a close by too many handles");
         expect(count, 77, "the count of a close by too many handles");
         expect(kfifo_abandon_cells(all, counts[i]), KFIFO_BAD_THREADS, "an abandon of too many handles");
-        expect(kfifo_receive(&all[0], &cell), KFIFO_GOT, "a receive after calls with too many handles");
+        expect(kfifo_receive(&all[0], &cell), KFIFO_DONE, "a receive after calls with too many handles");
         expect(kfifo_abandon_cells(all, THREADS), KFIFO_DONE, "an abandon of 64 handles");
     }
     uint64_t room[THREADS * 4];
@@ -236,7 +227,7 @@ static void closes(void) {
         expect(kfifo_reserve(&two[i % 2], &published[i]), KFIFO_DONE, "a cell to be left");
         expect(kfifo_publish(&two[i % 2]), KFIFO_DONE, "a publish of a cell to be left");
     }
-    expect(kfifo_receive(&two[0], &cell), KFIFO_GOT, "a receive before a close");
+    expect(kfifo_receive(&two[0], &cell), KFIFO_DONE, "a receive before a close");
     expect(cell, published[0], "the oldest cell");
     expect(kfifo_reserve(&two[1], &cell), KFIFO_DONE, "a reserve before a close");
     expect(kfifo_open_cells(1, 8, 8, other, 2), KFIFO_DONE, "open another");
@@ -276,36 +267,32 @@ static void worn(void) {
 
 /* ---- Threads that wait ---- */
 
-static kfifo_waits waits;
-
 static void times(void) {
-    kfifo_cell_pass one;
+    kfifo_cell_pass two[2];
     uint64_t cell = 77;
-    expect(kfifo_waits_open(&waits), KFIFO_DONE, "open the waits");
-    expect(kfifo_open_cells(1, 2, 3, &one, 1), KFIFO_DONE, "open for times");
-    expect(kfifo_receive_wait(&one, &waits, &cell, 1000000), KFIFO_TIMED_OUT, "a receive that waits");
+    expect(kfifo_open_cells(1, 2, 3, two, 2), KFIFO_DONE, "open for times");
+    expect(kfifo_receive_wait(&two[0], &cell, 1000000), KFIFO_TIMED_OUT, "a receive that waits");
     for (int i = 0; i < 2; i++) {
-        expect(kfifo_reserve_wait(&one, &waits, &cell, 0), KFIFO_DONE, "a reserve that need not wait");
-        expect(kfifo_publish_wait(&one, &waits, 0), KFIFO_DONE, "a publish that need not wait");
+        expect(kfifo_reserve_wait(&two[0], &cell, 0), KFIFO_DONE, "a reserve that need not wait");
+        expect(kfifo_publish_wait(&two[0], 0), KFIFO_DONE, "a publish that need not wait");
     }
-    expect(kfifo_reserve_wait(&one, &waits, &cell, 0), KFIFO_DONE, "a reserve before a full ring");
-    expect(kfifo_publish_wait(&one, &waits, 1000000), KFIFO_TIMED_OUT, "a publish that waits");
-    expect(kfifo_receive_wait(&one, &waits, &cell, 0), KFIFO_GOT, "a receive that need not wait");
-    expect(kfifo_publish_wait(&one, &waits, 0), KFIFO_DONE, "a publish after a receive");
-    expect(kfifo_reserve_wait(&one, &waits, &cell, 1000000), KFIFO_TIMED_OUT, "a reserve that waits");
-    expect(kfifo_try_release(&one, &waits), KFIFO_DONE, "a release");
-    expect(kfifo_reserve_wait(&one, &waits, &cell, 0), KFIFO_DONE, "a reserve after a release");
-    expect(kfifo_finish(&waits), KFIFO_DONE, "finish");
-    expect(kfifo_try_reserve(&one, &waits, &cell), KFIFO_FINISHED, "a reserve after the end");
-    expect(kfifo_publish_wait(&one, &waits, KFIFO_FOREVER), KFIFO_FINISHED, "a publish after the end");
+    expect(kfifo_reserve_wait(&two[0], &cell, 0), KFIFO_DONE, "a reserve before a full ring");
+    expect(kfifo_publish_wait(&two[0], 1000000), KFIFO_TIMED_OUT, "a publish that waits");
+    expect(kfifo_receive_wait(&two[0], &cell, 0), KFIFO_DONE, "a receive that need not wait");
+    expect(kfifo_publish_wait(&two[0], 0), KFIFO_DONE, "a publish after a receive");
+    expect(kfifo_reserve_wait(&two[0], &cell, 1000000), KFIFO_TIMED_OUT, "a reserve that waits");
+    expect(kfifo_release(&two[0]), KFIFO_DONE, "a release");
+    expect(kfifo_reserve_wait(&two[0], &cell, 0), KFIFO_DONE, "a reserve after a release");
+    expect(kfifo_finish_cells(&two[0]), KFIFO_DONE, "finish");
+    expect(kfifo_reserve(&two[0], &cell), KFIFO_FINISHED, "a reserve after the end");
+    expect(kfifo_publish_wait(&two[0], KFIFO_FOREVER), KFIFO_FINISHED, "a publish after the end");
     for (int i = 0; i < 2; i++)
-        expect(kfifo_receive_wait(&one, &waits, &cell, KFIFO_FOREVER), KFIFO_GOT, "a receive after the end");
-    expect(kfifo_receive_wait(&one, &waits, &cell, KFIFO_FOREVER), KFIFO_FINISHED, "the end");
-    expect(kfifo_abandon_cells(&one, 1), KFIFO_DONE, "abandon after the end");
-    expect(kfifo_try_reserve(&one, &waits, &cell), KFIFO_BAD_CALL, "a closed handle after the end");
-    expect(kfifo_try_publish(&one, &waits), KFIFO_BAD_CALL, "a publish by a closed handle after the end");
-    expect(kfifo_try_receive(&one, &waits, &cell), KFIFO_BAD_CALL, "a receive by a closed handle after the end");
-    expect(kfifo_waits_open(&waits), KFIFO_DONE, "open the waits again");
+        expect(kfifo_receive_wait(&two[0], &cell, KFIFO_FOREVER), KFIFO_DONE, "a receive after the end");
+    expect(kfifo_receive_wait(&two[0], &cell, KFIFO_FOREVER), KFIFO_FINISHED, "the end");
+    expect(kfifo_abandon_cells(two, 2), KFIFO_DONE, "abandon after the end");
+    expect(kfifo_reserve(&two[0], &cell), KFIFO_BAD_CALL, "a closed handle after the end");
+    expect(kfifo_publish(&two[0]), KFIFO_BAD_CALL, "a publish by a closed handle after the end");
+    expect(kfifo_receive(&two[0], &cell), KFIFO_BAD_CALL, "a receive by a closed handle after the end");
 }
 
 /* ---- Many threads ---- */
@@ -325,23 +312,23 @@ static unsigned char *out; /* how often each cell's contents came out */
 static int sleeps;         /* whether the threads sleep or look again */
 
 static kfifo_status reserved(kfifo_cell_pass *pass, uint64_t *cell) {
-    if (sleeps) return kfifo_reserve_wait(pass, &waits, cell, KFIFO_FOREVER);
+    if (sleeps) return kfifo_reserve_wait(pass, cell, KFIFO_FOREVER);
     kfifo_status status;
     while (kfifo_may_retry(status = kfifo_reserve(pass, cell))) sched_yield();
     return status;
 }
 
 static kfifo_status published(kfifo_cell_pass *pass) {
-    if (sleeps) return kfifo_publish_wait(pass, &waits, KFIFO_FOREVER);
+    if (sleeps) return kfifo_publish_wait(pass, KFIFO_FOREVER);
     kfifo_status status;
-    while (kfifo_may_retry(status = kfifo_try_publish(pass, &waits))) sched_yield();
+    while (kfifo_may_retry(status = kfifo_publish(pass))) sched_yield();
     return status;
 }
 
 static kfifo_status received(kfifo_cell_pass *pass, uint64_t *cell) {
-    if (sleeps) return kfifo_receive_wait(pass, &waits, cell, KFIFO_FOREVER);
+    if (sleeps) return kfifo_receive_wait(pass, cell, KFIFO_FOREVER);
     kfifo_status status;
-    while (kfifo_may_retry(status = kfifo_try_receive(pass, &waits, cell))) sched_yield();
+    while (kfifo_may_retry(status = kfifo_receive(pass, cell))) sched_yield();
     return status;
 }
 
@@ -366,14 +353,14 @@ static void *consume(void *argument) {
     struct side *self = argument;
     uint64_t cell = 0;
     kfifo_status status;
-    while ((status = received(self->pass, &cell)) == KFIFO_GOT) {
+    while ((status = received(self->pass, &cell)) == KFIFO_DONE) {
         struct cell *mine = &cells[cell];
         for (int j = 0; j < WORDS; j++) self->wrong += mine->copies[j] != mine->index;
         out[mine->producer * EACH + mine->index]++;
         memset(mine, 0xff, sizeof *mine);
         self->count++;
         /* Else the next receive releases it. */
-        if (self->count % 2 && kfifo_try_release(self->pass, &waits) != KFIFO_DONE) self->wrong++;
+        if (self->count % 2 && kfifo_release(self->pass) != KFIFO_DONE) self->wrong++;
     }
     if (status != KFIFO_FINISHED) stopped(status);
     return NULL;
@@ -386,14 +373,13 @@ static void run(uint32_t pairs, int do_sleep) {
     uint64_t given = 0, taken = 0, wrong = 0;
     sleeps = do_sleep;
     out = calloc((size_t)pairs * EACH, 1);
-    expect(kfifo_waits_open(&waits), KFIFO_DONE, "open the waits");
     expect(kfifo_open_cells(K, SEGMENTS, TOKENS, passes, 2 * pairs), KFIFO_DONE, "open for many threads");
     for (uint32_t i = 0; i < 2 * pairs; i++) {
         sides[i] = (struct side){.pass = &passes[i], .number = i % pairs};
         if (!out || pthread_create(&ids[i], NULL, i < pairs ? produce : consume, &sides[i])) abort();
     }
     for (uint32_t i = 0; i < 2 * pairs; i++) {
-        if (i == pairs) kfifo_finish(&waits);
+        if (i == pairs) expect(kfifo_finish_cells(&passes[0]), KFIFO_DONE, "finish");
         pthread_join(ids[i], NULL);
         *(i < pairs ? &given : &taken) += sides[i].count;
         wrong += sides[i].wrong;
@@ -414,7 +400,7 @@ static void *step(void *argument) {
     uint64_t got = 0, made = 0;
     while (atomic_load(&left_to_do) != 0) {
         kfifo_status status = kfifo_receive(self->pass, &got);
-        if (status == KFIFO_GOT && cells[got].index != 0) {
+        if (status == KFIFO_DONE && cells[got].index != 0) {
             status = kfifo_reserve(self->pass, &made);
             if (status != KFIFO_DONE) stopped(status);
             self->wrong += made == got || cells[got].copies[0] != cells[got].index;
@@ -423,7 +409,7 @@ static void *step(void *argument) {
             if (status != KFIFO_DONE) stopped(status);
             self->wrong += kfifo_release(self->pass) != KFIFO_DONE;
             self->count++;
-        } else if (status == KFIFO_GOT) {
+        } else if (status == KFIFO_DONE) {
             self->count++;
             atomic_fetch_sub(&left_to_do, 1);
         } else if (kfifo_may_retry(status)) {

@@ -140,28 +140,26 @@ struct OfCells {
         if (status != KFIFO_DONE) return status;
         cells[cell] = value;
         status = kfifo_publish(pass);
-        if (status != KFIFO_DONE) kfifo_cancel(pass);
+        if (status != KFIFO_DONE) status = kfifo_cancel(pass) == KFIFO_DONE ? status : KFIFO_BAD_CALL;
         return status;
     }
 
     kfifo_status take(Pass *pass, std::uint64_t *value) {
         std::uint64_t cell = 0;
         const kfifo_status status = kfifo_receive(pass, &cell);
-        if (status != KFIFO_GOT) return status;
+        if (status != KFIFO_DONE) return status;
         *value = std::exchange(cells[cell], 0);
-        kfifo_release(pass);
-        return status;
+        return kfifo_release(pass) == KFIFO_DONE ? status : KFIFO_BAD_CALL;
     }
 
     std::vector<std::uint64_t> cells;
 };
 
 // What a call answered. A check ends where it is neither done nor may do better later: such a queue does not wear out.
-kfifo::Answer answer_of(kfifo_status status) {
+kfifo::Answer answer_of(kfifo_status status, kfifo::Answer done) {
     switch (status) {
-    case KFIFO_DONE: return kfifo::Answer::done;
+    case KFIFO_DONE: return done;
     case KFIFO_FULL: return kfifo::Answer::full;
-    case KFIFO_GOT: return kfifo::Answer::got;
     case KFIFO_EMPTY: return kfifo::Answer::empty;
     case KFIFO_BUSY: return kfifo::Answer::busy;
     default: throw std::runtime_error(kfifo_status_text(status));
@@ -182,16 +180,16 @@ template <class Kind> class Changing {
     }
     Changing(Changing &&) noexcept = default;
     ~Changing() {
-        if (!passes.empty()) Kind::abandon(passes.data(), passes.size());
+        if (!passes.empty() && Kind::abandon(passes.data(), passes.size()) != KFIFO_DONE) std::abort();
     }
 
     kfifo::Answer give(unsigned thread, std::uint32_t item) {
-        return counted(thread, answer_of(kind.give(&passes[thread], item)));
+        return counted(thread, answer_of(kind.give(&passes[thread], item), kfifo::Answer::done));
     }
 
     kfifo::Got take(unsigned thread) {
         std::uint64_t value = 0;
-        const kfifo::Answer answer = counted(thread, answer_of(kind.take(&passes[thread], &value)));
+        const kfifo::Answer answer = counted(thread, answer_of(kind.take(&passes[thread], &value), kfifo::Answer::got));
         return {answer, value};
     }
 

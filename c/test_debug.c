@@ -8,6 +8,7 @@
 #include "test_ends.h"
 #include <pthread.h>
 #include <sched.h>
+#include <time.h>
 
 enum { THREADS = 2 };
 
@@ -15,7 +16,6 @@ enum { THREADS = 2 };
 static kfifo_pass items[THREADS], items_copy[THREADS];
 static kfifo_value_pass values[THREADS], values_copy[THREADS];
 static kfifo_cell_pass cells[THREADS], cells_copy[THREADS];
-static kfifo_waits waits;
 static uint32_t item, left_items[8];
 static uint64_t value, cell, word, left[16];
 static size_t count;
@@ -33,7 +33,7 @@ static void open_all(void) {
 #define CALL(name, ...)                                                                                                \
     static void call_##name(kfifo_pass *i, kfifo_value_pass *v, kfifo_cell_pass *c) {                                  \
         (void)i, (void)v, (void)c;                                                                                     \
-        (void)name(__VA_ARGS__);                                                                                       \
+        if (name(__VA_ARGS__)) return;                                                                                 \
     }
 CALL(kfifo_put, i, 1)
 CALL(kfifo_get, i, &item)
@@ -72,18 +72,15 @@ static const struct {
 enum { CALLS = sizeof calls / sizeof calls[0] };
 
 static void *wait_for_item(void *pass) {
-    (void)kfifo_get_wait(pass, &waits, &item, KFIFO_FOREVER);
-    return NULL;
+    return kfifo_get_wait(pass, &item, KFIFO_FOREVER) == KFIFO_DONE ? pass : NULL;
 }
 
 static void *wait_for_value(void *pass) {
-    (void)kfifo_take_wait(pass, &waits, &value, KFIFO_FOREVER);
-    return NULL;
+    return kfifo_take_wait(pass, &value, KFIFO_FOREVER) == KFIFO_DONE ? pass : NULL;
 }
 
 static void *wait_for_cell(void *pass) {
-    (void)kfifo_receive_wait(pass, &waits, &cell, KFIFO_FOREVER);
-    return NULL;
+    return kfifo_receive_wait(pass, &cell, KFIFO_FOREVER) == KFIFO_DONE ? pass : NULL;
 }
 
 /* The call by the second handle, while another thread sleeps in one by it. */
@@ -93,7 +90,11 @@ static void call_at_the_same_time(size_t index) {
     void *pass = kind == 'i' ? (void *)&items[1] : kind == 'v' ? (void *)&values[1] : (void *)&cells[1];
     void *(*sleeps)(void *) = kind == 'i' ? wait_for_item : kind == 'v' ? wait_for_value : wait_for_cell;
     if (pthread_create(&other, NULL, sleeps, pass)) exit(2);
-    while (kfifo_waits_state(&waits) < KFIFO_WAITS_TAKER) sched_yield();
+    kfifo_waits *waits = kind == 'i'   ? KFIFO_WAITS(&items[1])
+                         : kind == 'v' ? KFIFO_WAITS(&values[1])
+                                       : KFIFO_WAITS(&cells[1]);
+    while (kfifo_waits_state(waits) < KFIFO_WAITS_TAKER) sched_yield();
+    nanosleep(&(struct timespec){0, 20000000}, NULL); /* it has announced itself, looks once more, and then sleeps */
     /* Of an array the first handle is in no call. */
     int has_all =
         strstr(calls[index].name, "close") || strstr(calls[index].name, "abandon") || strstr(calls[index].name, "room");
@@ -117,9 +118,9 @@ int main(void) {
         failed += !ends(call_by_copy, i, "is a copy of one that was opened at another place");
         failed += !ends(call_at_the_same_time, i, "is in another call");
     }
-    kfifo_abandon(items, THREADS);
-    kfifo_abandon_values(values, THREADS);
-    kfifo_abandon_cells(cells, THREADS);
+    failed += kfifo_abandon(items, THREADS) != KFIFO_DONE;
+    failed += kfifo_abandon_values(values, THREADS) != KFIFO_DONE;
+    failed += kfifo_abandon_cells(cells, THREADS) != KFIFO_DONE;
     /* A closed handle is no copy. */
     memcpy(items_copy, items, sizeof items);
     failed += kfifo_put(items_copy, 1) != KFIFO_BAD_CALL;

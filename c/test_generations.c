@@ -142,7 +142,7 @@ static kfifo_status give_cell(struct queue *queue, uint32_t thread, uint64_t val
     if (status != KFIFO_DONE) return status;
     for (int i = 0; i < WORDS; i++) contents[cell][i] = value;
     status = kfifo_publish(&queue->cells[thread]);
-    if (status != KFIFO_DONE) kfifo_cancel(&queue->cells[thread]);
+    if (status != KFIFO_DONE) expect(kfifo_cancel(&queue->cells[thread]), KFIFO_DONE, "cancel");
     return status;
 }
 
@@ -157,12 +157,12 @@ static kfifo_status give(struct queue *queue, uint32_t thread, uint64_t value) {
 static kfifo_status take_cell(struct queue *queue, uint32_t thread, uint64_t *value) {
     uint64_t cell = 0;
     kfifo_status status = kfifo_receive(&queue->cells[thread], &cell);
-    if (status != KFIFO_GOT) return status;
+    if (status != KFIFO_DONE) return status;
     *value = contents[cell][0];
     for (int i = 1; i < WORDS; i++)
         if (contents[cell][i] != *value) *value = UINT64_MAX;
     memset(contents[cell], 0xff, sizeof contents[cell]);
-    kfifo_release(&queue->cells[thread]);
+    expect(kfifo_release(&queue->cells[thread]), KFIFO_DONE, "release");
     return status;
 }
 
@@ -215,7 +215,7 @@ static void in_order(int kind) {
                 next++;
             }
             for (; oldest < next; oldest++) {
-                expect(take(&queue, 0, &value), KFIFO_GOT, "a take in order");
+                expect(take(&queue, 0, &value), KFIFO_DONE, "a take in order");
                 expect(value, oldest, "the oldest value");
             }
             expect(take(&queue, 0, &value), KFIFO_EMPTY, "a take of an empty queue");
@@ -239,17 +239,17 @@ static void one_stops(int kind) {
     expect(give(&queue, 1, 1000), KFIFO_DONE, "a give by one that then stops");
     for (uint64_t i = 0; i < 2000; i++) {
         expect(give(&queue, 0, i), KFIFO_DONE, "a give while another one stops");
-        expect(take(&queue, 0, &value), KFIFO_GOT, "a take while another one stops");
+        expect(take(&queue, 0, &value), KFIFO_DONE, "a take while another one stops");
         expect(value, i ? i - 1 : 1000, "the value that was given before");
     }
     expect(give(&queue, 0, 2000), KFIFO_DONE, "a give at the end");
     if (kind == OF_VALUES)
         expect(kfifo_values_room(queue.values, 2) > 8, 1, "the room with a generation that one kept");
-    expect(take(&queue, 1, &value), KFIFO_GOT, "a take by the one that stopped");
+    expect(take(&queue, 1, &value), KFIFO_DONE, "a take by the one that stopped");
     expect(value, 1999, "the oldest value");
     expect(give(&queue, 1, 2001), KFIFO_DONE, "a give by the one that stopped");
     for (uint64_t i = 2000; i < 2002; i++) {
-        expect(take(&queue, 0, &value), KFIFO_GOT, "a take after the one that stopped");
+        expect(take(&queue, 0, &value), KFIFO_DONE, "a take after the one that stopped");
         expect(value, i, "the values at the end");
     }
     abandon_from(&queue, 0, 2);
@@ -265,7 +265,7 @@ static void closes(int kind) {
         expect(open_queue(&queue, kind, 1, 16, 24, 3), KFIFO_DONE, "open to be closed");
         for (; next < before; next++) {
             expect(give(&queue, (uint32_t)next % 3, next), KFIFO_DONE, "a give that is taken");
-            expect(take(&queue, (uint32_t)next % 2, &value), KFIFO_GOT, "its take");
+            expect(take(&queue, (uint32_t)next % 2, &value), KFIFO_DONE, "its take");
         }
         for (uint64_t i = 0; i < 14; i++) expect(give(&queue, 0, next + i), KFIFO_DONE, "a give that is left");
         if (kind == OF_VALUES) {
@@ -295,10 +295,10 @@ static void closes_many(int kind) {
             expect(give(&queue, thread, next++), KFIFO_DONE, "a give by each of many");
             for (int pair = 0; pair < 24; pair++) {
                 expect(give(&queue, 0, next++), KFIFO_DONE, "a give by the first of many");
-                expect(take(&queue, 0, &value), KFIFO_GOT, "a take by the first of many");
+                expect(take(&queue, 0, &value), KFIFO_DONE, "a take by the first of many");
                 expect(value, oldest++, "the oldest value of many");
             }
-            expect(take(&queue, 0, &value), KFIFO_GOT, "one more take by the first of many");
+            expect(take(&queue, 0, &value), KFIFO_DONE, "one more take by the first of many");
             expect(value, oldest++, "the last value of many");
         }
         for (int more = 0; more < 3; more++) expect(give(&queue, 0, next++), KFIFO_DONE, "a give that many leave");
@@ -326,7 +326,7 @@ static void does_not_renew(int kind) {
     while (next < 1000 && (status = give(&queue, 0, next)) != KFIFO_WORN) {
         if (status == KFIFO_DONE) inside[count++] = next++;
         if (count < 3) continue;
-        if (take(&queue, 0, &value) != KFIFO_GOT) break;
+        if (take(&queue, 0, &value) != KFIFO_DONE) break;
         expect(value, inside[0], "the oldest value");
         memmove(inside, inside + 1, --count * sizeof *inside);
     }
@@ -357,13 +357,13 @@ static void one_leaves(int kind) {
                 expect(give(&queue, thread, next), KFIFO_DONE, "a give around one that leaves");
                 next++;
             } else {
-                expect(take(&queue, thread, &value), KFIFO_GOT, "a take around one that leaves");
+                expect(take(&queue, thread, &value), KFIFO_DONE, "a take around one that leaves");
                 expect(value, oldest, "the oldest value around one that leaves");
                 oldest++;
             }
         }
         for (; oldest < next; oldest++) {
-            expect(take(&queue, (leaver + 1) % 3, &value), KFIFO_GOT, "a take after one has left");
+            expect(take(&queue, (leaver + 1) % 3, &value), KFIFO_DONE, "a take after one has left");
             expect(value, oldest, "a value that was left");
         }
         expect(take(&queue, (leaver + 2) % 3, &value), KFIFO_EMPTY, "a take of what one that left gave");
@@ -386,7 +386,7 @@ static void full_in_order(int kind) {
         if (status == KFIFO_FULL) expect(next - oldest >= RING, 1, "a queue that is full has all slots filled");
         refused += status == KFIFO_FULL;
         for (uint64_t j = 0; j <= i % 5; j++) {
-            expect(take(&queue, 0, &value), KFIFO_GOT, "a take of a queue that is full");
+            expect(take(&queue, 0, &value), KFIFO_DONE, "a take of a queue that is full");
             expect(value, oldest, "the oldest value of a queue that is full");
             oldest++;
         }
@@ -501,7 +501,7 @@ static void take_one(struct side *self) {
     }
     self->waited = 0;
     kfifo_status status = take(&queue, self->thread, &value);
-    if (status != KFIFO_GOT) {
+    if (status != KFIFO_DONE) {
         refused(self, status);
         return;
     }

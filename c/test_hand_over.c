@@ -14,21 +14,20 @@ enum { HAND_OVERS = 200000 };
 
 /* Two queues, one for each direction, whose passes are of the first thread and the second. */
 static kfifo_value_pass there[2], back[2];
-static kfifo_waits there_waits, back_waits;
 
 /* A hand-over to a thread whose giver sleeps too: the ring of two slots is full. */
 static void *answer(void *argument) {
     uint64_t value = 0;
     for (int i = 0; i < HAND_OVERS / 2; i++) {
-        if (kfifo_take_wait(&there[1], &there_waits, &value, KFIFO_FOREVER) != KFIFO_GOT) abort();
-        if (kfifo_give_wait(&back[1], &back_waits, value + 1, KFIFO_FOREVER) != KFIFO_DONE) abort();
+        if (kfifo_take_wait(&there[1], &value, KFIFO_FOREVER) != KFIFO_DONE) abort();
+        if (kfifo_give_wait(&back[1], value + 1, KFIFO_FOREVER) != KFIFO_DONE) abort();
     }
     return argument;
 }
 
 static void *drain(void *argument) {
     uint64_t value = 0, wanted = 0;
-    while (kfifo_take_wait(&there[1], &there_waits, &value, KFIFO_FOREVER) == KFIFO_GOT)
+    while (kfifo_take_wait(&there[1], &value, KFIFO_FOREVER) == KFIFO_DONE)
         if (value != wanted++) abort();
     *(uint64_t *)argument = wanted;
     return NULL;
@@ -41,19 +40,18 @@ int main(void) {
         return 1;
     if (pthread_create(&other, NULL, answer, NULL)) return 1;
     for (int i = 0; i < HAND_OVERS / 2; i++) {
-        if (kfifo_give_wait(&there[0], &there_waits, value, KFIFO_FOREVER) != KFIFO_DONE) return 1;
-        if (kfifo_take_wait(&back[0], &back_waits, &value, KFIFO_FOREVER) != KFIFO_GOT) return 1;
+        if (kfifo_give_wait(&there[0], value, KFIFO_FOREVER) != KFIFO_DONE) return 1;
+        if (kfifo_take_wait(&back[0], &value, KFIFO_FOREVER) != KFIFO_DONE) return 1;
     }
     pthread_join(other, NULL);
 
     /* One way: the giver sleeps before a full ring, the taker before an empty one. */
     if (pthread_create(&other, NULL, drain, &drained)) return 1;
     for (uint64_t i = 0; i < HAND_OVERS; i++)
-        if (kfifo_give_wait(&there[0], &there_waits, i, KFIFO_FOREVER) != KFIFO_DONE) return 1;
-    kfifo_finish(&there_waits);
+        if (kfifo_give_wait(&there[0], i, KFIFO_FOREVER) != KFIFO_DONE) return 1;
+    if (kfifo_finish_values(&there[0]) != KFIFO_DONE) return 1;
     pthread_join(other, NULL);
-    kfifo_abandon_values(there, 2);
-    kfifo_abandon_values(back, 2);
+    if (kfifo_abandon_values(there, 2) != KFIFO_DONE || kfifo_abandon_values(back, 2) != KFIFO_DONE) return 1;
     int right = value == HAND_OVERS / 2 && drained == HAND_OVERS;
     printf("%d hand-overs between two threads that both sleep%s\n", HAND_OVERS, right ? "" : " went wrong");
     return !right;

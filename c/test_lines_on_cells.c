@@ -28,13 +28,12 @@ static int run(void) {
             if (status != KFIFO_DONE) return 1;       // worn
         }
 
-        if (kfifo_receive(&passes[1], &cell) == KFIFO_GOT) {
+        if (kfifo_receive(&passes[1], &cell) == KFIFO_DONE) {
             show(&frames[cell]);                      // now it is this one's alone
-            kfifo_release(&passes[1]);
+            if (kfifo_release(&passes[1]) != KFIFO_DONE) return 1;
         }
     }
-    kfifo_abandon_cells(passes, 2);
-    return 0;
+    return kfifo_abandon_cells(passes, 2) != KFIFO_DONE;
 }
 /* clang-format on */
 

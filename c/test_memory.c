@@ -106,7 +106,7 @@ static int closes(long number) {
         kept++;
         expect(lost, 0, "a close that does nothing after a request at which the items are lost");
         expect(count, 77, "the count of a close that did nothing");
-        expect(kfifo_dequeue(&passes[2], &item, 0, 9), KFIFO_GOT, "a call after a close that did nothing");
+        expect(kfifo_dequeue(&passes[2], &item, 0, 9), KFIFO_DONE, "a call after a close that did nothing");
         expect(kfifo_close(passes, THREADS, items, ROOM, &count), KFIFO_DONE, "the close once more");
         expect(count, 1, "items left");
     } else if (status == KFIFO_LOST) {
@@ -144,9 +144,9 @@ static kfifo_status takes(struct queue *queue, uint64_t thread, uint64_t *value)
     uint64_t cell = 0;
     if (!queue->of_cells) return kfifo_take(&queue->values[thread], value);
     kfifo_status status = kfifo_receive(&queue->cells[thread], &cell);
-    if (status != KFIFO_GOT) return status;
+    if (status != KFIFO_DONE) return status;
     *value = queue->contents[cell];
-    kfifo_release(&queue->cells[thread]);
+    expect(kfifo_release(&queue->cells[thread]), KFIFO_DONE, "release");
     return status;
 }
 
@@ -186,7 +186,7 @@ static int closes_queue(struct queue *queue, uint64_t first, uint64_t end, long 
         kept++;
         expect(lost, 0, "a close that does nothing after a request at which the values are lost");
         expect((long)count, 77, "the count of a close of values or cells that did nothing");
-        expect(takes(queue, 2, &value), KFIFO_GOT, "a take after a close that did nothing");
+        expect(takes(queue, 2, &value), KFIFO_DONE, "a take after a close that did nothing");
         expect((long)value, (long)first++, "the oldest value after a close that did nothing");
         status = close_into(queue, left, 32 * SEGMENTS, &count);
     }
@@ -224,17 +224,17 @@ static void abandons(void) {
     }
     for (int i = 0; i + 1 < THREADS; i++) {
         long before = blocks;
-        kfifo_abandon_values(&passes[i], 1);
-        kfifo_abandon(&items[i], 1);
+        expect(kfifo_abandon_values(&passes[i], 1), KFIFO_DONE, "abandon");
+        expect(kfifo_abandon(&items[i], 1), KFIFO_DONE, "abandon");
         expect(blocks < before, 1, "an abandoned handle frees its block");
     }
-    expect(kfifo_take(&passes[THREADS - 1], &value), KFIFO_GOT, "a take by the last handle");
-    expect(kfifo_get(&items[THREADS - 1], &item), KFIFO_GOT, "a get by the last handle");
-    kfifo_abandon_values(&passes[THREADS - 1], 1);
-    kfifo_abandon(&items[THREADS - 1], 1);
+    expect(kfifo_take(&passes[THREADS - 1], &value), KFIFO_DONE, "a take by the last handle");
+    expect(kfifo_get(&items[THREADS - 1], &item), KFIFO_DONE, "a get by the last handle");
+    expect(kfifo_abandon_values(&passes[THREADS - 1], 1), KFIFO_DONE, "abandon");
+    expect(kfifo_abandon(&items[THREADS - 1], 1), KFIFO_DONE, "abandon");
     expect(blocks, 0, "blocks left by handles that were abandoned one by one");
-    if (opens(items, 0)) kfifo_put(&items[0], 7);
-    kfifo_abandon(items, THREADS);
+    if (opens(items, 0)) expect(kfifo_put(&items[0], 7), KFIFO_DONE, "an item that is left");
+    expect(kfifo_abandon(items, THREADS), KFIFO_DONE, "abandon");
     expect(blocks, 0, "blocks left by handles that were abandoned at once");
 }
 
@@ -250,21 +250,21 @@ static void calls(void) {
     refuse(1);
     for (int i = 0; i < 1000; i++) {
         expect(kfifo_give(&passes[0], 5), KFIFO_DONE, "a give without memory");
-        expect(kfifo_take(&passes[1], &value), KFIFO_GOT, "a take without memory");
+        expect(kfifo_take(&passes[1], &value), KFIFO_DONE, "a take without memory");
         expect(kfifo_put(&items[0], 5), KFIFO_DONE, "a put without memory");
-        expect(kfifo_get(&items[1], &item), KFIFO_GOT, "a get without memory");
+        expect(kfifo_get(&items[1], &item), KFIFO_DONE, "a get without memory");
     }
     for (int i = 0; i < 1000; i++) {
         expect(kfifo_reserve(&cells[0], &value), KFIFO_DONE, "a reserve without memory");
         expect(kfifo_publish(&cells[0]), KFIFO_DONE, "a publish without memory");
-        expect(kfifo_receive(&cells[1], &value), KFIFO_GOT, "a receive without memory");
+        expect(kfifo_receive(&cells[1], &value), KFIFO_DONE, "a receive without memory");
         expect(kfifo_release(&cells[1]), KFIFO_DONE, "a release without memory");
     }
     expect(requests, 0, "requests of calls for memory");
     refuse(0);
-    kfifo_abandon_values(passes, THREADS);
-    kfifo_abandon_cells(cells, THREADS);
-    kfifo_abandon(items, THREADS);
+    expect(kfifo_abandon_values(passes, THREADS), KFIFO_DONE, "abandon");
+    expect(kfifo_abandon_cells(cells, THREADS), KFIFO_DONE, "abandon");
+    expect(kfifo_abandon(items, THREADS), KFIFO_DONE, "abandon");
     expect(blocks, 0, "blocks left by abandoned handles");
 }
 
@@ -321,7 +321,7 @@ static int changes(int of_cells, long number) {
         for (; given - taken > given % 4; taken++) {
             status = takes(&queue, taken % 2, &value);
             if (status == KFIFO_BUSY && requests >= number) status = takes(&queue, taken % 2, &value);
-            expect(status, KFIFO_GOT, "a take while a request is refused");
+            expect(status, KFIFO_DONE, "a take while a request is refused");
             expect((long)value, (long)taken, "the oldest value");
         }
         if (failed) break;
@@ -348,7 +348,7 @@ static void wears_out(int of_cells, long number, int comes_back) {
         since += requests >= number;
         if (given - taken < 3) continue;
         status = takes(&queue, 0, &value);
-        if (status != KFIFO_GOT) break;
+        if (status != KFIFO_DONE) break;
         expect((long)value, (long)taken, "the oldest value without memory");
         taken++;
     }
@@ -364,7 +364,7 @@ static void wears_out(int of_cells, long number, int comes_back) {
 static void goes_on(struct queue *queue, uint64_t threads, uint64_t count, uint64_t *next) {
     for (uint64_t end = *next + count, value = 0; *next < end && !failed; (*next)++) {
         expect(gives(queue, *next % threads, *next), KFIFO_DONE, "a give through changes");
-        expect(takes(queue, (*next + 1) % threads, &value), KFIFO_GOT, "a take through changes");
+        expect(takes(queue, (*next + 1) % threads, &value), KFIFO_DONE, "a take through changes");
         expect((long)value, (long)*next, "the value through changes");
     }
 }
@@ -476,7 +476,7 @@ int main(void) {
     kfifo_pass passes[THREADS];
     long of_open = 1, of_close = 1;
     for (tried = 1; !opens(passes, tried); tried++) of_open++;
-    kfifo_abandon(passes, THREADS);
+    expect(kfifo_abandon(passes, THREADS), KFIFO_DONE, "abandon");
     expect(blocks, 0, "blocks left by abandoned handles");
     for (tried = 1; !closes(tried); tried++) of_close++;
     /* A close reads its handles before it closes any: the refusal of either list that it makes for that does nothing.

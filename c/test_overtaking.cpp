@@ -155,7 +155,7 @@ class Run {
     Run(std::uint32_t k, std::uint32_t handles) : passes(handles), values(1), last(64 * handles) {
         expect(kfifo_open_values_with(k, 8, 64, last, last / 2, passes.data(), handles), KFIFO_DONE, "open");
     }
-    ~Run() { kfifo_abandon_values(passes.data(), passes.size()); }
+    ~Run() { expect(kfifo_abandon_values(passes.data(), passes.size()), KFIFO_DONE, "abandon"); }
 
     // A call by this handle begins in a thread of its own, and stops after so many instructions, or ends before.
     std::unique_ptr<Call> begin(std::uint32_t handle, bool is_give, long steps) {
@@ -181,7 +181,7 @@ class Run {
     void pair(std::uint32_t handle) {
         expect(kfifo_give(&passes[handle], 0), KFIFO_DONE, "a give before a take");
         std::uint64_t value = 0, begins = now++;
-        expect(kfifo_take(&passes[handle], &value), KFIFO_GOT, "a take after a give");
+        expect(kfifo_take(&passes[handle], &value), KFIFO_DONE, "a take after a give");
         note_take(value, handle, begins, now++);
     }
 
@@ -194,8 +194,8 @@ class Run {
 
     // Takes all that is left. So each value that was given has come out.
     void drain(std::uint32_t handle) {
-        kfifo_status status = KFIFO_GOT;
-        while (status == KFIFO_GOT) status = take(handle);
+        kfifo_status status = KFIFO_DONE;
+        while (status == KFIFO_DONE) status = take(handle);
         expect(status, KFIFO_EMPTY, "the last take");
         for (const Value &value : values)
             expect(value.give_ends && !value.take_ends, 0, "values that did not come out");
@@ -263,7 +263,7 @@ class Run {
             values[call.value].give_begins = call.begins;
             values[call.value].give_ends = call.ends;
             log.push_back({call.begins, call.ends, call.value, call.handle, KFIFO_JUDGE_PUT, KFIFO_JUDGE_DONE});
-        } else if (call.status == KFIFO_GOT) {
+        } else if (call.status == KFIFO_DONE) {
             note_take(call.value, call.handle, call.begins, call.ends);
         } else if (!call.is_give && call.status == KFIFO_EMPTY) {
             log.push_back({call.begins, call.ends, 0, call.handle, KFIFO_JUDGE_GET, KFIFO_JUDGE_EMPTY});

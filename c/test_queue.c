@@ -36,7 +36,7 @@ static void take(struct side *self, uint32_t index) {
     uint32_t item = 0;
     int status =
         index % 4 < 2 ? kfifo_get(self->pass, &item) : kfifo_dequeue(self->pass, &item, index % self->k, self->turns);
-    if (status == KFIFO_GOT) {
+    if (status == KFIFO_DONE) {
         self->out[item]++;
         self->got++;
     }
@@ -79,7 +79,7 @@ static void run(uint32_t k, uint32_t segments, uint32_t probes, uint32_t threads
         if (!sides[i].out || pthread_create(&ids[i], NULL, work, &sides[i])) abort();
     }
     for (uint32_t i = 0; i < threads; i++) pthread_join(ids[i], NULL);
-    while ((status = kfifo_get(&passes[0], &item)) == KFIFO_GOT) {
+    while ((status = kfifo_get(&passes[0], &item)) == KFIFO_DONE) {
         sides[0].out[item]++;
         sides[0].got++;
     }
@@ -127,9 +127,9 @@ static void mixture(int turned) {
     expect(kfifo_close(mixed, 2, left, 2, &count), KFIFO_BAD_CALL, "a close by handles of two queues");
     expect((int)count, 77, "the count of a close by handles of two queues");
     expect((int)left[0], 77, "the items of a close by handles of two queues");
-    expect(kfifo_dequeue(&one[1], &item, 0, 4), KFIFO_GOT, "the first works on");
+    expect(kfifo_dequeue(&one[1], &item, 0, 4), KFIFO_DONE, "the first works on");
     expect((int)item, 1, "the item of the first");
-    expect(kfifo_dequeue(&other[1], &item, 0, 4), KFIFO_GOT, "the second works on");
+    expect(kfifo_dequeue(&other[1], &item, 0, 4), KFIFO_DONE, "the second works on");
     expect((int)item, 2, "the item of the second");
     expect(kfifo_close(one, 2, left, 2, &count), KFIFO_DONE, "close the first");
     expect((int)count, 0, "items left in the first");
@@ -139,7 +139,7 @@ static void mixture(int turned) {
     expect(kfifo_close(other, 2, left, 2, &count), KFIFO_DONE, "close the second");
     expect((int)count, 1, "items left in the second");
     expect((int)left[0], 3, "the item left in the second");
-    kfifo_abandon(one, 2);
+    expect(kfifo_abandon(one, 2), KFIFO_DONE, "abandon");
 }
 
 /* Puts and gets of a handle begin one slot further at each call, from slot thread * k / threads on. */
@@ -152,17 +152,18 @@ static void starts(void) {
     expect(kfifo_open(K, 8, K, KFIFO_LAST, two, 2), KFIFO_DONE, "open for starts");
     for (uint32_t i = 0; i < K; i++) expect(kfifo_put(&two[1], 10 + i), KFIFO_DONE, "a put");
     size_t first = 0;
-    while (first < 8 && (kfifo_word(&two[0], 1 + first * K, &word), (word & KFIFO_MAX_ITEM) == 0)) first++;
+    while (first < 8 && kfifo_word(&two[0], 1 + first * K, &word) == KFIFO_DONE && (word & KFIFO_MAX_ITEM) == 0)
+        first++;
     for (uint32_t i = 0; i < K; i++) {
         expect(kfifo_word(&two[0], 1 + first * K + (2 + i) % K, &word), KFIFO_DONE, "a slot");
         expect((int)(word & KFIFO_MAX_ITEM), (int)(10 + i), "the item in the slot of the start");
     }
     /* The second handle takes from slot 2 on, where its own first item is, and the first one from slot 0 on. */
-    expect(kfifo_get(&two[1], &item), KFIFO_GOT, "a get by the second");
+    expect(kfifo_get(&two[1], &item), KFIFO_DONE, "a get by the second");
     expect((int)item, 10, "the item of the second's start");
-    expect(kfifo_get(&two[0], &item), KFIFO_GOT, "a get by the first");
+    expect(kfifo_get(&two[0], &item), KFIFO_DONE, "a get by the first");
     expect((int)item, 12, "the item of the first's start");
-    expect(kfifo_get(&two[0], &item), KFIFO_GOT, "a further get by the first");
+    expect(kfifo_get(&two[0], &item), KFIFO_DONE, "a further get by the first");
     expect((int)item, 13, "the item of the slot after it");
     expect(kfifo_close(two, 2, left, K * 8, &count), KFIFO_DONE, "close");
     expect((int)count, 1, "the item that is left");
@@ -177,7 +178,7 @@ static void most_handles(void) {
     expect(kfifo_open(64, 1024, 64, KFIFO_LAST, all, THREADS), KFIFO_DONE, "open for 64");
     for (uint32_t i = 0; i < THREADS; i++) expect(kfifo_put(&all[i], i + 1), KFIFO_DONE, "a put by each of 64");
     for (uint32_t i = 1; i < THREADS; i++) {
-        expect(kfifo_get(&all[i], &item), KFIFO_GOT, "a get by 63 of 64");
+        expect(kfifo_get(&all[i], &item), KFIFO_DONE, "a get by 63 of 64");
         sum += item;
     }
     expect(kfifo_close(all, THREADS - 1, left, 64 * 1024, &count), KFIFO_BAD_CALL, "a close by 63 of 64");
@@ -206,7 +207,7 @@ static void too_many_threads(void) {
         expect(kfifo_close(all, counts[i], left, 2, &count), KFIFO_BAD_THREADS, "a close by too many handles");
         expect((int)count, 77, "the count of a close by too many handles");
         expect(kfifo_abandon(all, counts[i]), KFIFO_BAD_THREADS, "an abandon of too many handles");
-        expect(kfifo_get(&all[THREADS - 1], &item), KFIFO_GOT, "a get after calls with too many handles");
+        expect(kfifo_get(&all[THREADS - 1], &item), KFIFO_DONE, "a get after calls with too many handles");
         expect(kfifo_abandon(all, THREADS), KFIFO_DONE, "an abandon of 64 handles");
         expect(kfifo_put(&all[THREADS - 1], 1), KFIFO_BAD_CALL, "an abandoned handle");
     }
@@ -235,9 +236,9 @@ static void texts_of_bad_calls(void) {
         expect(text != NULL, rows[i].text != NULL, "whether a call may not be made, by its text");
         expect(refused, rows[i].text != NULL, "whether a call may not be made");
         expect(text && rows[i].text && !strstr(text, rows[i].text), 0, "the text names the cause");
-        if (!refused) expect(kfifo_get(&pass, &item), KFIFO_GOT, "the item of a call that was made");
+        if (!refused) expect(kfifo_get(&pass, &item), KFIFO_DONE, "the item of a call that was made");
     }
-    kfifo_abandon(&pass, 1);
+    expect(kfifo_abandon(&pass, 1), KFIFO_DONE, "abandon");
 }
 
 /* Fifty queues at once: all handles of one have one address, and no two have the same. */
@@ -251,11 +252,11 @@ static void addresses(void) {
         for (int j = 0; j < i; j++) expect(all[i][0].address != all[j][2].address, 1, "the addresses of two queues");
     }
     for (int i = 0; i < QUEUES; i++) {
-        kfifo_abandon(all[i], 2);
+        expect(kfifo_abandon(all[i], 2), KFIFO_DONE, "abandon");
         for (int j = 0; j < i; j++)
             expect(all[i][2].address != all[j][2].address, 1, "an address while a handle is left");
     }
-    for (int i = 0; i < QUEUES; i++) kfifo_abandon(&all[i][2], 1);
+    for (int i = 0; i < QUEUES; i++) expect(kfifo_abandon(&all[i][2], 1), KFIFO_DONE, "abandon");
 }
 
 static void refusals(void) {
@@ -292,7 +293,7 @@ static void refusals(void) {
     expect(kfifo_enqueue(&pass, KFIFO_MAX_ITEM, 0, 4), KFIFO_DONE, "the greatest item");
     expect(kfifo_enqueue(&pass, 5, 0, 4), KFIFO_DONE, "item 5");
     expect(kfifo_enqueue(&pass, 6, 0, 4), KFIFO_FULL, "full");
-    expect(kfifo_dequeue(&pass, &item, 0, 4), KFIFO_GOT, "got");
+    expect(kfifo_dequeue(&pass, &item, 0, 4), KFIFO_DONE, "got");
     expect((int)item, (int)KFIFO_MAX_ITEM, "the first item");
     uint64_t word = 77;
     size_t count = 77;
@@ -320,10 +321,10 @@ static void refusals(void) {
     expect(kfifo_close(&pass, 1, left, 2, &count), KFIFO_DONE, "close a worn queue");
     kfifo_pass two[2];
     expect(kfifo_open(1, 2, 1, 9, two, 2), KFIFO_DONE, "open for two");
-    kfifo_abandon(&two[1], 1);
+    expect(kfifo_abandon(&two[1], 1), KFIFO_DONE, "abandon");
     expect(kfifo_close(two, 2, left, 2, &count), KFIFO_BAD_CALL, "a closed handle among those of a close");
     expect(kfifo_enqueue(&two[0], 1, 0, 4), KFIFO_DONE, "the open one still works");
-    kfifo_abandon(two, 2);
+    expect(kfifo_abandon(two, 2), KFIFO_DONE, "abandon");
 }
 
 int main(void) {
@@ -336,6 +337,7 @@ int main(void) {
     texts_of_bad_calls();
     addresses();
     for (int status = KFIFO_DONE; status <= KFIFO_FINISHED; status++) {
+        if (status == 2) continue; /* what the exports return of a take that is done */
         expect(strcmp(kfifo_status_text((kfifo_status)status), kfifo_status_text((kfifo_status)99)) != 0, 1,
                "the text of a status");
         expect(strncmp(kfifo_status_name((kfifo_status)status), "KFIFO_", 6), 0, "the name of a status");

@@ -64,8 +64,8 @@ void refusals() {
     Values::Handle first = queue.handle();
     {
         Values::Handle second = queue.handle();
-        expect(refuses(KFIFO_BAD_CALL, [&] { queue.handle(); }), "more handles than threads");
-        expect(refuses(KFIFO_BAD_CALL, [&] { queue.close(); }), "a close while a handle is in use");
+        expect(refuses(KFIFO_BAD_CALL, [&] { (void)queue.handle(); }), "more handles than threads");
+        expect(refuses(KFIFO_BAD_CALL, [&] { (void)queue.close(); }), "a close while a handle is in use");
     }
     expect(!first.take().value && first.take().why == kfifo::Miss::empty, "a new queue is empty");
     std::string word(100, 'a');
@@ -79,14 +79,14 @@ void refusals() {
            "of a full ring the value comes back");
     expect(second.take().value == std::string(100, 'a'), "the oldest value");
     Values::Handle moved = std::move(second);
-    expect(refuses(KFIFO_BAD_CALL, [&] { second.take(); }), "a handle that was moved from");
+    expect(refuses(KFIFO_BAD_CALL, [&] { (void)second.take(); }), "a handle that was moved from");
     { Values::Handle one = std::move(first), other = std::move(moved); }
     expect(queue.close() == std::vector<std::string>{std::string(100, 'b')}, "what is left");
     auto is_told = [](Values &of, const char *word) {
         return refuses(
-                   KFIFO_BAD_CALL, [&] { of.close(); }, word) &&
+                   KFIFO_BAD_CALL, [&] { (void)of.close(); }, word) &&
                refuses(
-                   KFIFO_BAD_CALL, [&] { of.handle(); }, word) &&
+                   KFIFO_BAD_CALL, [&] { (void)of.handle(); }, word) &&
                refuses(
                    KFIFO_BAD_CALL, [&] { of.finish(); }, word);
     };
@@ -121,7 +121,7 @@ void ends() {
         {
             kfifo::ValueQueue<Parcel> queue(4, 16, 2);
             last.emplace(queue.handle());
-            for (std::uint64_t i = 0; i < 10; i++) last->give(Parcel(i));
+            for (std::uint64_t i = 0; i < 10; i++) expect(last->give(Parcel(i)) == kfifo::Put::done, "a value");
         }
         expect(Parcel::alive == 10 && last->take().value.has_value(), "a handle keeps the queue");
         expect(Parcel::alive == 9, "a value that was taken is destroyed");
@@ -141,7 +141,7 @@ void handles_go_round(std::size_t of) {
         all.emplace_back([&] {
             for (ready++; ready != of;) std::this_thread::yield();
             try {
-                for (std::size_t i = 0; i < 2 * EACH && !stops; i++) queue.handle();
+                for (std::size_t i = 0; i < 2 * EACH && !stops; i++) (void)queue.handle();
             } catch (const kfifo::Error &) {
                 refused++;
                 stops = true;
@@ -152,7 +152,7 @@ void handles_go_round(std::size_t of) {
     expect(refused == 0, "a thread finds a handle where there are as many as threads");
     std::vector<kfifo::ValueQueue<int>::Handle> each;
     for (std::size_t i = 0; i < of; i++) each.push_back(queue.handle());
-    expect(refuses(KFIFO_BAD_CALL, [&] { queue.handle(); }), "one handle more than there are");
+    expect(refuses(KFIFO_BAD_CALL, [&] { (void)queue.handle(); }), "one handle more than there are");
     std::size_t given = 0;
     for (auto &handle : each) given += handle.give(1) == kfifo::Put::done;
     expect(given == 2, "two slots take two values of as many handles");
@@ -223,7 +223,7 @@ void threads(std::size_t pairs) {
     expect(Parcel::alive == 0, "each value that was taken is destroyed once");
     {
         auto handle = queue.handle();
-        for (std::uint64_t i = 0; i < 3; i++) handle.give(Parcel(i));
+        for (std::uint64_t i = 0; i < 3; i++) expect(handle.give(Parcel(i)) == kfifo::Put::done, "a value");
     }
     expect(queue.close().size() == 3, "close gives back the rest");
     expect(Parcel::alive == 0, "what a close gave back is destroyed once");

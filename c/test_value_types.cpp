@@ -261,7 +261,7 @@ template <typename T> void left() {
             bool in_order = rest.size() == 6;
             for (std::size_t i = 0; i < rest.size(); i++) in_order = in_order && rest[i].is(int(i) + 1);
             expect(in_order && Counted::alive == 6, "a close gives back what is left in its order");
-            expect(refuses([&] { queue.close(); }), "a second close");
+            expect(refuses([&] { (void)queue.close(); }), "a second close");
         }
     }
     balanced("values that are left");
@@ -362,17 +362,19 @@ template <typename T> void throws_as_given() {
     auto handle = queue.handle();
     T value(1);
     const T &same = value;
-    expect(throws(0, [&] { handle.emplace(7); }), "a constructor that throws");
-    expect(throws(0, [&] { handle.give(same); }) && value.is(1), "a copy that throws");
+    expect(throws(0, [&] { (void)handle.emplace(7); }), "a constructor that throws");
+    expect(throws(0, [&] { (void)handle.give(same); }) && value.is(1), "a copy that throws");
     expect(Counted::alive == 1 && !handle.take().value, "nothing was given");
     if constexpr (!std::is_nothrow_move_constructible_v<T>) {
-        expect(throws(0, [&] { handle.give(std::move(value)); }) && value.is(1), "a give that throws");
-        expect(throws(0, [&] { handle.give_wait(std::move(value)); }) && value.is(1), "a give that waits and throws");
+        expect(throws(0, [&] { (void)handle.give(std::move(value)); }) && value.is(1), "a give that throws");
+        expect(throws(0, [&] { (void)handle.give_wait(std::move(value)); }) && value.is(1),
+               "a give that waits and throws");
         expect(!handle.take().value, "nothing was given that waits");
     }
     for (int i = 0; i < 2; i++) expect(handle.give(same) == kfifo::Put::done, "a copy");
     expect(handle.give(same) == kfifo::Put::full && value.is(1) && Counted::alive == 3, "a copy that is refused");
-    expect(throws(0, [&] { handle.give(same); }) && value.is(1) && Counted::alive == 3, "a copy in vain that throws");
+    expect(throws(0, [&] { (void)handle.give(same); }) && value.is(1) && Counted::alive == 3,
+           "a copy in vain that throws");
 }
 
 // A take whose copy throws takes nothing: the value is the next one of its handle, or what is left of the queue.
@@ -383,22 +385,22 @@ void throws_as_taken() {
     {
         auto handle = queue.handle();
         for (int i = 0; i < 6; i++) expect(other->emplace(i) == kfifo::Put::done, "a value");
-        for (int i = 0; i < 3; i++) expect(throws(0, [&] { handle.take(); }), "a take that throws");
+        for (int i = 0; i < 3; i++) expect(throws(0, [&] { (void)handle.take(); }), "a take that throws");
         expect(Counted::alive == 6, "no value is lost");
         expect(other->take().value->is(1), "another handle takes the next one");
         auto taken = handle.take();
         expect(taken.value && taken.value->is(0), "the value of the take that threw");
-        expect(throws(0, [&] { handle.take_wait(); }), "a take that waits and throws");
+        expect(throws(0, [&] { (void)handle.take_wait(); }), "a take that waits and throws");
         expect(handle.take_wait().value->is(2), "the value of a take that waited and threw");
-        expect(throws(0, [&] { handle.take(); }), "a take by a handle that goes");
+        expect(throws(0, [&] { (void)handle.take(); }), "a take by a handle that goes");
     }
     auto handle = queue.handle();
     expect(handle.take().value->is(3), "the next one to have the handle takes the value");
-    expect(throws(0, [&] { handle.take(); }), "a take before the end");
+    expect(throws(0, [&] { (void)handle.take(); }), "a take before the end");
     handle.finish();
     expect(other->take().value->is(5) && other->take().why == kfifo::Miss::finished, "the end for another handle");
     int count = 0, sum = 0;
-    expect(throws(0, [&] { handle.values().begin(); }), "a range that throws");
+    expect(throws(0, [&] { (void)handle.values().begin(); }), "a range that throws");
     for (Throwing &&value : handle.values()) {
         count++;
         sum += *value.number;
@@ -413,12 +415,12 @@ void kept() {
         {
             auto handle = queue.handle();
             for (int i = 0; i < 4; i++) expect(handle.emplace(i) == kfifo::Put::done, "a value");
-            expect(throws(0, [&] { handle.take(); }), "a take that throws");
+            expect(throws(0, [&] { (void)handle.take(); }), "a take that throws");
         }
         if (!closed) continue;
         for (long after : {0, 1, 3})
-            expect(throws(after, [&] { queue.close(); }) && Counted::alive == 4, "a close that throws");
-        expect(refuses([&] { queue.handle(); }), "a handle after a close that threw");
+            expect(throws(after, [&] { (void)queue.close(); }) && Counted::alive == 4, "a close that throws");
+        expect(refuses([&] { (void)queue.handle(); }), "a handle after a close that threw");
         auto rest = queue.close();
         bool in_order = rest.size() == 4;
         for (std::size_t i = 0; i < rest.size(); i++) in_order = in_order && rest[i].is(int(i));
@@ -432,13 +434,13 @@ void throws_as_moved() {
     kfifo::ValueQueue<MovedThrowing> queue(1, 2, 1, 3);
     auto handle = queue.handle();
     MovedThrowing value(1);
-    expect(throws(0, [&] { handle.give(std::move(value)); }) && value.is(1), "a move that throws");
+    expect(throws(0, [&] { (void)handle.give(std::move(value)); }) && value.is(1), "a move that throws");
     expect(!handle.take().value && Counted::alive == 1, "nothing was given");
     expect(handle.give(std::move(value)) == kfifo::Put::done && handle.emplace(2) == kfifo::Put::done, "two values");
     MovedThrowing third(3);
     expect(handle.give(std::move(third)) == kfifo::Put::full && third.is(3), "a value that was moved back");
-    expect(throws(1, [&] { handle.give(std::move(third)); }) && Counted::alive == 4, "a move back that throws");
-    expect(throws(0, [&] { handle.take(); }), "a move out that throws");
+    expect(throws(1, [&] { (void)handle.give(std::move(third)); }) && Counted::alive == 4, "a move back that throws");
+    expect(throws(0, [&] { (void)handle.take(); }), "a move out that throws");
     auto taken = handle.take();
     expect(taken.value && taken.value->is(1), "the value that could not be moved out");
 }
@@ -450,7 +452,7 @@ void woken() {
         auto giver = queue.handle(), taker = queue.handle();
         for (std::uint32_t i = 0; i < std::min(tokens, 2U); i++)
             expect(giver.emplace(int(i)) == kfifo::Put::done, "a value");
-        expect(throws(0, [&] { taker.take(); }), "a take that throws");
+        expect(throws(0, [&] { (void)taker.take(); }), "a take that throws");
         std::thread waits([&] {
             Throwing value(9);
             expect(giver.give_wait(std::move(value)) == kfifo::Put::done, "a giver that waits");

@@ -66,7 +66,7 @@ static void *consume(void *argument) {
         int last = atomic_load(&still_giving) == 0;
         uint64_t value = 0;
         kfifo_status status = kfifo_take(self->pass, &value);
-        if (status == KFIFO_GOT) {
+        if (status == KFIFO_DONE) {
             out[((value >> 40) - 1) * EACH + (value & 0xffffffffff)]++;
             self->count++;
         } else if (status == KFIFO_EMPTY && last) {
@@ -127,13 +127,13 @@ static void tokens(void) {
         for (uint64_t i = 0; i < 3; i++) expect(kfifo_give(&two[0], round), KFIFO_DONE, "a give with a token");
         expect(kfifo_give(&two[0], 1), KFIFO_NO_TOKEN, "a give without one");
         for (uint64_t i = 0; i < 3; i++)
-            expect(kfifo_take(&two[1], &value), KFIFO_GOT, "a take that lays a token down");
+            expect(kfifo_take(&two[1], &value), KFIFO_DONE, "a take that lays a token down");
         expect(value, round, "the value that was given");
     }
     value = 77;
     expect(kfifo_take(&two[1], &value), KFIFO_EMPTY, "an empty queue");
     expect(value, 77, "the value of a take that got none");
-    kfifo_abandon_values(two, 2);
+    expect(kfifo_abandon_values(two, 2), KFIFO_DONE, "abandon");
 }
 
 /* Takers keep tokens of the one that gives, 15 each at most. With enough tokens that one still fills the ring, and is
@@ -148,12 +148,12 @@ static void enough_tokens(void) {
         for (int taker = 0; taker < THREADS - 1; taker++) {
             for (int i = 0; i < 15; i++) {
                 expect(kfifo_give(giver, 7), KFIFO_DONE, "a give whose token a taker keeps");
-                expect(kfifo_take(&all[taker], &value), KFIFO_GOT, "a take that keeps a token");
+                expect(kfifo_take(&all[taker], &value), KFIFO_DONE, "a take that keeps a token");
             }
         }
         for (int i = 0; i < SLOTS; i++) expect(kfifo_give(giver, 7), KFIFO_DONE, "a give until the ring is full");
         expect(kfifo_give(giver, 7), fewer ? KFIFO_NO_TOKEN : KFIFO_FULL, "a give into a full ring");
-        kfifo_abandon_values(all, THREADS);
+        expect(kfifo_abandon_values(all, THREADS), KFIFO_DONE, "abandon");
     }
 }
 
@@ -175,7 +175,7 @@ static void too_many_threads(void) {
         expect(kfifo_close_values(all, counts[i], left, 2, &count), KFIFO_BAD_THREADS, "a close by too many handles");
         expect(count, 77, "the count of a close by too many handles");
         expect(kfifo_abandon_values(all, counts[i]), KFIFO_BAD_THREADS, "an abandon of too many handles");
-        expect(kfifo_take(&all[THREADS - 1], &value), KFIFO_GOT, "a take after calls with too many handles");
+        expect(kfifo_take(&all[THREADS - 1], &value), KFIFO_DONE, "a take after calls with too many handles");
         expect(kfifo_abandon_values(all, THREADS), KFIFO_DONE, "an abandon of 64 handles");
         expect(kfifo_give(&all[THREADS - 1], 1), KFIFO_BAD_CALL, "an abandoned handle");
     }
@@ -191,7 +191,7 @@ static void addresses(void) {
         expect(all[i][0].address == all[i][1].address, 1, "the address of a queue's handles");
         for (int j = 0; j < i; j++) expect(all[i][0].address != all[j][1].address, 1, "the addresses of two queues");
     }
-    for (int i = 0; i < QUEUES; i++) kfifo_abandon_values(all[i], 2);
+    for (int i = 0; i < QUEUES; i++) expect(kfifo_abandon_values(all[i], 2), KFIFO_DONE, "abandon");
 }
 
 static void refusals(void) {
@@ -228,12 +228,12 @@ static void refusals(void) {
     expect(kfifo_give(&one, 0), KFIFO_DONE, "value 0");
     expect(kfifo_give_pointer(&one, &value), KFIFO_DONE, "a pointer");
     expect(kfifo_give(&one, 3), KFIFO_FULL, "full");
-    expect(kfifo_take(&one, &value), KFIFO_GOT, "got");
+    expect(kfifo_take(&one, &value), KFIFO_DONE, "got");
     expect(value, 0, "the first value");
     expect(kfifo_values_room(&one, 1), 2, "room of a queue of two slots");
     expect(kfifo_values_room(&one, 0), 0, "room of none of the handles");
     expect(kfifo_take_pointer(&one, NULL), KFIFO_BAD_CALL, "no pointer");
-    expect(kfifo_take_pointer(&one, &pointer), KFIFO_GOT, "the pointer");
+    expect(kfifo_take_pointer(&one, &pointer), KFIFO_DONE, "the pointer");
     expect(pointer == &value, 1, "which pointer");
     expect(kfifo_close_values(NULL, 1, left, 2, &count), KFIFO_BAD_CALL, "no passes to close");
     expect(kfifo_close_values(&one, 1, NULL, 2, &count), KFIFO_BAD_CALL, "no values");
@@ -273,10 +273,10 @@ static void ends(void) {
     expect(kfifo_close_values(first, 1, left, 2, &count), KFIFO_BAD_CALL, "a close without one of two handles");
     expect(kfifo_close_values(mixed, 2, left, 2, &count), KFIFO_BAD_CALL, "a close by handles of two queues");
     expect(count, 77, "the count of a close by handles of two queues");
-    kfifo_abandon_values(&second[1], 1);
+    expect(kfifo_abandon_values(&second[1], 1), KFIFO_DONE, "abandon");
     expect(kfifo_close_values(second, 2, left, 2, &count), KFIFO_BAD_CALL, "a closed handle among those of a close");
     expect(kfifo_give(&second[0], 9), KFIFO_DONE, "the open one still works");
-    kfifo_abandon_values(second, 2);
+    expect(kfifo_abandon_values(second, 2), KFIFO_DONE, "abandon");
     expect(kfifo_close_values(first, 2, left, 2, &count), KFIFO_DONE, "close the first");
     expect(count, 0, "values left in the first");
     expect(kfifo_values_room(first, 2), 0, "room of a queue that was closed");

@@ -118,6 +118,25 @@ void times() {
     taker.join();
 }
 
+// Values that are copied or made in the queue, by calls that wait.
+void made_in_place() {
+    kfifo::ValueQueue<std::string> queue(1, 2, 2);
+    auto handle = queue.handle(), other = queue.handle();
+    const std::string first(100, 'a');
+    expect(handle.give_wait(first) == kfifo::Put::done && first == std::string(100, 'a'), "a copy");
+    expect(handle.emplace_for(1s, 100, 'b') == kfifo::Put::done, "a value that is made within a time");
+    expect(handle.emplace_for(1ms, 100, 'c') == kfifo::Put::timed_out, "a value that no room is for in time");
+    std::thread waits(
+        [&] { expect(handle.emplace_wait(100, 'd') == kfifo::Put::done, "a value that waits for room"); });
+    std::this_thread::sleep_for(5ms);
+    for (char letter : {'a', 'b', 'd'})
+        expect(other.take_wait().value == std::string(100, letter), "the values in their order");
+    waits.join();
+    queue.finish();
+    expect(handle.give_wait(first) == kfifo::Put::finished && handle.emplace_wait("e") == kfifo::Put::finished,
+           "gives after the end");
+}
+
 // Whether a call throws an Error with BAD_CALL.
 template <typename Call> bool refuses(Call call) {
     try {
@@ -145,15 +164,51 @@ void ends() {
         expect(first != values.end() && *(*first).number < 2, "what was given comes out before the end");
         expect(!kfifo::may_retry(kfifo::Put::finished) && !kfifo::may_retry(kfifo::Miss::finished), "an end stays");
         auto moved = std::move(handle);
-        expect(refuses([&] { handle.take_wait(); }) && refuses([&] { handle.give_wait(Parcel(1)); }),
+        expect(refuses([&] { (void)handle.take_wait(); }) && refuses([&] { (void)handle.give_wait(Parcel(1)); }),
                "a handle that was moved from");
-        expect(refuses([&] { handle.finish(); }) && refuses([&] { handle.values().begin(); }),
+        expect(refuses([&] { handle.finish(); }) && refuses([&] { (void)handle.values().begin(); }),
                "the end by a handle that was moved from");
     }
     expect(Parcel::alive == 0, "a finished queue destroys what is left");
     Parcels queue(1, 2, 1);
-    queue.close();
+    expect(queue.close().empty(), "a queue with nothing in it");
     expect(refuses([&] { queue.finish(); }), "the end of a closed queue");
+}
+
+// A producer that throws ends the consumers, and a handle that is left alone waits for nobody.
+void ends_by_itself() {
+    using Words = kfifo::ValueQueue<std::string>;
+    Words queue(1, 2, 2);
+    std::thread consumer([&, handle = queue.handle()]() mutable {
+        int read = 0;
+        for (std::string word : handle.values()) read += word == "one";
+        expect(read == 1, "what came before the exception");
+    });
+    try {
+        auto giver = queue.handle();
+        auto end = giver.finish_at_end();
+        expect(giver.give("one") == kfifo::Put::done, "a give before the exception");
+        throw std::runtime_error("the producer fails");
+    } catch (const std::runtime_error &) {
+    }
+    consumer.join();
+    std::optional<Words> gone(std::in_place, 1, 2, 2);
+    auto last = gone->handle();
+    auto other = std::make_unique<Words::Handle>(gone->handle());
+    std::atomic<bool> has_ended{false};
+    std::thread waits([&] {
+        expect(last.take_wait().why == kfifo::Miss::finished, "a take that sleeps when the others go");
+        has_ended = true;
+    });
+    std::this_thread::sleep_for(5ms);
+    gone.reset();
+    std::this_thread::sleep_for(5ms);
+    expect(!has_ended, "a take waits while another handle is left");
+    other.reset();
+    waits.join();
+    for (int i = 0; i < 2; i++) expect(last.give("word") == kfifo::Put::done, "a give by the last handle");
+    expect(last.give_wait("word") == kfifo::Put::finished, "a give that would wait for nobody");
+    expect(last.give("word") == kfifo::Put::full, "a give that does not wait");
 }
 
 } // namespace
@@ -161,6 +216,8 @@ void ends() {
 int main() {
     times();
     ends();
+    ends_by_itself();
+    made_in_place();
     for (std::size_t givers : {1, 2, 4})
         for (std::size_t takers : {1, 2, 8}) run(givers, takers);
     std::puts(failures ? "threads that wait fail in C++"

@@ -33,19 +33,22 @@ template <typename Call> bool refuses(Call call, const char *word) { return refu
 void one_thread() {
     kfifo::Queue queue(1, 2, 1);
     kfifo::Pass pass = queue.pass(0);
-    expect(!pass.dequeue(0, 4).item && pass.dequeue(0, 4).why == kfifo::Miss::empty, "a new queue is empty");
-    expect(pass.enqueue(5, 0, 4) == kfifo::Put::done, "the first item");
-    expect(pass.enqueue(6, 0, 4) == kfifo::Put::done, "the second item");
-    expect(pass.enqueue(7, 0, 4) == kfifo::Put::full, "a full ring");
-    expect(pass.dequeue(0, 4).item == 5U, "the oldest item");
-    expect((pass.word(2) & KFIFO_MAX_ITEM) == 6 && refuses([&] { pass.word(4); }, "word"), "words");
-    expect(refuses([&] { pass.enqueue(0, 0, 4); }, "item") && refuses([&] { pass.enqueue(1, 1, 4); }, "start"),
+    expect(!pass.dequeue_once(0, 4).item && pass.dequeue_once(0, 4).why == kfifo::Miss::empty, "a new queue is empty");
+    expect(pass.enqueue_once(5, 0, 4) == kfifo::Put::done, "the first item");
+    expect(pass.enqueue_once(6, 0, 4) == kfifo::Put::done, "the second item");
+    expect(pass.enqueue_once(7, 0, 4) == kfifo::Put::full, "a full ring");
+    expect(pass.dequeue_once(0, 4).item == 5U, "the oldest item");
+    expect((pass.word(2) & KFIFO_MAX_ITEM) == 6 && refuses([&] { (void)pass.word(4); }, "word"), "words");
+    expect(refuses([&] { (void)pass.enqueue_once(0, 0, 4); }, "item") &&
+               refuses([&] { (void)pass.enqueue_once(1, 1, 4); }, "start"),
            "an item and a start out of range");
-    expect(refuses([&] { pass.dequeue(0, 0); }, "turns") && refuses([&] { pass.dequeue(1, 4); }, "start"),
+    expect(refuses([&] { (void)pass.dequeue_once(0, 0); }, "turns") &&
+               refuses([&] { (void)pass.dequeue_once(1, 4); }, "start"),
            "no turns, and a start out of range");
-    expect(refuses([&] { pass.enqueue(0); }, "item") && refuses([&] { pass.enqueue(KFIFO_MAX_ITEM + 1); }, "item"),
+    expect(refuses([&] { (void)pass.enqueue(0); }, "item") &&
+               refuses([&] { (void)pass.enqueue(KFIFO_MAX_ITEM + 1); }, "item"),
            "an item out of range");
-    expect(refuses([&] { queue.pass(1); }, "thread") && refuses([&] { queue.pass(SIZE_MAX); }, "0 to 0"),
+    expect(refuses([&] { (void)queue.pass(1); }, "thread") && refuses([&] { (void)queue.pass(SIZE_MAX); }, "0 to 0"),
            "a pass that the queue has not");
     expect(pass.enqueue(8) == kfifo::Put::done && pass.enqueue(9) == kfifo::Put::full, "a put with nothing to choose");
     expect(pass.dequeue().item == 6U && pass.dequeue().item == 8U, "gets with nothing to choose");
@@ -53,11 +56,11 @@ void one_thread() {
     expect(pass.enqueue(6) == kfifo::Put::done, "an item to be left");
     kfifo::Queue moved(std::move(queue));
     expect(moved.close() == std::vector<std::uint32_t>{6}, "what is left");
-    expect(refuses([&] { moved.close(); }, "closed") && refuses([&] { pass.dequeue(0, 4); }, "closed"),
+    expect(refuses([&] { (void)moved.close(); }, "closed") && refuses([&] { (void)pass.dequeue_once(0, 4); }, "closed"),
            "a closed queue");
-    expect(refuses([&] { queue.pass(0); }, "moved") && refuses([&] { queue.close(); }, "moved"),
+    expect(refuses([&] { (void)queue.pass(0); }, "moved") && refuses([&] { (void)queue.close(); }, "moved"),
            "a queue that was moved from");
-    expect(refuses([&] { pass.word(0); }, "closed"), "a word of a closed queue");
+    expect(refuses([&] { (void)pass.word(0); }, "closed"), "a word of a closed queue");
     expect(kfifo::may_retry(kfifo::Put::full) && !kfifo::may_retry(kfifo::Put::worn), "which puts are tried again");
     expect(kfifo::may_retry(kfifo::Miss::busy) && !kfifo::may_retry(kfifo::Miss::worn), "which takes are tried again");
     expect(std::string(kfifo::text(kfifo::Put::full)) == "the ring was full", "the text of an answer");
@@ -69,11 +72,11 @@ void pass_outlives_queue() {
     kfifo::Pass pass = queue->pass(0);
     expect(pass.enqueue(7) == kfifo::Put::done, "a put while the queue is there");
     queue.reset();
-    expect(refuses([&] { pass.enqueue(7); }, "the queue is closed") &&
-               refuses([&] { pass.enqueue(0, 5, 0); }, "the queue is closed") &&
-               refuses([&] { pass.dequeue(); }, "the queue is closed") &&
-               refuses([&] { pass.dequeue(0, 1); }, "the queue is closed") &&
-               refuses([&] { pass.word(0); }, "the queue is closed"),
+    expect(refuses([&] { (void)pass.enqueue(7); }, "the queue is closed") &&
+               refuses([&] { (void)pass.enqueue_once(0, 5, 0); }, "the queue is closed") &&
+               refuses([&] { (void)pass.dequeue(); }, "the queue is closed") &&
+               refuses([&] { (void)pass.dequeue_once(0, 1); }, "the queue is closed") &&
+               refuses([&] { (void)pass.word(0); }, "the queue is closed"),
            "a pass whose queue is gone");
 }
 
@@ -100,7 +103,7 @@ void two_threads() {
     });
     kfifo::Pass pass = queue.pass(0);
     for (std::uint32_t item = 2; item <= items; item += 2)
-        while (pass.enqueue(item, item % 4, 1026) != kfifo::Put::done) std::this_thread::yield();
+        while (pass.enqueue_once(item, item % 4, 1026) != kfifo::Put::done) std::this_thread::yield();
     other.join();
     std::vector<std::uint32_t> left = queue.close(), all(items);
     for (std::uint32_t item = 1; item <= items; item++) all[item - 1] = item;

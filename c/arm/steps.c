@@ -1,7 +1,7 @@
 /* Makes the calls that its arguments name, in one thread, with a call of `boundary` before and after each, so that
    `atomics` finds in a trace of the emulator what each call executed. The first argument is k; there are two segments.
    A word is e<item>:<start>, d:<start>, p<item> and g for a put and a get, or v<value> and t for a give and a take.
-   Prints the number of each status. */
+   Prints the number of each status. These are the exports: the calls of kfifo.h look for threads that wait besides. */
 #include "kfifo.h"
 #include <stdio.h>
 #include <stdlib.h>
@@ -18,12 +18,12 @@ static kfifo_status call(kfifo_pass *pass, kfifo_value_pass *values, const char 
     unsigned long number = strtoul(word + 1, &rest, 10);
     uint32_t start = (uint32_t)strtoul(*rest ? rest + 1 : "0", NULL, 10);
     switch (*word) {
-    case 'e': return kfifo_enqueue(pass, (uint32_t)number, start, TURNS);
-    case 'd': return kfifo_dequeue(pass, &item, start, TURNS);
-    case 'p': return kfifo_put(pass, (uint32_t)number);
-    case 'g': return kfifo_get(pass, &item);
-    case 'v': return kfifo_give(values, number);
-    case 't': return kfifo_take(values, &value);
+    case 'e': return (kfifo_status)kfifo_c_enqueue(pass, (uint32_t)number, start, TURNS);
+    case 'd': return (kfifo_status)kfifo_c_dequeue(pass, &item, start, TURNS);
+    case 'p': return (kfifo_status)kfifo_c_put(pass, (uint32_t)number);
+    case 'g': return (kfifo_status)kfifo_c_get(pass, &item);
+    case 'v': return (kfifo_status)kfifo_c_give(values, number);
+    case 't': return (kfifo_status)kfifo_c_take(values, &value);
     }
     return KFIFO_BAD_CALL;
 }
@@ -40,7 +40,5 @@ int main(int count, char **words) {
         boundary();
         printf("%d\n", (int)status);
     }
-    kfifo_abandon_values(&values, 1);
-    kfifo_abandon(&pass, 1);
-    return 0;
+    return kfifo_abandon_values(&values, 1) != KFIFO_DONE || kfifo_abandon(&pass, 1) != KFIFO_DONE;
 }

@@ -60,7 +60,8 @@ impl Error for OpenError {}
 pub enum PushError<T> {
     /// The ring was seen full.
     Full(T),
-    /// The call used up its 65,535 rounds: another thread changed the queue in each of them. This is rare.
+    /// Of [`Handle::push_once`](crate::Handle::push_once) alone: the call used up its 65,535 rounds, and another thread
+    /// changed the queue in each of them. This is rare.
     Busy(T),
     /// The versions of the queue's words are used up, and there was no memory for its next generation. Have what is
     /// left by [`Queue::into_values`](crate::Queue::into_values), and open another queue.
@@ -81,6 +82,7 @@ impl<T> PushError<T> {
     /// ```
     /// assert_eq!(kfifo::PushError::Full(7).into_inner(), 7);
     /// ```
+    #[must_use]
     pub fn into_inner(self) -> T {
         match self {
             PushError::Full(value)
@@ -100,6 +102,7 @@ impl<T> PushError<T> {
     /// assert!(PushError::Full(7).may_retry());
     /// assert!(!PushError::Worn(7).may_retry());
     /// ```
+    #[must_use]
     pub fn may_retry(&self) -> bool {
         match self {
             PushError::Full(_) | PushError::Busy(_) | PushError::NoToken(_) => true,
@@ -155,7 +158,8 @@ impl<T> Error for PushError<T> {}
 pub enum PopError {
     /// The queue was empty.
     Empty,
-    /// The call used up its 65,535 rounds: another thread changed the queue in each of them. This is rare.
+    /// Of [`Handle::pop_once`](crate::Handle::pop_once) alone: the call used up its 65,535 rounds, and another thread
+    /// changed the queue in each of them. This is rare.
     Busy,
     /// The versions of the queue's words are used up, and there was no memory for its next generation. Values may be
     /// left that no pop reaches: [`Queue::into_values`](crate::Queue::into_values) gives them back.
@@ -175,6 +179,7 @@ impl PopError {
     /// assert!(PopError::Empty.may_retry());
     /// assert!(!PopError::Worn.may_retry());
     /// ```
+    #[must_use]
     pub fn may_retry(&self) -> bool {
         match self {
             PopError::Empty | PopError::Busy => true,

@@ -49,7 +49,7 @@ mod shared;
 
 pub use error::{OpenError, PopError, PushError};
 
-use shared::Shared;
+use shared::{Looks, Shared, User};
 use std::cell::Cell;
 use std::fmt::{self, Debug, Formatter};
 use std::marker::PhantomData;
@@ -131,8 +131,9 @@ impl Default for Versions {
 ///     Ok(()) // the second order is dropped with the queue
 /// }
 /// ```
+#[must_use]
 pub struct Queue<T> {
-    shared: Arc<Shared<T>>,
+    shared: User<T>,
 }
 
 impl<T> Queue<T> {
@@ -207,7 +208,7 @@ impl<T> Queue<T> {
     ) -> Result<Queue<T>, OpenError> {
         let shared = Shared::open(k, segments, handles, tokens, versions)?;
         Ok(Queue {
-            shared: Arc::new(shared),
+            shared: User::new(Arc::new(shared)),
         })
     }
 
@@ -222,10 +223,11 @@ impl<T> Queue<T> {
     /// assert!(queue.handle().is_some());
     /// # Ok::<(), kfifo::OpenError>(())
     /// ```
+    #[must_use]
     pub fn handle(&self) -> Option<Handle<T>> {
         let number = self.shared.borrow_pass()?;
         Some(Handle {
-            shared: Arc::clone(&self.shared),
+            shared: self.shared.clone(),
             number,
             not_sync: PhantomData,
         })
@@ -270,7 +272,7 @@ impl<T> Queue<T> {
     /// # Ok::<(), kfifo::OpenError>(())
     /// ```
     pub fn into_values(self) -> Result<Vec<T>, Queue<T>> {
-        match Arc::try_unwrap(self.shared) {
+        match self.shared.into_shared() {
             Ok(shared) => Ok(shared.into_values()),
             Err(shared) => Err(Queue { shared }),
         }
@@ -326,7 +328,7 @@ impl<T> Debug for Queue<T> {
 /// }
 /// ```
 pub struct Handle<T> {
-    shared: Arc<Shared<T>>,
+    shared: User<T>,
     number: usize,
     not_sync: PhantomData<Cell<()>>,
 }
@@ -354,10 +356,25 @@ impl<T> Handle<T> {
     pub fn push(&self, value: T) -> Result<(), PushError<T>> {
         // SAFETY: this handle alone has its pass, and as it is not `Sync`, no other thread is in a call by it. Nor is
         // this one: no call runs code of the caller's while it uses the pass.
-        unsafe { self.shared.push(self.number, value, None) }
+        unsafe { self.shared.push(self.number, value, Looks::UnlessBusy) }
     }
 
-    /// Puts a value, and sleeps while there is no room for it: refused is `Finished` or `Worn` alone.
+    /// As [`Handle::push`], but bounded: it makes at most 65,535 rounds in a generation, after which it is refused as
+    /// [`PushError::Busy`]. That comes only where another thread changed the queue in the meantime.
+    ///
+    /// ```
+    /// let queue = kfifo::Queue::new(4, 64, 1)?;
+    /// let handle = queue.handle().expect("a handle is free");
+    /// assert_eq!(handle.push_once(7), Ok(())); // no other thread, so it is not busy
+    /// # Ok::<(), kfifo::OpenError>(())
+    /// ```
+    pub fn push_once(&self, value: T) -> Result<(), PushError<T>> {
+        // SAFETY: as in `push`.
+        unsafe { self.shared.push(self.number, value, Looks::Once) }
+    }
+
+    /// Puts a value, and sleeps while there is no room for it: refused is `Finished` or `Worn` alone. It is `Finished` too
+    /// where neither the queue object nor another handle is left, since nobody makes room then.
     ///
     /// ```
     /// let queue = kfifo::Queue::new(1, 2, 2)?;
@@ -381,7 +398,10 @@ impl<T> Handle<T> {
     /// ```
     pub fn push_wait(&self, value: T) -> Result<(), PushError<T>> {
         // SAFETY: as in `push`.
-        unsafe { self.shared.push(self.number, value, Some(ffi::FOREVER)) }
+        unsafe {
+            self.shared
+                .push(self.number, value, Looks::Within(ffi::FOREVER))
+        }
     }
 
     /// As [`Handle::push_wait`], for so long at most: then it is refused as `TimedOut`. With no time it does not sleep.
@@ -401,7 +421,7 @@ impl<T> Handle<T> {
         // SAFETY: as in `push`.
         unsafe {
             self.shared
-                .push(self.number, value, Some(nanoseconds_of(time)))
+                .push(self.number, value, Looks::Within(nanoseconds_of(time)))
         }
     }
 
@@ -417,10 +437,24 @@ impl<T> Handle<T> {
     /// ```
     pub fn pop(&self) -> Result<T, PopError> {
         // SAFETY: as in `push`.
-        unsafe { self.shared.pop(self.number, None) }
+        unsafe { self.shared.pop(self.number, Looks::UnlessBusy) }
     }
 
-    /// Takes a value, and sleeps while there is none: an error is `Finished` or `Worn` alone.
+    /// As [`Handle::pop`], but bounded, as [`Handle::push_once`] is: also [`PopError::Busy`].
+    ///
+    /// ```
+    /// let queue = kfifo::Queue::<u64>::new(4, 64, 1)?;
+    /// let handle = queue.handle().expect("a handle is free");
+    /// assert_eq!(handle.pop_once(), Err(kfifo::PopError::Empty));
+    /// # Ok::<(), kfifo::OpenError>(())
+    /// ```
+    pub fn pop_once(&self) -> Result<T, PopError> {
+        // SAFETY: as in `push`.
+        unsafe { self.shared.pop(self.number, Looks::Once) }
+    }
+
+    /// Takes a value, and sleeps while there is none: an error is `Finished` or `Worn` alone. It is `Finished` too where
+    /// neither the queue object nor another handle is left, since nothing comes then.
     ///
     /// ```
     /// let queue = kfifo::Queue::new(4, 64, 2)?;
@@ -436,7 +470,7 @@ impl<T> Handle<T> {
     /// ```
     pub fn pop_wait(&self) -> Result<T, PopError> {
         // SAFETY: as in `push`.
-        unsafe { self.shared.pop(self.number, Some(ffi::FOREVER)) }
+        unsafe { self.shared.pop(self.number, Looks::Within(ffi::FOREVER)) }
     }
 
     /// As [`Handle::pop_wait`], for so long at most: then the error is `TimedOut`. With no time it does not sleep.
@@ -451,7 +485,10 @@ impl<T> Handle<T> {
     /// ```
     pub fn pop_timeout(&self, time: Duration) -> Result<T, PopError> {
         // SAFETY: as in `push`.
-        unsafe { self.shared.pop(self.number, Some(nanoseconds_of(time))) }
+        unsafe {
+            self.shared
+                .pop(self.number, Looks::Within(nanoseconds_of(time)))
+        }
     }
 
     /// The values that come, until the queue is finished and empty; it sleeps while there is none.
@@ -471,6 +508,24 @@ impl<T> Handle<T> {
         Values { handle: self }
     }
 
+    /// A guard that finishes the queue when it is dropped, also by a panic, so that no thread sleeps on.
+    ///
+    /// ```
+    /// let queue = kfifo::Queue::<u64>::new(4, 64, 2)?;
+    /// let producer = queue.handle().expect("a handle is free");
+    /// let failed = std::thread::spawn(move || {
+    ///     let _end = producer.finish_on_drop();
+    ///     panic!("the producer fails");
+    /// });
+    /// let consumer = queue.handle().expect("a handle is free");
+    /// assert_eq!(consumer.pop_wait(), Err(kfifo::PopError::Finished));
+    /// assert!(failed.join().is_err());
+    /// # Ok::<(), kfifo::OpenError>(())
+    /// ```
+    pub fn finish_on_drop(&self) -> FinishOnDrop<'_, T> {
+        FinishOnDrop { handle: self }
+    }
+
     /// As [`Queue::finish`].
     ///
     /// ```
@@ -482,6 +537,19 @@ impl<T> Handle<T> {
     /// ```
     pub fn finish(&self) {
         self.shared.finish();
+    }
+}
+
+/// Finishes the queue when it is dropped: [`Handle::finish_on_drop`].
+#[derive(Debug)]
+#[must_use = "the queue is finished when it is dropped"]
+pub struct FinishOnDrop<'a, T> {
+    handle: &'a Handle<T>,
+}
+
+impl<T> Drop for FinishOnDrop<'_, T> {
+    fn drop(&mut self) {
+        self.handle.finish();
     }
 }
 
@@ -500,6 +568,7 @@ fn nanoseconds_of(time: Duration) -> u64 {
 
 /// The values that come out of a queue until its end: [`Handle::values`].
 #[derive(Debug)]
+#[must_use = "it takes values only when it is asked for them"]
 pub struct Values<'a, T> {
     handle: &'a Handle<T>,
 }

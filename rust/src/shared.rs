@@ -4,9 +4,13 @@ use crate::cells::Cells;
 use crate::error::{OpenError, PopError, PushError};
 use crate::ffi;
 use std::cell::UnsafeCell;
+use std::hint::spin_loop;
 use std::mem::ManuallyDrop;
+use std::ops::Deref;
 use std::process::abort;
-use std::sync::atomic::{AtomicU64, Ordering};
+use std::ptr;
+use std::sync::Arc;
+use std::sync::atomic::{AtomicU64, AtomicUsize, Ordering};
 
 /// The passes of a queue, which are closed when they are dropped.
 struct Passes(Box<[UnsafeCell<ffi::Pass>]>);
@@ -63,6 +67,71 @@ impl Drop for Passes {
     }
 }
 
+/// The queue object, or a handle. Where one is left, its calls that wait end.
+pub(crate) struct User<T>(Arc<Shared<T>>);
+
+impl<T> User<T> {
+    pub(crate) fn new(shared: Arc<Shared<T>>) -> User<T> {
+        shared.users.fetch_add(1, Ordering::SeqCst);
+        User(shared)
+    }
+
+    /// What all users share, where this is the only one.
+    pub(crate) fn into_shared(self) -> Result<Shared<T>, User<T>> {
+        // It is not dropped: where that left one user, its calls that wait would end.
+        let this = ManuallyDrop::new(self);
+        // SAFETY: what is read stands in a `ManuallyDrop` that goes at the end of this call.
+        let shared = unsafe { ptr::read(&this.0) };
+        Arc::try_unwrap(shared).map_err(User)
+    }
+}
+
+impl<T> Clone for User<T> {
+    fn clone(&self) -> User<T> {
+        User::new(Arc::clone(&self.0))
+    }
+}
+
+impl<T> Deref for User<T> {
+    type Target = Shared<T>;
+
+    fn deref(&self) -> &Shared<T> {
+        &self.0
+    }
+}
+
+impl<T> Drop for User<T> {
+    fn drop(&mut self) {
+        // The look for threads that wait comes after the number, and their look at the number after they have announced
+        // themselves: so one of the two sees the other.
+        let left = self.users.fetch_sub(1, Ordering::SeqCst) - 1;
+        if left == 1 && self.waits.state.load(Ordering::SeqCst) > ffi::IS_FINISHED {
+            // SAFETY: the waits are this queue's.
+            unsafe { ffi::kfifo_wait_finished(&self.waits) };
+        }
+    }
+}
+
+/// How often a call looks at the queue.
+#[derive(Clone, Copy)]
+pub(crate) enum Looks {
+    /// Once: it may come to BUSY.
+    Once,
+    /// Until it is not busy.
+    UnlessBusy,
+    /// Until it comes to something, with sleep between, for so many nanoseconds at most.
+    Within(u64),
+}
+
+/// Pauses after BUSY, mostly the longer the more often it came. How long differs from handle to handle: threads that
+/// made their calls in step could keep each other busy.
+fn pause(number: usize, times: u32) {
+    let mixed = (number as u64 + u64::from(times)).wrapping_mul(0x9e37_79b9_7f4a_7c15) >> 32;
+    for _ in 0..=mixed % (16 << times.min(6)) {
+        spin_loop();
+    }
+}
+
 /// A call by a pass, from its beginning to its end.
 struct InCall<'a> {
     all: &'a AtomicU64,
@@ -95,6 +164,8 @@ pub(crate) struct Shared<T> {
     /// How many cells there are.
     count: usize,
     waits: ffi::Waits,
+    /// The queue object and the handles that somebody has.
+    users: AtomicUsize,
 }
 
 // SAFETY: `T` may go to another thread, and so may the passes: the library ties none to a thread.
@@ -122,6 +193,7 @@ impl<T> Shared<T> {
             cells: Cells::new(handles, tokens).ok_or(OpenError::OutOfMemory)?,
             count: handles * tokens as usize,
             waits: ffi::Waits::open(),
+            users: AtomicUsize::new(0),
         })
     }
 
@@ -174,6 +246,16 @@ impl<T> Shared<T> {
             .fetch_or(ffi::IS_FINISHED, Ordering::SeqCst);
         // SAFETY: the waits are this queue's.
         unsafe { ffi::kfifo_wait_finished(&self.waits) };
+    }
+
+    /// Whether one user is left, so that nobody will push to it or pop from it.
+    fn is_alone(&self) -> bool {
+        self.users.load(Ordering::SeqCst) == 1
+    }
+
+    /// Whether a call that came to this cannot do better, since its handle is alone.
+    fn is_over(&self, status: u32) -> bool {
+        matches!(status, ffi::FULL | ffi::EMPTY | ffi::NO_TOKEN) && self.is_alone()
     }
 
     fn is_finished(&self) -> bool {
@@ -287,28 +369,47 @@ impl<T> Shared<T> {
         value
     }
 
-    /// Makes a call again until it comes to something or the time is up; without a time it does not. `status` is what
-    /// the call came to first.
+    /// Makes a call again as often as it may look. `status` is what the call came to first.
     #[cold]
-    fn wait(
+    fn again(
         &self,
+        number: usize,
         kind: u32,
-        nanoseconds: Option<u64>,
+        looks: Looks,
         mut status: u32,
         mut call: impl FnMut() -> u32,
     ) -> u32 {
-        let Some(nanoseconds) = nanoseconds else {
-            return status;
+        let nanoseconds = match looks {
+            Looks::Once => return status,
+            Looks::Within(nanoseconds) => nanoseconds,
+            Looks::UnlessBusy => {
+                let mut times = 0;
+                while status == ffi::BUSY {
+                    pause(number, times);
+                    times += 1;
+                    status = call();
+                }
+                return status;
+            }
         };
         let mut waiter = ffi::Waiter::new(&self.waits, kind, nanoseconds);
-        // SAFETY: the waiter is of this queue's waits, and one waiter is used for one call.
-        while unsafe { ffi::kfifo_wait_again(&mut waiter, &mut status) } != 0 {
+        loop {
+            if self.is_over(status) {
+                // Something may have come before the others went.
+                status = call();
+                if self.is_over(status) {
+                    status = ffi::FINISHED;
+                }
+            }
+            // SAFETY: the waiter is of this queue's waits, and one waiter is used for one call.
+            if unsafe { ffi::kfifo_wait_again(&mut waiter, &mut status) } == 0 {
+                return status;
+            }
             status = call();
         }
-        status
     }
 
-    /// Puts a value, and waits so long for room; with no time it looks once and does not sleep.
+    /// Puts a value, and looks for room so often.
     ///
     /// # Safety
     ///
@@ -317,7 +418,7 @@ impl<T> Shared<T> {
         &self,
         number: usize,
         value: T,
-        nanoseconds: Option<u64>,
+        looks: Looks,
     ) -> Result<(), PushError<T>> {
         let _call = self.enter(number, "a push");
         let value = ManuallyDrop::new(value);
@@ -326,7 +427,7 @@ impl<T> Shared<T> {
         let give = || unsafe { self.give(number, &value) };
         let mut status = give();
         if status != ffi::DONE {
-            status = self.wait(ffi::GIVER, nanoseconds, status, give);
+            status = self.again(number, ffi::GIVER, looks, status, give);
         }
         if status == ffi::DONE {
             return Ok(());
@@ -345,23 +446,19 @@ impl<T> Shared<T> {
         })
     }
 
-    /// Takes a value, and waits so long for one; with no time it looks once and does not sleep.
+    /// Takes a value, and looks for one so often.
     ///
     /// # Safety
     ///
     /// No other call uses the pass at the same time.
-    pub(crate) unsafe fn pop(
-        &self,
-        number: usize,
-        nanoseconds: Option<u64>,
-    ) -> Result<T, PopError> {
+    pub(crate) unsafe fn pop(&self, number: usize, looks: Looks) -> Result<T, PopError> {
         let _call = self.enter(number, "a pop");
         let mut cell = 0;
         // SAFETY: as in `push`. GOT ends the calls.
         let mut receive = || unsafe { self.receive(number, &mut cell) };
         let mut status = receive();
         if status != ffi::GOT {
-            status = self.wait(ffi::TAKER, nanoseconds, status, receive);
+            status = self.again(number, ffi::TAKER, looks, status, receive);
         }
         match status {
             // SAFETY: the cell has just been received.
@@ -382,7 +479,7 @@ impl<T> Shared<T> {
         let mut values = Vec::new();
         let end = loop {
             // SAFETY: `self` is no reference: nobody else makes a call.
-            match unsafe { self.pop(0, None) } {
+            match unsafe { self.pop(0, Looks::UnlessBusy) } {
                 Ok(value) => values.push(value),
                 Err(end) => break end,
             }
@@ -422,6 +519,10 @@ impl<T> Shared<T> {
         cells
     }
 }
+
+#[cfg(test)]
+#[path = "../tests/unit/busy.rs"]
+mod busy;
 
 #[cfg(all(test, debug_assertions))]
 #[path = "../tests/unit/misuse.rs"]

@@ -141,3 +141,24 @@ fn a_queue_is_finished_in_the_middle() {
         assert_eq!(pushed, popped + left);
     }
 }
+
+#[test]
+fn a_handle_that_is_left_alone_waits_for_nobody() {
+    let queue = Queue::new(1, 2, 2).expect("the sizes are in range");
+    let last = queue.handle().expect("a handle is free");
+    let other = queue.handle().expect("a handle is free");
+    let waits = std::thread::spawn(move || {
+        let end = last.pop_wait();
+        (last, end)
+    });
+    std::thread::sleep(Duration::from_millis(5));
+    drop(queue);
+    std::thread::sleep(Duration::from_millis(5));
+    assert!(!waits.is_finished());
+    drop(other);
+    let (last, end) = waits.join().expect("no panic");
+    assert_eq!(end, Err(PopError::Finished));
+    assert_eq!((last.push(1), last.push(2)), (Ok(()), Ok(())));
+    assert_eq!(last.push_wait(3), Err(PushError::Finished(3)));
+    assert_eq!(last.push(3), Err(PushError::Full(3)));
+}

@@ -1,5 +1,5 @@
 //! Handles that `unsafe` code shares or copies: a debug build says so and ends the program.
-use super::{Shared, ffi};
+use super::{Looks, Shared, ffi};
 use crate::Versions;
 use std::env;
 use std::process::Command;
@@ -19,15 +19,15 @@ fn misuse(case: &str) {
     }
     thread::scope(|scope| {
         // SAFETY: this is what `pop` asks not to do. The process ends before two calls change the pass: the one sleeps.
-        scope.spawn(|| unsafe { shared.pop(number, Some(ffi::FOREVER)) });
+        scope.spawn(|| unsafe { shared.pop(number, Looks::Within(ffi::FOREVER)) });
         while shared.waits.state.load(Ordering::SeqCst) < ffi::TAKER {
             thread::yield_now();
         }
         match case {
             // SAFETY: as above.
-            "pushed" => drop(unsafe { shared.push(number, 7, None) }),
+            "pushed" => drop(unsafe { shared.push(number, 7, Looks::UnlessBusy) }),
             // SAFETY: as above.
-            "popped" => drop(unsafe { shared.pop(number, None) }),
+            "popped" => drop(unsafe { shared.pop(number, Looks::UnlessBusy) }),
             "dropped" => shared.return_pass(number),
             _ => shared.finish(),
         }

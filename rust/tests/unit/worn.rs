@@ -1,6 +1,6 @@
 //! Queues that do not renew themselves, and whose versions are soon used up: each value still comes out or back once,
 //! and is dropped once.
-use super::Shared;
+use super::{Looks, Shared};
 use crate::Versions;
 use crate::error::{PopError, PushError};
 use crate::ffi;
@@ -31,13 +31,13 @@ impl Worn {
         // SAFETY: one thread makes all calls.
         unsafe {
             self.shared
-                .push(pass, (number, Rc::clone(&self.alive)), None)
+                .push(pass, (number, Rc::clone(&self.alive)), Looks::UnlessBusy)
         }
     }
 
     fn pop(&self, pass: usize) -> Result<u64, PopError> {
         // SAFETY: as in `push`.
-        unsafe { self.shared.pop(pass, None) }.map(|value| value.0)
+        unsafe { self.shared.pop(pass, Looks::UnlessBusy) }.map(|value| value.0)
     }
 
     fn alive(&self) -> usize {
@@ -109,7 +109,7 @@ fn takes_that_wait_end() {
         let mut taken = Vec::new();
         while worn.alive() > 0 {
             // SAFETY: one thread makes all calls.
-            match unsafe { worn.shared.pop(0, Some(ffi::FOREVER)) } {
+            match unsafe { worn.shared.pop(0, Looks::Within(ffi::FOREVER)) } {
                 Ok(value) => taken.push(value.0),
                 Err(end) => {
                     assert_eq!(end, PopError::Worn);

@@ -1,0 +1,75 @@
+/* BUSY is not the user's: a call that comes to it is made again after a pause, and only the bounded calls, whose names
+   end in _once, return it. The exports are wrapped by such as come to BUSY as often as they are told to. */
+#include "kfifo_wait.h"
+#include <stdio.h>
+
+enum { TIMES = 20 };
+
+static uint32_t left, calls; /* how often a call still comes to BUSY, and how many were made */
+static int failed;
+
+static void expect(uint32_t is, uint32_t wanted, const char *what) {
+    if (is == wanted) return;
+    fprintf(stderr, "%s: %u, and not %u\n", what, (unsigned)is, (unsigned)wanted);
+    failed = 1;
+}
+
+/* An export of the library, and the one that stands in its place. */
+#define WRAPPED(name, parameters, arguments)                                                                           \
+    uint32_t __real_##name parameters;                                                                                 \
+    uint32_t __wrap_##name parameters;                                                                                 \
+    uint32_t __wrap_##name parameters {                                                                                \
+        calls++;                                                                                                       \
+        if (left == 0) return __real_##name arguments;                                                                 \
+        left--;                                                                                                        \
+        return KFIFO_BUSY;                                                                                             \
+    }
+WRAPPED(kfifo_c_put, (kfifo_pass * pass, uint32_t item), (pass, item))
+WRAPPED(kfifo_c_get, (kfifo_pass * pass, uint32_t *item), (pass, item))
+WRAPPED(kfifo_c_give, (kfifo_value_pass * pass, uint64_t value), (pass, value))
+WRAPPED(kfifo_c_take, (kfifo_value_pass * pass, uint64_t *value), (pass, value))
+WRAPPED(kfifo_c_publish, (kfifo_cell_pass * pass), (pass))
+WRAPPED(kfifo_c_receive, (kfifo_cell_pass * pass, uint64_t *cell), (pass, cell))
+
+static kfifo_pass items;
+static kfifo_value_pass values;
+static kfifo_cell_pass cells;
+static uint32_t item;
+static uint64_t value;
+
+/* A bounded call returns BUSY after one look, and the call without a bound looks until it is not busy. */
+#define LOOKS(bounded, call, arguments)                                                                                \
+    left = TIMES, calls = 0;                                                                                           \
+    expect(bounded arguments, KFIFO_BUSY, #bounded);                                                                   \
+    expect(calls, 1, "the looks of " #bounded);                                                                        \
+    left = TIMES, calls = 0;                                                                                           \
+    expect(call arguments, KFIFO_DONE, #call);                                                                         \
+    expect(calls, TIMES + 1, "the looks of " #call)
+
+int main(void) {
+    if (kfifo_open(1, 4, 1, KFIFO_LAST, &items, 1) != KFIFO_DONE) return 1;
+    if (kfifo_open_values(1, 4, 9, &values, 1) != KFIFO_DONE) return 1;
+    if (kfifo_open_cells(1, 4, 9, &cells, 1) != KFIFO_DONE) return 1;
+    LOOKS(kfifo_put_once, kfifo_put, (&items, 7));
+    LOOKS(kfifo_get_once, kfifo_get, (&items, &item));
+    expect(item, 7, "the item");
+    LOOKS(kfifo_give_once, kfifo_give, (&values, 8));
+    LOOKS(kfifo_take_once, kfifo_take, (&values, &value));
+    expect((uint32_t)value, 8, "the value");
+    expect(kfifo_reserve(&cells, &value), KFIFO_DONE, "a cell");
+    LOOKS(kfifo_publish_once, kfifo_publish, (&cells));
+    LOOKS(kfifo_receive_once, kfifo_receive, (&cells, &value));
+    /* A call with a time gives up in time, and one without looks again. */
+    left = UINT32_MAX;
+    expect(kfifo_give_wait(&values, 9, 1000000), KFIFO_TIMED_OUT, "a give that is busy until its time is up");
+    left = TIMES;
+    expect(kfifo_give_wait(&values, 9, KFIFO_FOREVER), KFIFO_DONE, "a give that waits");
+    left = TIMES;
+    expect(kfifo_take_wait(&values, &value, KFIFO_FOREVER), KFIFO_DONE, "a take that waits");
+    expect((uint32_t)value, 9, "the value that was waited for");
+    expect(kfifo_abandon(&items, 1), KFIFO_DONE, "abandon the items");
+    expect(kfifo_abandon_values(&values, 1), KFIFO_DONE, "abandon the values");
+    expect(kfifo_abandon_cells(&cells, 1), KFIFO_DONE, "abandon the cells");
+    puts(failed ? "calls that are busy fail" : "a call that is busy is made again, and a bounded call says so");
+    return failed;
+}
