@@ -61,10 +61,9 @@ Exit statuses:
 
 Statuses of the library for C:
   KFIFO_DONE                  the item or the value is in the queue, or was
-                              already taken
+                              already taken; of a take: one was taken
   KFIFO_FULL                  the ring was full: the item or the value is not in
                               the queue
-  KFIFO_GOT                   an item or a value was taken
   KFIFO_EMPTY                 the queue was empty
   KFIFO_BUSY                  each round of the call was lost to other threads:
                               nothing was put or taken

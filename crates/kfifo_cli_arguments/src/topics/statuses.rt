@@ -64,14 +64,6 @@ To do: take something and put it again, or open a queue with more segments.
 ",
     },
     Topic {
-        words: "KFIFO_GOT",
-        help: Help::Explain,
-        line: "  KFIFO_GOT ",
-        advice: "\
-To do: nothing.
-",
-    },
-    Topic {
         words: "KFIFO_EMPTY",
         help: Help::Explain,
         line: "  KFIFO_EMPTY ",
