@@ -10,4 +10,6 @@ mod plain;
 #[cfg(test)]
 mod rounds;
 #[cfg(test)]
+mod seals;
+#[cfg(test)]
 mod sizes;

@@ -61,14 +61,15 @@ fn refuse_what_is_out_of_range(rt: HostRuntime) -> Result<(), Fail> {
 /// A queue opens with the sizes, and has as many tokens as they say.
 #[test]
 fn open_a_queue(rt: HostRuntime) -> Result<(), Fail> {
-    let sizes = Sizes::for_capacity(16, 100, 3, MAX_VERSION)?;
+    let alloc = rt.alloc();
+    let sizes = Sizes::for_capacity(16, 1_024, 4, MAX_VERSION)?; // k, capacity, threads, greatest version
     let (queue, passes, tokens) = TokenQueue::open(
-        rt.alloc(),
+        alloc,
         sizes.shape,
         sizes.threads,
         sizes.tokens,
     )?;
-    assert_eq!(rt; (passes.len(), tokens.len()), (3, 198));
-    assert_eq!(rt; (queue.shape().n(), queue.is_bare()), (25, true));
+    assert_eq!(rt; (passes.len(), tokens.len()), (4, 1_152));
+    assert_eq!(rt; (queue.shape().n(), queue.is_bare()), (144, true));
     Ok(())
 }
