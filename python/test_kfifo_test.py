@@ -310,7 +310,8 @@ class RightQueues(Checks):
 class Hangs(Checks):
     def test_a_call_that_spins_is_named_and_ended(self):
         def spin(shared):
-            while shared.empty():
+            # Without the queue's lock: a thread that is ended while it takes the lock may leave it locked for another.
+            while not shared.queue:
                 pass
             return shared.get_nowait()
 
