@@ -140,9 +140,9 @@ impl<T> Queue<T> {
     /// Opens a queue of `segments` segments, 2 to 1,024, of k slots, 1 to 64, with `handles` handles, 1 to 64.
     ///
     /// Each handle has a token for each slot, one more, and 15 for each other handle, which may keep 15 between its
-    /// calls: so a push finds one until the queue is full. Where that would be more than [`MAX_TOKENS`], each handle has
-    /// 1,024, and a push may be refused as [`PushError::NoToken`] with `1,024 - 15 * (handles - 1)` values of its handle
-    /// in the queue.
+    /// calls: so a push finds one until the queue is full. Where that would be more than [`MAX_TOKENS`], each handle
+    /// has 1,024, and a push may be refused as [`PushError::NoToken`] with `1,024 - 15 * (handles - 1)` values of its
+    /// handle in the queue.
     ///
     /// ```
     /// let queue = kfifo::Queue::<u64>::new(4, 256, 8)?;
@@ -373,8 +373,8 @@ impl<T> Handle<T> {
         unsafe { self.shared.push(self.number, value, Looks::Once) }
     }
 
-    /// Puts a value, and sleeps while there is no room for it: refused is `Finished` or `Worn` alone. It is `Finished` too
-    /// where neither the queue object nor another handle is left, since nobody makes room then.
+    /// Puts a value, and sleeps while there is no room for it: refused is `Finished` or `Worn` alone. It is `Finished`
+    /// too where neither the queue object nor another handle is left, since nobody makes room then.
     ///
     /// ```
     /// let queue = kfifo::Queue::new(1, 2, 2)?;
@@ -453,8 +453,8 @@ impl<T> Handle<T> {
         unsafe { self.shared.pop(self.number, Looks::Once) }
     }
 
-    /// Takes a value, and sleeps while there is none: an error is `Finished` or `Worn` alone. It is `Finished` too where
-    /// neither the queue object nor another handle is left, since nothing comes then.
+    /// Takes a value, and sleeps while there is none: an error is `Finished` or `Worn` alone. It is `Finished` too
+    /// where neither the queue object nor another handle is left, since nothing comes then.
     ///
     /// ```
     /// let queue = kfifo::Queue::new(4, 64, 2)?;
