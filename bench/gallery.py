@@ -12,6 +12,7 @@ It needs what bench/run.py needs, and kfifo: PATH is crates/kfifo/out/kfifo wher
 """
 import argparse
 import dataclasses
+import json
 import os
 import pathlib
 import re
@@ -29,28 +30,33 @@ THREADS, TURNS = 4, 8000
 # How many items come before the threads begin, in a queue that is k-relaxed: among few items none can be passed over.
 BEFORE = 512
 LEGAL = r"legal for k = \d+\nworst rank \d+\ncalls \d+, items left \d+\n"
-OVERTAKEN = r"no order for k = 1\ncall \d+ got item \d+, while 1 older item was there: calls \d+\n(?s:.*)"
-TOO_EARLY = r"no order for k = 1\ncall \d+ found nothing, while there were items: calls (?s:.*)"
+# The evidence against the wrong queues: its kind and its headline, by the log of the calls that it names.
+HEADLINES = HERE.parent / "c/checker/gallery/headlines.csv"
 PLAIN = r"k at least 1\nk at most 1\n"
 
 
 @dataclasses.dataclass
 class Entry:
-    """A queue of the gallery: its words for log_queue, and its verdict."""
+    """A queue of the gallery: its words for log_queue, and its verdict; of a wrong one, its log in HEADLINES."""
 
     name: str
     title: str
     k: int = 0
     before: int = 0
     judged: int = 1
-    verdict: str = LEGAL
     least: str = PLAIN
     luck: bool = False
+    fault: str = ""
 
 
 def relaxed(name, title, k):
     """A k-relaxed queue, with items in it from the beginning. The bounds meet at its k."""
-    return Entry(name, title, k, BEFORE, k, LEGAL, f"k at least {k}\nk at most {k}\n", luck=True)
+    return Entry(name, title, k, BEFORE, k, f"k at least {k}\nk at most {k}\n", luck=True)
+
+
+def faulty(name, title, fault):
+    """A queue in whose log there is this fault, sooner or later."""
+    return Entry(name, title, least="", luck=True, fault=fault)
 
 
 ENTRIES = [
@@ -67,8 +73,8 @@ ENTRIES = [
     relaxed("kfifo", "this repository's queue, k = 4", 4),
     relaxed("kfifo", "this repository's queue, k = 16", 16),
     relaxed("kfifo", "this repository's queue, k = 64", 64),
-    Entry("moodycamel", "moodycamel's `ConcurrentQueue`", verdict=OVERTAKEN, least="", luck=True),
-    Entry("paused-ring", "a ring in Vyukov's manner, with pauses", verdict=TOO_EARLY, least="", luck=True),
+    faulty("moodycamel", "moodycamel's `ConcurrentQueue`", "concurrent_queue.csv"),
+    faulty("paused-ring", "a ring in Vyukov's manner, with pauses", "paused_ring.csv"),
 ]
 
 
@@ -105,10 +111,20 @@ def log_of(command, log):
         subprocess.run([str(it) for it in command], stdout=written, check=True, timeout=120)
 
 
+def has_fault(program, fault, log):
+    """Whether the evidence on a log is of the kind of this fault and has its headline, with other items."""
+    rows = [line.split(",", 2) for line in HEADLINES.read_text().splitlines()]
+    kind, headline = next(row[1:] for row in rows if row[0] == fault)
+    evidence = json.loads(kfifo(program, ["judge", "--json"], log)[0])["evidence"] or {}
+    wanted = re.sub(r"\d+", r"\\d+", re.escape(headline))
+    return str(evidence.get("kind")) == kind and bool(re.fullmatch(wanted, evidence["headline"]))
+
+
 def differs(program, entry, log):
     """What is wrong with the verdict on a log, or None; and the line of the table."""
     said, _, seconds = kfifo(program, ["judge", "-k", str(entry.judged)], log)
-    if not re.fullmatch(entry.verdict, said):
+    is_wanted = has_fault(program, entry.fault, log) if entry.fault else re.fullmatch(LEGAL, said)
+    if not is_wanted:
         return f"judge prints {said!r}", ""
     told = said.splitlines()[:2]
     if entry.least:
@@ -129,7 +145,7 @@ def tried(program, entry, out, runs):
         wrong, row = differs(program, entry, log)
         if wrong is None:
             print(row, flush=True)
-            if entry.verdict != LEGAL:
+            if entry.fault:
                 draw(program, ["--around", "2"], log, out / f"{name}.svg")
             elif entry.k > 1:
                 draw(program, ["--around", "0", "-k", str(entry.k - 1)], log, out / f"{name}.svg")

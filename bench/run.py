@@ -8,7 +8,8 @@ threads that share one queue of vertices find a spanning tree of a random graph.
 64 bytes, and this repository's queues with calls that look for threads that wait, beside the plain ones. Where a row
 has work between calls, the work is the same function for each queue; the rows of one thread that only works show that
 it takes as long in the loop of each. A column says what order a queue keeps; one with no order across producers has a
-mark. Last come tables of their own: of calls that wait, and of how long a hand-over to a thread that sleeps takes.
+mark. Last come tables of their own: of calls that wait, of how long a value is in the queue, and of how long a
+hand-over to a thread that sleeps takes.
 page.md has the tables of docs/PERFORMANCE.md and docs/bench/costs.md.
 
     bench/run.py [--rounds N] [--milliseconds M] [--only WORD] [--out FOLDER] [--library FILE]
@@ -30,7 +31,7 @@ import textwrap
 
 HERE = os.path.dirname(os.path.abspath(__file__))
 OUT = f"{HERE}/out"
-PROGRAMS = ["rates", "spanning_tree", "waiting", "waking"]
+PROGRAMS = ["rates", "spanning_tree", "waiting", "time_in_queue", "waking"]
 # name, producers, consumers, threads that do both in turn
 CALLS = [
     ("one thread", 0, 0, 1),
@@ -94,6 +95,14 @@ WAITING = [
 ]
 WAITERS = {("channel", 0): "crossbeam-channel", ("tbb", 0): "TBB bounded", ("mutex", 0): "mutex and deque"}
 WAITERS |= {("kfifo", k): f"kfifo, k = {k}" for k in (16, 64)}
+# How long values are in the queue: the threads, the percents of the time that takers are busy, and the nanoseconds of
+# work on a value.
+IN_QUEUE_TITLE = "time in the queue"
+IN_QUEUE = [("2 producers, 2 consumers", 2, 2, 0), ("4 alternating threads", 0, 0, 4)]
+LOADS, WORK_ON_A_VALUE = [50, 90], 1000
+IN_QUEUE_OF = {("kfifo", k): f"kfifo, k = {k}" for k in (1, 4, 16, 64)}
+IN_QUEUE_OF |= {("array", 0): "ArrayQueue", ("channel", 0): "crossbeam-channel", ("moodycamel", 0): NAMES["moodycamel"]}
+QUANTILES = ["median", "99th percentile", "99.9th percentile"]
 # Hand-overs to a thread that sleeps: how many in a round, and the microseconds between two.
 WAKING_TITLE = "waking a thread that sleeps"
 HAND_OVERS, REST = 2000, 100
@@ -352,6 +361,64 @@ def waiting_overview(rows):
     return "\n".join(lines) + "\n"
 
 
+def in_queue(rounds, milliseconds):
+    """How long values are in each queue: for each workload the medians over the rounds of the quantiles, by queue."""
+    rows = {}
+    for name, *threads in IN_QUEUE:
+        for load in LOADS:
+            words = [VALUES_CAPACITY, *threads, load, WORK_ON_A_VALUE, milliseconds]
+            runs = {it: [] for it in IN_QUEUE_OF}
+            for queue in in_turn(list(IN_QUEUE_OF), rounds):
+                runs[queue].append(timed_in(queue, words))
+            medians = {it: [statistics.median(column) for column in zip(*run)] for it, run in runs.items()}
+            rows[f"{name}, {load} % load"] = medians
+    return rows
+
+
+def timed_in(queue, words):
+    """The quantiles of the nanoseconds that values were in the queue, and the values a second, of one run."""
+    ran = subprocess.run([str(it) for it in [f"{OUT}/time_in_queue", *queue, *words]], capture_output=True, text=True)
+    if ran.returncode:
+        sys.exit(f"{IN_QUEUE_OF[queue]}, {words}: {ran.stdout or ran.stderr}")
+    return [float(it) for it in ran.stdout.split()]
+
+
+def in_queue_tables(rows):
+    """A table for each workload."""
+    for title, medians in rows.items():
+        lines = [f"### {IN_QUEUE_TITLE}: {title}", ""]
+        lines.append("| Queue | " + " | ".join(f"{it}, ns" for it in QUANTILES) + " | Thousand values a second |")
+        lines.append("|---|---|---|---|---|")
+        for queue, (*times, speed) in medians.items():
+            figures = " | ".join(f"{it:,.0f}" for it in times)
+            lines.append(f"| {IN_QUEUE_OF[queue]} | {figures} | {speed / 1000:,.0f} |")
+        yield "\n".join(lines) + "\n"
+
+
+def draw_in_queue(rows, folder):
+    """Draws the quantiles of each queue, a part of the picture for each workload."""
+    from matplotlib import pyplot
+
+    pyplot.rcParams["svg.hashsalt"] = "kfifo"
+    figure, parts = pyplot.subplots(2, 2, figsize=(9, 6), layout="constrained", sharex=True, sharey=True)
+    names = [textwrap.fill(it.replace(" †", ""), 10) for it in IN_QUEUE_OF.values()]
+    for axes, (title, medians) in zip(parts.flat, rows.items()):
+        places = range(len(names))
+        for quantile, name, mark in zip(range(len(QUANTILES)), QUANTILES, "osv"):
+            axes.plot(places, [it[quantile] for it in medians.values()], mark, color=LOOKS[0][0], label=name, ms=5)
+        for place, times in zip(places, medians.values()):
+            axes.plot([place] * 2, [times[0], times[2]], color=LOOKS[1][0], linewidth=0.8)
+        axes.set_yscale("log")
+        axes.set_title(title, fontsize=9)
+        axes.set_xticks(places, names, fontsize=8)
+        axes.grid(axis="y", linewidth=0.3)
+    for axes in parts[:, 0]:
+        axes.set_ylabel("nanoseconds in the queue", fontsize=8)
+    parts[0, 0].legend(fontsize=8, loc="upper left")
+    figure.savefig(f"{folder}/time_in_queue.svg", metadata={"Date": None})
+    pyplot.close(figure)
+
+
 def waking(rounds):
     """The table of hand-overs to a thread that sleeps."""
     words = [f"{OUT}/waking", str(HAND_OVERS), str(REST), str(rounds)]
@@ -435,6 +502,16 @@ def measure_all(words):
     return all_rates
 
 
+def times(words):
+    """Yields the tables of times: of values in the queue, with their picture, and of hand-overs."""
+    if words.only in IN_QUEUE_TITLE:
+        rows = in_queue(words.rounds, words.milliseconds)
+        yield from in_queue_tables(rows)
+        draw_in_queue(rows, words.out)
+    if words.only in WAKING_TITLE:
+        yield waking(words.rounds)
+
+
 def main():
     words = options()
     if not words.built:
@@ -447,12 +524,8 @@ def main():
     print(about)
     all_rates = measure_all(words)
     print(overview(all_rates))
-    tables = [MARK, *(table(title, rates) for title, rates in all_rates.items())]
     waited = waiting(words.rounds, words.milliseconds) if words.only in WAITING_TITLE else []
-    tables += waited
-    if words.only in WAKING_TITLE:
-        tables.append(waking(words.rounds))
-        print(tables[-1])
+    tables = [MARK, *(table(title, rates) for title, rates in all_rates.items()), *waited, *times(words)]
     for name, parts in [("table", [about, overview(all_rates), *tables]), ("page", [page(all_rates), *waited[:1]])]:
         with open(f"{words.out}/{name}.md", "w") as written:
             written.write("\n".join(parts))

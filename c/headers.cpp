@@ -4,7 +4,9 @@
 
 #include <chrono>
 #include <functional>
+#include <list>
 #include <string>
+#include <vector>
 
 // A value that is copied into and out of the queue, since its moves may throw.
 struct Copied {
@@ -14,6 +16,12 @@ struct Copied {
 
 template class kfifo::ValueQueue<std::string>;
 template class kfifo::ValueQueue<Copied>;
+
+// A value with a handle of a queue of such values.
+struct Request {
+    int question;
+    std::optional<kfifo::ValueHandle<Request>> answers;
+};
 
 int main() {
     kfifo::Queue items(1, 2, 1);
@@ -29,5 +37,17 @@ int main() {
     is_done = is_done && handle.give_wait(copied) == kfifo::Put::done && handle.take().value == "c";
     is_done = is_done && handle.emplace_wait(2U, 'd') == kfifo::Put::done && handle.take().value == "dd";
     is_done = is_done && handle.emplace_for(std::chrono::milliseconds(1), 2U, 'e') == kfifo::Put::done;
+    is_done = is_done && handle.take().value == "ee";
+    std::vector<std::uint32_t> numbers{1};
+    std::list<std::uint32_t> more;
+    is_done = is_done && pass.enqueue_all(numbers).given == 1 && pass.dequeue_up_to(2, more).taken == 1;
+    is_done =
+        is_done && pass.enqueue_all(more.begin(), more.end()).given == 1 && pass.dequeue_up_to(2).items == numbers;
+    std::vector<std::string> words{"f"};
+    is_done = is_done && handle.give_all(words).given == 1 && handle.take_up_to(2, words).taken == 1;
+    is_done = is_done && handle.give_all(kfifo::moving(words)).given == 2 && handle.take_up_to(2).values.size() == 2;
+    auto opened = kfifo::ValueQueue<Request>::try_open(1, 2, 1);
+    is_done = is_done && opened.queue && kfifo::Queue::try_open(0, 2, 1).status == KFIFO_BAD_K;
+    is_done = is_done && opened.queue->handle().emplace(Request{1, std::nullopt}) == kfifo::Put::done;
     return is_done && KFIFO_MAX_THREADS == 64 ? 0 : 1;
 }

@@ -446,11 +446,18 @@ static inline void kfifo_zero(void *passes, size_t size, size_t threads) {
     memset(passes, 0, size * (threads < KFIFO_MAX_THREADS ? threads : KFIFO_MAX_THREADS));
 }
 
-/* ---- A queue of items, which are numbers from 1 to KFIFO_MAX_ITEM ---- */
+/* ---- A queue of items, which are numbers from 1 to KFIFO_MAX_ITEM ----
+
+   A put or a get takes a few atomic steps, and none of them waits or asks for memory: docs/PERFORMANCE.md says how long
+   they take. An opening asks for all memory, and a close and an abandon give it back. */
 
 /* Opens a queue of `segments` segments of k slots, and writes a handle for each thread into the array `passes`, whose
    old contents are lost. DONE; BAD_CALL of a null pointer; BAD_K, BAD_SEGMENTS, BAD_LAST, BAD_PROBES, BAD_THREADS,
-   NO_MEMORY, and all handles are then closed, at most the first 64. */
+   NO_MEMORY, and all handles are then closed, at most the first 64.
+
+       kfifo_pass passes[2];
+       if (kfifo_open(1, 4, 1, KFIFO_LAST, passes, 2) != KFIFO_DONE) return 1;
+*/
 KFIFO_MUST_USE static inline kfifo_status kfifo_open(uint32_t k, uint32_t segments, uint32_t probes, uint64_t last,
                                                      kfifo_pass *passes, size_t threads) {
     if (!passes) return KFIFO_BAD_CALL;
@@ -502,7 +509,10 @@ static inline kfifo_status kfifo_bare_dequeue(kfifo_pass *pass, uint32_t *item, 
 }
 
 /* As kfifo_put, but bounded: at most 65,535 rounds, after which it returns BUSY. That comes only where another thread
-   changed the queue in the meantime. */
+   changed the queue in the meantime.
+
+       if (kfifo_put_once(&passes[0], 8) == KFIFO_BUSY) puts("the item is not put, and a later call may do better");
+*/
 KFIFO_MUST_USE static inline kfifo_status kfifo_put_once(kfifo_pass *pass, uint32_t item) {
     if (!pass || !KFIFO_WAITS(pass)) return KFIFO_BAD_CALL;
     KFIFO_LOOKING_GIVE(pass, kfifo_bad_call_text(pass, item, 0, 1) ? KFIFO_BAD_CALL : KFIFO_FINISHED,
@@ -518,7 +528,10 @@ KFIFO_MUST_USE static inline kfifo_status kfifo_put(kfifo_pass *pass, uint32_t i
     KFIFO_UNLESS_BUSY(pass, kfifo_put_once(pass, item));
 }
 
-/* As kfifo_get, but bounded, as kfifo_put_once is: also BUSY. */
+/* As kfifo_get, but bounded, as kfifo_put_once is: also BUSY.
+
+       if (kfifo_get_once(&passes[1], &item) == KFIFO_BUSY) puts("no item is got, and a later call may do better");
+*/
 KFIFO_MUST_USE static inline kfifo_status kfifo_get_once(kfifo_pass *pass, uint32_t *item) {
     if (!pass || !item || !KFIFO_WAITS(pass)) return KFIFO_BAD_CALL;
     KFIFO_LOOKING_TAKE(pass, kfifo_bare_get(pass, item));
@@ -535,7 +548,10 @@ KFIFO_MUST_USE static inline kfifo_status kfifo_get(kfifo_pass *pass, uint32_t *
 
 /* As kfifo_put_once, with a start and turns of your own: the scan begins at slot `start`, below k, and the call makes
    at most `turns` rounds, at least 1. With fewer than segments + 2 a thread may get BUSY by moves of its own, without
-   any other. */
+   any other.
+
+       kfifo_status enqueued = kfifo_enqueue(&passes[0], 9, 0, 100);
+*/
 KFIFO_MUST_USE static inline kfifo_status kfifo_enqueue(kfifo_pass *pass, uint32_t item, uint32_t start,
                                                         uint16_t turns) {
     if (!pass || !KFIFO_WAITS(pass)) return KFIFO_BAD_CALL;
@@ -543,7 +559,10 @@ KFIFO_MUST_USE static inline kfifo_status kfifo_enqueue(kfifo_pass *pass, uint32
                        kfifo_bare_enqueue(pass, item, start, turns));
 }
 
-/* As kfifo_get_once, with a start and turns of your own. */
+/* As kfifo_get_once, with a start and turns of your own.
+
+       kfifo_status dequeued = kfifo_dequeue(&passes[1], &item, 0, 100);
+*/
 KFIFO_MUST_USE static inline kfifo_status kfifo_dequeue(kfifo_pass *pass, uint32_t *item, uint32_t start,
                                                         uint16_t turns) {
     if (!pass || !item || !KFIFO_WAITS(pass)) return KFIFO_BAD_CALL;
@@ -563,7 +582,11 @@ KFIFO_MUST_USE static inline kfifo_status kfifo_finish(kfifo_pass *pass) {
 }
 
 /* Reads a word of the queue: 0 is the ends word, then come the slots, segment by segment, and last the clock. DONE, and
-   writes it; else BAD_CALL, and *word stays. */
+   writes it; else BAD_CALL, and *word stays.
+
+       uint64_t ends = 0;
+       if (kfifo_word(&passes[0], 0, &ends) != KFIFO_DONE) return 1;
+*/
 KFIFO_MUST_USE static inline kfifo_status kfifo_word(kfifo_pass *pass, size_t index, uint64_t *word) {
     if (!pass || !word) return KFIFO_BAD_CALL;
     KFIFO_BEGIN(pass, __func__);
@@ -575,7 +598,12 @@ KFIFO_MUST_USE static inline kfifo_status kfifo_word(kfifo_pass *pass, size_t in
 /* Closes a queue by all its handles, and writes the items that are left, and how many: DONE. There has to be room for
    an item of each slot, k * segments. BAD_CALL, also where they are of several queues or one is missing or there twice,
    BAD_THREADS of more than 64, or NO_MEMORY: nothing was done. LOST: an allocation failed; the queue is closed, and the
-   items are lost. To be sure of them, take them all before. */
+   items are lost. To be sure of them, take them all before.
+
+       uint32_t left[1 * 4];
+       size_t count = 0;
+       if (kfifo_close(passes, 2, left, 1 * 4, &count) != KFIFO_DONE) return 1;
+*/
 KFIFO_MUST_USE static inline kfifo_status kfifo_close(kfifo_pass *passes, size_t threads, uint32_t *items, size_t room,
                                                       size_t *count) {
     if (!passes || !items || !count) return KFIFO_BAD_CALL;
@@ -592,7 +620,10 @@ KFIFO_MUST_USE static inline kfifo_status kfifo_close(kfifo_pass *passes, size_t
 
 /* Closes these handles, at most 64: DONE; BAD_CALL of a null pointer or of a handle that is there twice, or
    BAD_THREADS, and nothing was done. With the last open handle of a queue the queue goes, and the items that are left
-   in it. */
+   in it.
+
+       return kfifo_abandon(passes, 2) != KFIFO_DONE;
+*/
 KFIFO_MUST_USE static inline kfifo_status kfifo_abandon(kfifo_pass *passes, size_t threads) {
     if (!passes) return KFIFO_BAD_CALL;
     if (threads > KFIFO_MAX_THREADS) return KFIFO_BAD_THREADS;
@@ -609,6 +640,8 @@ KFIFO_MUST_USE static inline kfifo_status kfifo_abandon(kfifo_pass *passes, size
 }
 
 /* ---- A queue of values, which are 64-bit numbers or pointers ----
+
+   A give or a take takes a few atomic steps more than a put or a get, for its token. None of them waits.
 
    It does not wear out: before the versions of its words are used up, it goes on in a new *generation*, a queue of the
    same sizes. Takes empty the old one first. Where generations meet, some 2^40 calls apart, a take may pass over one
@@ -636,7 +669,10 @@ KFIFO_MUST_USE static inline uint32_t kfifo_enough_tokens(uint32_t k, uint32_t s
    ring returns FULL, not NO_TOKEN. A value in the queue has a token, and the thread that takes the value gets it. A
    thread that has a batch more than it began with, 16 or tokens / threads at most, returns a batch to the pool, where
    others find it. DONE; BAD_CALL of a null pointer; BAD_K, BAD_SEGMENTS, BAD_LAST, BAD_RESERVE of one that is not below
-   `last`, BAD_THREADS, BAD_TOKENS, NO_MEMORY, and all handles are then closed, at most the first 64. */
+   `last`, BAD_THREADS, BAD_TOKENS, NO_MEMORY, and all handles are then closed, at most the first 64.
+
+       if (kfifo_open_values_with(1, 4, 8, 64, 32, passes, 2) != KFIFO_DONE) return 1; // it changes all the time
+*/
 KFIFO_MUST_USE static inline kfifo_status kfifo_open_values_with(uint32_t k, uint32_t segments, uint32_t tokens,
                                                                  uint64_t last, uint64_t reserve,
                                                                  kfifo_value_pass *passes, size_t threads) {
@@ -646,7 +682,11 @@ KFIFO_MUST_USE static inline kfifo_status kfifo_open_values_with(uint32_t k, uin
                kfifo_c_open_values(k, segments, k, last, tokens, reserve, passes, kfifo_at_most_one_over(threads)));
 }
 
-/* Opens a queue of values that does not wear out. Returns what kfifo_open_values_with does. */
+/* Opens a queue of values that does not wear out. Returns what kfifo_open_values_with does.
+
+       kfifo_value_pass passes[2];
+       if (kfifo_open_values(1, 4, kfifo_enough_tokens(1, 4, 2), passes, 2) != KFIFO_DONE) return 1;
+*/
 KFIFO_MUST_USE static inline kfifo_status kfifo_open_values(uint32_t k, uint32_t segments, uint32_t tokens,
                                                             kfifo_value_pass *passes, size_t threads) {
     return kfifo_open_values_with(k, segments, tokens, KFIFO_LAST, KFIFO_RESERVE, passes, threads);
@@ -673,7 +713,10 @@ static inline kfifo_status kfifo_bare_take(kfifo_value_pass *pass, uint64_t *val
 }
 
 /* As kfifo_give, but bounded: at most 65,535 rounds in a generation, after which it returns BUSY. That comes only where
-   another thread changed the queue in the meantime. */
+   another thread changed the queue in the meantime.
+
+       if (kfifo_give_once(&passes[0], 8) == KFIFO_BUSY) puts("the value is not given, and a later call may do better");
+*/
 KFIFO_MUST_USE static inline kfifo_status kfifo_give_once(kfifo_value_pass *pass, uint64_t value) {
     if (!pass || !KFIFO_WAITS(pass)) return KFIFO_BAD_CALL;
     KFIFO_LOOKING_GIVE(pass, KFIFO_FINISHED, kfifo_bare_give(pass, value));
@@ -690,7 +733,10 @@ KFIFO_MUST_USE static inline kfifo_status kfifo_give(kfifo_value_pass *pass, uin
     KFIFO_UNLESS_BUSY(pass, kfifo_give_once(pass, value));
 }
 
-/* As kfifo_take, but bounded, as kfifo_give_once is: also BUSY. */
+/* As kfifo_take, but bounded, as kfifo_give_once is: also BUSY.
+
+       if (kfifo_take_once(&passes[1], &value) == KFIFO_BUSY) puts("no value is taken, and a later call may do better");
+*/
 KFIFO_MUST_USE static inline kfifo_status kfifo_take_once(kfifo_value_pass *pass, uint64_t *value) {
     if (!pass || !value || !KFIFO_WAITS(pass)) return KFIFO_BAD_CALL;
     KFIFO_LOOKING_TAKE(pass, kfifo_bare_take(pass, value));
@@ -717,7 +763,12 @@ KFIFO_MUST_USE static inline kfifo_status kfifo_finish_values(kfifo_value_pass *
     return kfifo_finish_by(KFIFO_WAITS(pass));
 }
 
-/* The same with a pointer for a value. */
+/* kfifo_give and kfifo_take with a pointer for a value.
+
+       if (kfifo_give_pointer(&passes[0], order) != KFIFO_DONE) free(order); // it is still ours
+       void *taken = NULL;
+       if (kfifo_take_pointer(&passes[1], &taken) == KFIFO_DONE) free(taken);
+*/
 KFIFO_MUST_USE static inline kfifo_status kfifo_give_pointer(kfifo_value_pass *pass, void *pointer) {
     return kfifo_give(pass, KFIFO_CAST_POINTER(uintptr_t, pointer));
 }
@@ -766,7 +817,10 @@ KFIFO_MUST_USE static inline kfifo_status kfifo_close_values(kfifo_value_pass *p
     return status;
 }
 
-/* Closes these handles, as kfifo_abandon does. Values that are pointers are not freed. */
+/* Closes these handles, as kfifo_abandon does. Values that are pointers are not freed.
+
+       return kfifo_abandon_values(passes, 2) != KFIFO_DONE;
+*/
 KFIFO_MUST_USE static inline kfifo_status kfifo_abandon_values(kfifo_value_pass *passes, size_t threads) {
     if (!passes) return KFIFO_BAD_CALL;
     if (threads > KFIFO_MAX_THREADS) return KFIFO_BAD_THREADS;

@@ -9,12 +9,15 @@
 #endif
 
 #include "kfifo.h"
+#include "kfifo_many.h"
 #include "kfifo_wait.h"
 
 #include <atomic>
 #include <chrono>
 #include <cstddef>
 #include <cstdint>
+#include <cstdio>
+#include <cstdlib>
 #include <iterator>
 #include <memory>
 #include <new>
@@ -24,6 +27,21 @@
 #include <type_traits>
 #include <utility>
 #include <vector>
+
+#if __cplusplus >= 202002L && __has_include(<ranges>)
+#include <ranges>
+#endif
+
+// In a build without exceptions nothing is caught.
+#ifdef __cpp_exceptions
+#define KFIFO_TRY try
+#define KFIFO_CATCH catch (...)
+#define KFIFO_THROW_AGAIN throw
+#else
+#define KFIFO_TRY if (true)
+#define KFIFO_CATCH else
+#define KFIFO_THROW_AGAIN KFIFO_CAST(void, 0)
+#endif
 
 namespace kfifo {
 
@@ -70,11 +88,21 @@ enum class Miss {
 
 namespace detail {
 
+// Throws. In a build without exceptions the program says what is wrong, and aborts.
+template <typename Exception> [[noreturn]] void raise(const Exception &exception) {
+#ifdef __cpp_exceptions
+    throw exception;
+#else
+    std::fprintf(stderr, "%s\n", exception.what());
+    std::abort();
+#endif
+}
+
 // The status of a call that was made. An allocation that failed, and a call that may not be made, are thrown.
 inline kfifo_status checked(kfifo_status status) {
     switch (status) {
     case KFIFO_NO_MEMORY:
-    case KFIFO_LOST: throw std::bad_alloc();
+    case KFIFO_LOST: raise(std::bad_alloc());
     case KFIFO_BAD_CALL:
     case KFIFO_BAD_THREADS:
     case KFIFO_BAD_K:
@@ -82,12 +110,31 @@ inline kfifo_status checked(kfifo_status status) {
     case KFIFO_BAD_LAST:
     case KFIFO_BAD_PROBES:
     case KFIFO_BAD_TOKENS:
-    case KFIFO_BAD_RESERVE: throw Error(status);
+    case KFIFO_BAD_RESERVE: raise(Error(status));
     default: return status;
     }
 }
 
 } // namespace detail
+
+// What try_open comes to: the queue, if there is one, and DONE; else why not.
+template <typename Opens> struct [[nodiscard]] Opened {
+    std::optional<Opens> queue;
+    kfifo_status status;
+};
+
+// What a call that gives each value of a range came to.
+template <typename Iterator> struct [[nodiscard]] GaveAll {
+    std::size_t given;   // so many are in the queue
+    Iterator rest;       // the first one that is not: it and those after it are the caller's
+    Put why = Put::done; // done: all are; else what that one came to
+};
+
+// What a call that takes up to so many came to.
+struct [[nodiscard]] TookUpTo {
+    std::size_t taken = 0;
+    std::optional<Miss> why; // why it took no more; none where it took as many as it was to
+};
 
 // ---- A queue of items, which are numbers from 1 to KFIFO_MAX_ITEM ----
 
@@ -96,20 +143,33 @@ struct [[nodiscard]] Taken {
     Miss why = Miss::empty;            // else why not
 };
 
+struct [[nodiscard]] TakenItems {
+    std::vector<std::uint32_t> items;
+    std::optional<Miss> why; // why they are no more; none where they are as many as were asked for
+};
+
 // What a thread makes its calls with. One call at a time; it may go to another thread between two calls. When its Queue
 // is closed or gone, a call throws Error.
 class Pass {
   public:
-    // Puts an item, 1 to KFIFO_MAX_ITEM.
+    // Puts an item, 1 to KFIFO_MAX_ITEM: done, full, finished or worn. It does not wait.
+    //
+    //     if (pass.enqueue(7) != kfifo::Put::done) return 1;
     Put enqueue(std::uint32_t item) const { return put(kfifo_put(handle, item), item, 0, 1); }
 
-    // Takes one of the k oldest items.
+    // Takes one of the k oldest items: the item, or empty, finished or worn. It does not wait.
+    //
+    //     kfifo::Taken taken = pass.dequeue();
+    //     if (taken.item) std::printf("item %u came out\n", static_cast<unsigned>(*taken.item));
     Taken dequeue() const {
         std::uint32_t item = 0;
         return taken(kfifo_get(handle, &item), item, 0, 1);
     }
 
-    // The same, but bounded: at most 65,535 rounds, after which the answer is busy.
+    // The same, but bounded: at most 65,535 rounds, after which the answer is busy. That comes only where another
+    // thread changed the queue in the meantime.
+    //
+    //     if (pass.enqueue_once(8) == kfifo::Put::busy) std::puts("not put, and a later call may do better");
     Put enqueue_once(std::uint32_t item) const { return put(kfifo_put_once(handle, item), item, 0, 1); }
 
     Taken dequeue_once() const {
@@ -119,6 +179,8 @@ class Pass {
 
     // The same, with a start and turns of your own: the scan begins at slot `start`, below k, and makes at most `turns`
     // rounds, at least 1.
+    //
+    //     kfifo::Put put_at = pass.enqueue_once(9, 0, 100);
     Put enqueue_once(std::uint32_t item, std::uint32_t start, std::uint16_t turns) const {
         return put(kfifo_enqueue(handle, item, start, turns), item, start, turns);
     }
@@ -128,7 +190,24 @@ class Pass {
         return taken(kfifo_dequeue(handle, &item, start, turns), item, start, turns);
     }
 
-    // One word of the queue, as kfifo_word reads it.
+    // Puts each item of a range, until the queue takes no more. It does not wait, and wakes a thread for each when it
+    // ends. The items are std::uint32_t or a type that it has room for. Where one is out of range the call throws
+    // Error: of a range that can be read twice none is in the queue then, and else those before it are.
+    //
+    //     auto put = pass.enqueue_all(numbers);
+    //     numbers.erase(numbers.begin(), put.rest); // what is not put is still here
+    template <typename Range> auto enqueue_all(Range &&range) const;
+    template <typename Iterator, typename End> GaveAll<Iterator> enqueue_all(Iterator first, End end) const;
+
+    // Takes items until there are `most` or the queue has no more, and puts them at the end of a container, or returns
+    // them. It does not wait, and wakes a thread for each when it ends. Where the container throws, its item is still
+    // in the queue.
+    template <typename Container> TookUpTo dequeue_up_to(std::size_t most, Container &out) const;
+    TakenItems dequeue_up_to(std::size_t most) const;
+
+    // One word of the queue, as kfifo_word reads it. Throws Error where it has none with this index.
+    //
+    //     std::uint64_t ends = pass.word(0);
     [[nodiscard]] std::uint64_t word(std::size_t index) const {
         std::uint64_t word = 0;
         kfifo_status status = kfifo_word(handle, index, &word);
@@ -142,9 +221,9 @@ class Pass {
     Pass(Handles of, std::size_t thread) : all(std::move(of)), handle(&(*all)[thread]) {}
     [[noreturn]] void refuse(std::uint32_t item, std::uint32_t start, std::uint16_t turns,
                              const char *otherwise) const {
-        if (handle->starts == 0) throw Error(KFIFO_BAD_CALL, "the queue is closed");
+        if (handle->starts == 0) detail::raise(Error(KFIFO_BAD_CALL, "the queue is closed"));
         const char *why = kfifo_bad_call_text(handle, item, start, turns);
-        throw Error(KFIFO_BAD_CALL, why ? why : otherwise);
+        detail::raise(Error(KFIFO_BAD_CALL, why ? why : otherwise));
     }
     Put put(kfifo_status status, std::uint32_t item, std::uint32_t start, std::uint16_t turns) const {
         if (status == KFIFO_BAD_CALL) refuse(item, start, turns, kfifo_status_text(status));
@@ -163,14 +242,37 @@ class Pass {
 // A queue and its passes. What is left in it when it goes is lost: close it before to have it back.
 class Queue {
   public:
-    // k slots in each of these segments, for `threads` threads. Throws Error where there is no such queue.
+    // k slots in each of these segments, for `threads` threads. Throws Error where there is no such queue, and
+    // std::bad_alloc. All memory is asked for here.
+    //
+    //     kfifo::Queue queue(1, 8, 2);
+    //     kfifo::Pass pass = queue.pass(0);
     Queue(std::uint32_t k, std::uint32_t segments, std::size_t threads) : Queue(k, segments, k, KFIFO_LAST, threads) {}
 
     Queue(std::uint32_t k, std::uint32_t segments, std::uint32_t probes, std::uint64_t last, std::size_t threads)
-        : slots(std::size_t(k) * segments),
-          handles(std::make_shared<std::vector<kfifo_pass>>(threads <= 64 ? threads : 65)) {
-        if (handles->empty()) throw Error(KFIFO_BAD_THREADS);
-        detail::checked(kfifo_open(k, segments, probes, last, handles->data(), handles->size()));
+        : Queue(Closed{}, k, segments, threads) {
+        detail::checked(open(k, segments, probes, last));
+    }
+
+    // The same two, but they say why there is no such queue, and throw nothing: for builds without exceptions too. In
+    // those a program that has no memory for the handles ends.
+    //
+    //     auto opened = kfifo::Queue::try_open(1, 8, 1);
+    //     if (!opened.queue) return opened.status;
+    static Opened<Queue> try_open(std::uint32_t k, std::uint32_t segments, std::size_t threads) {
+        return try_open(k, segments, k, KFIFO_LAST, threads);
+    }
+
+    static Opened<Queue> try_open(std::uint32_t k, std::uint32_t segments, std::uint32_t probes, std::uint64_t last,
+                                  std::size_t threads) {
+        kfifo_status status = KFIFO_NO_MEMORY;
+        KFIFO_TRY {
+            Queue queue(Closed{}, k, segments, threads);
+            status = queue.open(k, segments, probes, last);
+            if (status == KFIFO_DONE) return {std::move(queue), status};
+        }
+        KFIFO_CATCH {}
+        return {std::nullopt, status};
     }
 
     Queue(const Queue &) = delete;
@@ -189,25 +291,38 @@ class Queue {
     [[nodiscard]] Pass pass(std::size_t thread) {
         std::vector<kfifo_pass> &all = usable();
         if (thread >= all.size())
-            throw Error(KFIFO_BAD_CALL, "the thread is not 0 to " + std::to_string(all.size() - 1));
+            detail::raise(Error(KFIFO_BAD_CALL, "the thread is not 0 to " + std::to_string(all.size() - 1)));
         return Pass(handles, thread);
     }
 
     // Closes the queue and gives back the items that are left. Nothing else may be called after.
+    //
+    //     std::vector<std::uint32_t> left = queue.close();
     [[nodiscard]] std::vector<std::uint32_t> close() {
         std::vector<kfifo_pass> &all = usable();
         std::vector<std::uint32_t> items(slots);
         std::size_t count = 0;
         kfifo_status status = kfifo_close(all.data(), all.size(), items.data(), items.size(), &count);
-        if (status == KFIFO_BAD_CALL) throw Error(status, "the queue is closed");
+        if (status == KFIFO_BAD_CALL) detail::raise(Error(status, "the queue is closed"));
         detail::checked(status);
         items.resize(count);
         return items;
     }
 
   private:
+    // With handles that are still closed.
+    struct Closed {};
+    Queue(Closed, std::uint32_t k, std::uint32_t segments, std::size_t threads)
+        : slots(std::size_t(k) * segments),
+          handles(std::make_shared<std::vector<kfifo_pass>>(threads <= 64 ? threads : 65)) {}
+
+    kfifo_status open(std::uint32_t k, std::uint32_t segments, std::uint32_t probes, std::uint64_t last) {
+        if (handles->empty()) return KFIFO_BAD_THREADS;
+        return kfifo_open(k, segments, probes, last, handles->data(), handles->size());
+    }
+
     std::vector<kfifo_pass> &usable() const {
-        if (!handles) throw Error(KFIFO_BAD_CALL, "the queue was moved from");
+        if (!handles) detail::raise(Error(KFIFO_BAD_CALL, "the queue was moved from"));
         return *handles;
     }
 
@@ -310,19 +425,27 @@ class InCall {
     InCall &operator=(const InCall &) = delete;
 };
 
-// The handles of a queue of cells.
+// The handles of a queue of cells. They are closed where the opening did not come to DONE.
 struct CellPasses {
-    CellPasses(std::uint32_t k, std::uint32_t segments, std::size_t threads, std::uint32_t tokens, Versions versions)
-        : all(threads <= 64 ? threads : 65) {
-        if (all.empty()) throw Error(KFIFO_BAD_THREADS);
-        checked(kfifo_open_cells_with(k, segments, tokens, versions.last, versions.reserve, all.data(), all.size()));
+    CellPasses(std::uint32_t k, std::uint32_t segments, std::size_t threads, std::uint32_t number, Versions versions)
+        : all(threads <= 64 ? threads : 65), tokens(number), status(KFIFO_BAD_THREADS) {
+        if (all.empty()) return;
+        status = kfifo_open_cells_with(k, segments, tokens, versions.last, versions.reserve, all.data(), all.size());
     }
-    CellPasses(const CellPasses &) = delete;
-    CellPasses &operator=(const CellPasses &) = delete;
-    ~CellPasses() { (void)kfifo_abandon_cells(all.data(), all.size()); }
+    // The handles stay where they are.
+    CellPasses(CellPasses &&) noexcept = default;
+    CellPasses &operator=(CellPasses &&) = delete;
+    ~CellPasses() {
+        if (!all.empty()) (void)kfifo_abandon_cells(all.data(), all.size());
+    }
 
     std::vector<kfifo_cell_pass> all;
+    std::uint32_t tokens; // a thread
+    kfifo_status status;
 };
+
+// No cell has this number.
+constexpr std::uint64_t no_cell = ~std::uint64_t(0);
 
 // The cells of a queue of values, and which of them have a value. Each handle has a bit for each cell, and flips it
 // when it makes a value in that cell or destroys one: a cell has a value where an odd number of its bits is set. So a
@@ -416,6 +539,11 @@ template <typename T> struct [[nodiscard]] TakenValue {
     Miss why = Miss::empty; // else why not
 };
 
+template <typename T> struct [[nodiscard]] TakenValues {
+    std::vector<T> values;
+    std::optional<Miss> why; // why they are no more; none where they are as many as they were to be, or T threw
+};
+
 // A queue of values. Each thread takes a Handle of its own. The queue goes with the last of the ValueQueue and its
 // handles, and with it the values that are left, which are destroyed.
 //
@@ -434,14 +562,14 @@ template <typename T> struct [[nodiscard]] TakenValue {
 // Miss::worn come where there was no memory for the next generation until the reserve was used up too: then close the
 // queue, which gives back what is left, and open another.
 template <typename T> class ValueQueue {
-    static_assert(std::is_object_v<T> && std::is_move_constructible_v<T> && std::is_nothrow_destructible_v<T>,
-                  "a value is moved or copied out of the queue, and what is left of it destroyed");
-    static constexpr bool moves_throw = !std::is_nothrow_move_constructible_v<T>;
-
+    // T may be incomplete until a queue is opened: see ValueHandle.
     struct State {
-        State(std::uint32_t k, std::uint32_t segments, std::size_t threads, std::uint32_t tokens, Versions versions)
-            : passes(k, segments, threads, tokens, versions), cells(passes.all.size(), tokens),
-              free_passes(all_passes()), kept(passes.all.size()) {
+        static_assert(std::is_object_v<T> && std::is_move_constructible_v<T> && std::is_nothrow_destructible_v<T>,
+                      "a value is moved or copied out of the queue, and what is left of it destroyed");
+
+        explicit State(detail::CellPasses of)
+            : passes(std::move(of)), cells(passes.all.size(), passes.tokens), free_passes(all_passes()),
+              kept(passes.all.size(), detail::no_cell) {
             kfifo_callers_are(waits(), 1); // the queue object
         }
 
@@ -489,8 +617,8 @@ template <typename T> class ValueQueue {
             } else {
                 detail::checked(status);
                 // What a take could not move out had been taken before the rest.
-                for (const std::optional<std::uint64_t> &cell : kept)
-                    if (cell) left.push_back(*cell);
+                for (std::uint64_t cell : kept)
+                    if (cell != detail::no_cell) left.push_back(cell);
                 left.insert(left.end(), queued.begin(), queued.begin() + std::ptrdiff_t(count));
             }
             is_closed = true;
@@ -498,8 +626,8 @@ template <typename T> class ValueQueue {
 
         detail::CellPasses passes;
         detail::Cells<T> cells;
-        std::atomic<std::uint64_t> free_passes;         // a bit for each pass that is in no Handle
-        std::vector<std::optional<std::uint64_t>> kept; // by pass: the cell whose value a take could not move out
+        std::atomic<std::uint64_t> free_passes; // a bit for each pass that is in no Handle
+        std::vector<std::uint64_t> kept; // by pass that is in none: the cell whose value a take could not move out
         bool is_closed = false;
         std::vector<std::uint64_t> left;
     };
@@ -529,11 +657,13 @@ template <typename T> class ValueQueue {
     // room.
     class Handle {
       public:
-        Handle(Handle &&other) noexcept : state(std::move(other.state)), pass(other.pass), bits(other.bits) {}
+        Handle(Handle &&other) noexcept
+            : state(std::move(other.state)), pass(other.pass), bits(other.bits), kept(other.kept) {}
         Handle &operator=(Handle &&other) noexcept {
             std::swap(state, other.state);
             std::swap(pass, other.pass);
             std::swap(bits, other.bits);
+            std::swap(kept, other.kept);
             return *this;
         }
         Handle(const Handle &) = delete;
@@ -541,13 +671,18 @@ template <typename T> class ValueQueue {
         ~Handle() {
             if (!state) return;
             { detail::InCall in_call(pass, "the end of a kfifo::ValueQueue::Handle"); }
+            state->kept[which()] = kept;
             state->return_pass(which());
             kfifo_caller_goes(state->waits());
         }
 
-        // Gives a value to the queue. On any answer but done the value is what it was. It does not wait. Where there
-        // was no memory for the next generation until the reserve was used up, takes may no longer reach a value whose
-        // give answered done: they answer Miss::worn, and ValueQueue::close gives it back.
+        // Gives a value to the queue: done, full, no_token, finished or worn. On any answer but done the value is what
+        // it was. It does not wait.
+        //
+        //     if (giver.give(std::move(word)) != kfifo::Put::done) std::puts(word.c_str()); // it is still ours
+        //
+        // Where there was no memory for the next generation until the reserve was used up, takes may no longer reach a
+        // value whose give answered done: they answer Miss::worn, and ValueQueue::close gives it back.
         //
         // Where no move of T throws, the value is moved into a cell, and back where the queue refuses it. Else it is
         // copied, and not moved: if the copy throws, nothing was done. A T that cannot be copied and whose moves may
@@ -569,7 +704,10 @@ template <typename T> class ValueQueue {
                 [](T &) {});
         }
 
-        // Takes one of the k oldest values. It does not wait.
+        // Takes one of the k oldest values: the value, or empty, finished or worn. It does not wait.
+        //
+        //     kfifo::TakenValue<std::string> taken = taker.take();
+        //     if (!taken.value) std::puts(kfifo::text(taken.why));
         //
         // Where a move of T may throw and T can be copied, the value is copied out. If that throws, nothing is lost:
         // the value is the handle's, and its next take, or that of the next one to have this handle, takes it first.
@@ -577,6 +715,8 @@ template <typename T> class ValueQueue {
 
         // The same three, but bounded: each look at the queue makes at most 65,535 rounds, after which the answer is
         // busy. That comes only where another thread changed the queue in the meantime.
+        //
+        //     if (taker.take_once().why == kfifo::Miss::busy) std::puts("a later call may do better");
         Put give_once(T &&value) { return give_by(detail::Once(), std::move(value)); }
 
         template <typename... Arguments> Put emplace_once(Arguments &&...arguments) {
@@ -586,11 +726,16 @@ template <typename T> class ValueQueue {
 
         TakenValue<T> take_once() { return take_by(detail::Once()); }
 
-        // Gives a value, and sleeps while there is no room for it: Put::done, Put::finished or Put::worn.
+        // Gives a value, and sleeps while there is no room for it: Put::done, Put::finished or Put::worn. Where it need
+        // not sleep it costs as much as give.
+        //
+        //     if (giver.give_wait("second") != kfifo::Put::done) return 1;
         Put give_wait(T &&value) { return give_by(within(KFIFO_WAITS_GIVER, KFIFO_FOREVER), std::move(value)); }
 
         // The same with a copy, which is made in its cell, and with a value that is made there of these arguments. Each
         // is made when a cell is free, and destroyed where the queue then refuses it.
+        //
+        //     if (giver.emplace_wait(3, 'y') != kfifo::Put::done) return 1;
         Put give_wait(const T &value) {
             return put(
                 within(KFIFO_WAITS_GIVER, KFIFO_FOREVER), [&](Reserved &cell) { cell.make(value); }, [](T &) {});
@@ -603,6 +748,8 @@ template <typename T> class ValueQueue {
         }
 
         // As emplace_wait, for so long at most: also timed_out.
+        //
+        //     if (giver.emplace_for(std::chrono::seconds(1), 3, 'z') != kfifo::Put::done) return 1;
         template <typename Rep, typename Period, typename... Arguments>
         Put emplace_for(const std::chrono::duration<Rep, Period> &time, Arguments &&...arguments) {
             return put(
@@ -611,9 +758,13 @@ template <typename T> class ValueQueue {
         }
 
         // Takes a value, and sleeps while there is none: a value, Miss::finished or Miss::worn.
+        //
+        //     while (auto value = taker.take_wait().value) all += *value;
         TakenValue<T> take_wait() { return take_by(within(KFIFO_WAITS_TAKER, KFIFO_FOREVER)); }
 
         // The same for so long at most: also timed_out. A negative time is 0, with which the call does not sleep.
+        //
+        //     auto late = taker.take_for(std::chrono::milliseconds(1));
         template <typename Rep, typename Period>
         Put give_for(T &&value, const std::chrono::duration<Rep, Period> &time) {
             return give_by(within(KFIFO_WAITS_GIVER, detail::nanoseconds_of(time)), std::move(value));
@@ -626,6 +777,9 @@ template <typename T> class ValueQueue {
 
         // The same until a time of some clock. That the clock is set meanwhile is seen when the time was up by the
         // clock as it was.
+        //
+        //     auto soon = std::chrono::steady_clock::now() + std::chrono::milliseconds(1);
+        //     auto later = taker.take_until(soon);
         template <typename Clock, typename Duration>
         Put give_until(T &&value, const std::chrono::time_point<Clock, Duration> &end) {
             return give_by(detail::Until<Clock, Duration>(usable(), KFIFO_WAITS_GIVER, end), std::move(value));
@@ -636,9 +790,41 @@ template <typename T> class ValueQueue {
             return take_by(detail::Until<Clock, Duration>(usable(), KFIFO_WAITS_TAKER, end));
         }
 
+        // Gives each value of a range, until the queue takes no more. It does not wait, and wakes a thread for each
+        // when it ends. What is not given stays as it was, from `rest` of the result on.
+        //
+        //     auto gave = giver.give_all(kfifo::moving(words));
+        //     words.erase(words.begin(), gave.rest.base()); // what is not given is still here
+        //
+        // The values are copied, or moved where the range is kfifo::moving(words), or another one of T &&. What T or
+        // the range throws comes out of the call: the values before that one are in the queue, and it is as `give`
+        // leaves it. A range that is gone after the call is refused, since what was not given would go with it. Where
+        // the range can be read but once, as taker.values(), it may wait: then the call wakes who waits before each
+        // step.
+        template <typename Range> auto give_all(Range &&range);
+        template <typename Iterator, typename End> GaveAll<Iterator> give_all(Iterator first, End end);
+
+        // Takes values until there are `most` or the queue has no more, and puts them at the end of a container. It
+        // does not wait, and wakes a thread for each when it ends. What T or the container throws comes out of the
+        // call, and nothing is lost: the values before are in the container, and the next take of the handle begins
+        // with that one.
+        //
+        //     auto took = taker.take_up_to(64, read);
+        //     if (took.why == kfifo::Miss::finished) is_over = true;
+        template <typename Container> TookUpTo take_up_to(std::size_t most, Container &out);
+
+        // The same, but returns the values, at most as many as the queue has cells: threads * tokens. Where T throws
+        // after the first one, the call ends with those before, and the next take of the handle throws.
+        TakenValues<T> take_up_to(std::size_t most);
+
         // The values that come, until the queue is finished and empty: for (T value : handle.values()). It sleeps while
         // there is none, and throws Error with KFIFO_WORN where take answers Miss::worn.
-        [[nodiscard]] Values values() { return Values(*this); }
+        //
+        //     for (std::string value : taker.values()) all += value;
+        [[nodiscard]] Values values() {
+            (void)usable();
+            return Values(*this);
+        }
 
         // Finishes the queue when the guard goes, also by an exception, so that no thread sleeps on. Keep the guard as
         // long as the thread gives:
@@ -650,19 +836,22 @@ template <typename T> class ValueQueue {
         }
 
         // Says that no more values will come, as ValueQueue::finish.
+        //
+        //     giver.finish();
         void finish() { (void)kfifo_finish_by(usable()); }
 
       private:
         friend class ValueQueue;
         Handle(std::shared_ptr<State> of, std::size_t number)
-            : state(std::move(of)), pass(&state->passes.all[number]), bits(state->cells.bits_of(number)) {
+            : state(std::move(of)), pass(&state->passes.all[number]), bits(state->cells.bits_of(number)),
+              kept(state->kept[number]) {
             kfifo_caller_comes(state->waits());
         }
 
         std::size_t which() const { return std::size_t(pass - state->passes.all.data()); }
 
         kfifo_waits *usable() const {
-            if (!state) throw Error(KFIFO_BAD_CALL, "the handle was moved from");
+            if (!state) detail::raise(Error(KFIFO_BAD_CALL, "the handle was moved from"));
             return KFIFO_WAITS(pass);
         }
 
@@ -690,8 +879,10 @@ template <typename T> class ValueQueue {
             bool is_made = false, is_published = false;
         };
 
-        // Reserves a cell, makes a value in it and publishes it. A value that is refused is handed back.
-        template <typename Calls, typename Make, typename Back> Put put(Calls calls, Make make, Back back) {
+        // Reserves a cell, makes a value in it and publishes it by this call. A value that is refused is handed back.
+        template <kfifo_status (*publish)(kfifo_cell_pass *) = kfifo_publish_once, typename Calls, typename Make,
+                  typename Back>
+        Put put(Calls calls, Make make, Back back) {
             (void)usable();
             detail::InCall in_call(pass, "a give of kfifo::ValueQueue");
             std::uint64_t number = 0;
@@ -699,22 +890,23 @@ template <typename T> class ValueQueue {
             if (status != KFIFO_DONE) return static_cast<Put>(detail::checked(status));
             Reserved reserved(*this, number);
             make(reserved);
-            status = calls(pass, [&] { return kfifo_publish_once(pass); });
+            status = calls(pass, [&] { return publish(pass); });
             reserved.is_published = status == KFIFO_DONE;
             if (!reserved.is_published) back(state->cells[number]);
             return static_cast<Put>(detail::checked(status));
         }
 
-        template <typename Calls> Put give_by(Calls calls, T &&value) {
-            constexpr bool comes_back = !moves_throw && std::is_nothrow_move_assignable_v<T>;
+        template <kfifo_status (*publish)(kfifo_cell_pass *) = kfifo_publish_once, typename Calls>
+        Put give_by(Calls calls, T &&value) {
+            constexpr bool comes_back = std::is_nothrow_move_constructible_v<T> && std::is_nothrow_move_assignable_v<T>;
             if constexpr (comes_back || !std::is_copy_constructible_v<T>) {
                 static_assert(std::is_move_assignable_v<T>,
                               "a value that is refused cannot be moved or copied back: make it by emplace");
-                return put(
+                return put<publish>(
                     calls, [&](Reserved &cell) { cell.make(std::move(value)); },
                     [&](T &refused) { value = std::move(refused); });
             } else {
-                return put(
+                return put<publish>(
                     calls, [&](Reserved &cell) { cell.make(std::as_const(value)); }, [](T &) {});
             }
         }
@@ -723,22 +915,25 @@ template <typename T> class ValueQueue {
         // the value could not be moved out. Either looks for givers that wait: before the release the look would miss
         // one that then finds no token.
         struct Received {
-            Received(Handle &of, std::uint64_t what, bool was) : handle(of), number(what), was_kept(was) {}
+            Received(Handle &of, std::uint64_t what) : handle(of), number(what) {}
             Received(const Received &) = delete;
             ~Received() {
-                State &of = *handle.state;
-                if (!is_kept) {
-                    of.cells.destroy(handle.bits, number);
-                    (void)kfifo_release(handle.pass);
-                } else {
+                handle.kept = is_out ? detail::no_cell : number;
+                if (!is_out) {
                     (void)kfifo_after_take(KFIFO_WAITS(handle.pass), KFIFO_DONE);
+                    return;
                 }
-                // Other threads look at this line of the cache at each take.
-                if (is_kept != was_kept) of.kept[handle.which()] = is_kept ? std::optional(number) : std::nullopt;
+                handle.state->cells.destroy(handle.bits, number);
+                (void)kfifo_release(handle.pass);
+            }
+            // The value is moved out.
+            Miss out() {
+                is_out = true;
+                return Miss::empty;
             }
             Handle &handle;
             std::uint64_t number;
-            bool was_kept, is_kept = false;
+            bool is_out = false;
         };
 
         // As kfifo_receive_once, but where it got a cell it wakes nobody: Received does that.
@@ -759,44 +954,42 @@ template <typename T> class ValueQueue {
         template <typename Calls, typename Use, typename None> auto receive(Calls calls, Use use, None none) {
             kfifo_waits *waits = usable();
             detail::InCall in_call(pass, "a take of kfifo::ValueQueue");
-            std::uint64_t number = 0;
-            bool was_kept = false;
-            if constexpr (moves_throw) {
-                const std::optional<std::uint64_t> &kept = state->kept[which()];
-                was_kept = kept.has_value();
-                number = kept.value_or(0);
-            }
-            if (!was_kept) {
+            std::uint64_t number = kept;
+            if (number == detail::no_cell) {
                 kfifo_status status = calls(pass, [&] { return look(waits, &number); });
                 if (status != KFIFO_DONE) return none(static_cast<Miss>(detail::checked(status)));
             }
-            Received received(*this, number, was_kept);
-            try {
-                return use(state->cells[number]);
-            } catch (...) {
-                received.is_kept = true;
-                throw;
-            }
+            Received received(*this, number);
+            return use(state->cells[number], received);
         }
 
         template <typename Calls> TakenValue<T> take_by(Calls calls) {
             return receive(
                 calls,
-                [](T &value) {
-                    return TakenValue<T>{std::optional<T>(std::in_place, std::move_if_noexcept(value)), Miss::empty};
+                [](T &value, Received &received) {
+                    return TakenValue<T>{std::optional<T>(std::in_place, std::move_if_noexcept(value)), received.out()};
                 },
                 [](Miss why) {
                     return TakenValue<T>{std::nullopt, why};
                 });
         }
 
+        template <typename Reference> Put give_one(Reference &&value);
+        struct LastCell;
+
         std::shared_ptr<State> state;
         kfifo_cell_pass *pass; // of the state
         std::uint64_t *bits;   // of the state
+        std::uint64_t kept;    // the cell whose value a take could not move out
     };
 
-    // What comes out of a queue until its end, as a range. One pass, by the handle that it is of.
-    class Values {
+    // What comes out of a queue until its end, as a range, in C++20 a view: handle.values() | std::views::take(3). One
+    // pass, by the handle that it is of. A value is taken when it is asked for, or whether there is one.
+    class Values
+#ifdef __cpp_lib_ranges
+        : public std::ranges::view_base
+#endif
+    {
       public:
         struct End {};
         class Iterator {
@@ -807,32 +1000,46 @@ template <typename T> class ValueQueue {
             using pointer = T *;
             using reference = T &&;
 
-            explicit Iterator(Handle &of) : handle(&of) { next(); }
-            T &&operator*() { return std::move(*value); }
+            explicit Iterator(Handle &of) : handle(&of) {}
+            T &&operator*() const {
+                look();
+                return std::move(*value);
+            }
             Iterator &operator++() {
-                next();
+                look();
+                value.reset();
+                has_looked = false;
                 return *this;
             }
-            void operator++(int) { next(); }
-            bool operator==(End) const { return !value; }
-            bool operator!=(End) const { return value.has_value(); }
+            void operator++(int) { ++*this; }
+            bool operator==(End) const {
+                look();
+                return !value;
+            }
+            bool operator!=(End end) const { return !(*this == end); }
 
           private:
-            void next() {
-                value.reset();
+            // What is behind an iterator that nobody asks stays in the queue, as with std::views::take.
+            void look() const {
+                if (has_looked) return;
                 handle->receive(
                     handle->within(KFIFO_WAITS_TAKER, KFIFO_FOREVER),
-                    [this](T &taken) { value.emplace(std::move_if_noexcept(taken)); },
+                    [this](T &taken, auto &received) {
+                        value.emplace(std::move_if_noexcept(taken));
+                        received.out();
+                    },
                     [](Miss why) {
-                        if (why == Miss::worn) throw Error(KFIFO_WORN);
+                        if (why == Miss::worn) detail::raise(Error(KFIFO_WORN));
                     });
+                has_looked = true;
             }
             Handle *handle;
-            std::optional<T> value;
+            mutable std::optional<T> value;
+            mutable bool has_looked = false;
         };
 
-        Iterator begin() { return Iterator(*handle); }
-        End end() { return {}; }
+        Iterator begin() const { return Iterator(*handle); }
+        End end() const { return {}; }
 
       private:
         friend class Handle;
@@ -854,7 +1061,31 @@ template <typename T> class ValueQueue {
 
     // The same with versions of your own. Throws Error also where there are no such ones.
     ValueQueue(std::uint32_t k, std::uint32_t segments, std::size_t threads, std::uint32_t tokens, Versions versions)
-        : state(std::make_shared<State>(k, segments, threads, tokens, versions)) {}
+        : ValueQueue(open(k, segments, threads, tokens, versions)) {}
+
+    // The same, but they say why there is no such queue, and throw nothing: for builds without exceptions too. In those
+    // a program that has no memory for the cells ends.
+    //
+    //     auto opened = kfifo::ValueQueue<std::string>::try_open(1, 8, 2); // k, segments, threads
+    //     if (!opened.queue) {
+    //         std::fprintf(stderr, "no queue: %s\n", kfifo_status_text(opened.status));
+    //         return 1;
+    //     }
+    static Opened<ValueQueue> try_open(std::uint32_t k, std::uint32_t segments, std::size_t threads) {
+        return try_open(k, segments, threads, kfifo_enough_tokens(k, segments, threads));
+    }
+
+    static Opened<ValueQueue> try_open(std::uint32_t k, std::uint32_t segments, std::size_t threads,
+                                       std::uint32_t tokens, Versions versions = Versions()) {
+        kfifo_status status = KFIFO_NO_MEMORY;
+        KFIFO_TRY {
+            detail::CellPasses passes(k, segments, threads, tokens, versions);
+            if (passes.status == KFIFO_DONE) return {ValueQueue(std::move(passes)), KFIFO_DONE};
+            status = passes.status;
+        }
+        KFIFO_CATCH {}
+        return {std::nullopt, status};
+    }
 
     ValueQueue(const ValueQueue &) = delete;
     ValueQueue &operator=(const ValueQueue &) = delete;
@@ -873,17 +1104,19 @@ template <typename T> class ValueQueue {
     // A handle that nobody has. Throws Error where each was out at one moment: never where there are as many handles as
     // threads, and no thread has two.
     [[nodiscard]] Handle handle() {
-        if (usable().is_closed) throw Error(KFIFO_BAD_CALL, "the queue is closed");
+        if (usable().is_closed) detail::raise(Error(KFIFO_BAD_CALL, "the queue is closed"));
         std::optional<std::size_t> number = state->borrow_pass();
-        if (!number) throw Error(KFIFO_BAD_CALL, "each handle of the queue is in use");
+        if (!number) detail::raise(Error(KFIFO_BAD_CALL, "each handle of the queue is in use"));
         return Handle(state, *number);
     }
 
     // Says that no more values will come, and wakes all that wait. Any thread may call it, and again. A give that
     // begins after it answers finished; a take does so once the queue is empty. A give that it meets halfway may still
     // put its value in: call it when the producers have ended, or close the queue to have what is left.
+    //
+    //     queue.finish();
     void finish() {
-        if (usable().is_closed) throw Error(KFIFO_BAD_CALL, "the queue is closed");
+        if (usable().is_closed) detail::raise(Error(KFIFO_BAD_CALL, "the queue is closed"));
         (void)kfifo_finish_by(state->waits());
     }
 
@@ -891,10 +1124,12 @@ template <typename T> class ValueQueue {
     // a handle is still out, and std::bad_alloc, and no value is lost, where there is no memory for them. Where the
     // library alone has no memory to tell the order, the values come in another one.
     //
+    //     std::vector<std::string> left = queue.close();
+    //
     // Where a move of T may throw and T can be copied, the values are copied out. If that throws, no value is lost: the
     // queue takes no more calls, but a further close gives them all back.
     [[nodiscard]] std::vector<T> close() {
-        if (!usable().is_idle()) throw Error(KFIFO_BAD_CALL, "a handle of the queue is in use");
+        if (!usable().is_idle()) detail::raise(Error(KFIFO_BAD_CALL, "a handle of the queue is in use"));
         std::vector<T> values;
         values.reserve(state->is_closed ? state->left.size() : state->cells.with_values().size());
         state->close();
@@ -905,8 +1140,18 @@ template <typename T> class ValueQueue {
     }
 
   private:
+    explicit ValueQueue(detail::CellPasses passes) : state(std::make_shared<State>(std::move(passes))) {}
+
+    static detail::CellPasses open(std::uint32_t k, std::uint32_t segments, std::size_t threads, std::uint32_t tokens,
+                                   Versions versions) {
+        detail::CellPasses passes(k, segments, threads, tokens, versions);
+        detail::checked(passes.status);
+        return passes;
+    }
+
     State &usable() const {
-        if (!state) throw Error(KFIFO_BAD_CALL, was_closed ? "the queue is closed" : "the queue was moved from");
+        if (!state)
+            detail::raise(Error(KFIFO_BAD_CALL, was_closed ? "the queue is closed" : "the queue was moved from"));
         return *state;
     }
 
@@ -914,6 +1159,16 @@ template <typename T> class ValueQueue {
     bool was_closed = false;
 };
 
+// The handle of a queue of T by a name of its own, which a T that has such a handle can use in its declaration:
+//
+//     struct Request {
+//         int question;
+//         std::optional<kfifo::ValueHandle<Request>> answers;
+//     };
+template <typename T> using ValueHandle = typename ValueQueue<T>::Handle;
+
 } // namespace kfifo
+
+#include "kfifo_many.hpp"
 
 #endif

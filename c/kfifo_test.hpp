@@ -159,7 +159,7 @@ namespace checking {
 constexpr unsigned MAX_THREADS = 64;
 constexpr std::size_t MAX_CALLS = 65536;     // of a round
 constexpr unsigned SLOTS = 8;                // how many rounds are run before they are judged together
-constexpr unsigned ROUNDS_OF_A_QUEUE = 2000; // after so many rounds a queue gives way to a new one
+constexpr unsigned ROUNDS_OF_A_QUEUE = 2000; // after this many rounds a queue gives way to a new one
 constexpr std::uint32_t MAX_ITEM = 16777215;
 constexpr unsigned BUSY_GETS = 1000; // how often the draining of a queue tries again
 constexpr unsigned FILLED_WITHOUT_CAPACITY = 64;
@@ -450,7 +450,7 @@ struct Slot {
 
 enum class Ended : std::uint8_t { not_yet, in_time, bad_round, hang, threw, broken };
 
-// All that the parent process sees of the rounds. The logs stand behind it.
+// All that the parent process sees of the rounds. The logs stand after it.
 struct Board {
     std::atomic<Ended> ended{Ended::not_yet};
     std::atomic<bool> has_note{false};
@@ -1268,7 +1268,7 @@ class Conductor {
             board.tries = std::max(board.tries.load(), slot.tries.load());
             if (is_bad(verdict, options)) return void(board.end(Ended::bad_round));
             slot.state = SlotState::judged;
-            // What an undecided round has left behind could be held against a later round.
+            // What an undecided round has left could be held against a later round.
             if (verdict == KFIFO_JUDGE_UNDECIDED)
                 for (Kept &kept : queues) destroy(kept);
         }

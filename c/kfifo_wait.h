@@ -104,23 +104,34 @@ static inline int kfifo_may_be_over(kfifo_waits *waits, kfifo_status status) {
 
    A call that waits returns DONE; TIMED_OUT, and nothing was given or taken; FINISHED; WORN; or BAD_CALL. It
    never returns FULL, NO_TOKEN, EMPTY or BUSY. FINISHED comes too where no other handle of the queue is open. With 0
-   nanoseconds it looks once and does not sleep. Who gets WORN calls kfifo_finish, so that the others end too, and then
-   closes the queue. */
+   nanoseconds it looks once and does not sleep. A call that need not wait costs as much as one of kfifo.h; one that
+   sleeps makes a call of the system, and so does the one that wakes it. Who gets WORN calls kfifo_finish, so that the
+   others end too, and then closes the queue. */
 
-/* Gives a value, and waits at most `nanoseconds` while there is no room for it. */
+/* Gives a value, and waits at most `nanoseconds` while there is no room for it.
+
+       if (kfifo_give_wait(&passes[0], 7, KFIFO_FOREVER) != KFIFO_DONE) return 1;
+*/
 KFIFO_MUST_USE static inline kfifo_status kfifo_give_wait(kfifo_value_pass *pass, uint64_t value,
                                                           uint64_t nanoseconds) {
     KFIFO_WAITING(pass, KFIFO_WAITS_GIVER, kfifo_give_once(pass, value));
 }
 
 /* Takes a value, and waits at most `nanoseconds` while there is none. FINISHED comes exactly where the queue was
-   finished, and then found empty. */
+   finished, and then found empty.
+
+       while (kfifo_take_wait(&passes[1], &value, KFIFO_FOREVER) == KFIFO_DONE) sum += value;
+*/
 KFIFO_MUST_USE static inline kfifo_status kfifo_take_wait(kfifo_value_pass *pass, uint64_t *value,
                                                           uint64_t nanoseconds) {
     KFIFO_WAITING(pass, KFIFO_WAITS_TAKER, kfifo_take_once(pass, value));
 }
 
-/* The same with a pointer for a value. */
+/* The same with a pointer for a value.
+
+       if (kfifo_give_pointer_wait(&passes[0], order, 1000000) == KFIFO_TIMED_OUT) free(order); // it is still ours
+       if (kfifo_take_pointer_wait(&passes[1], &taken, 1000000) == KFIFO_DONE) free(taken);
+*/
 KFIFO_MUST_USE static inline kfifo_status kfifo_give_pointer_wait(kfifo_value_pass *pass, void *pointer,
                                                                   uint64_t nanoseconds) {
     return kfifo_give_wait(pass, KFIFO_CAST_POINTER(uintptr_t, pointer), nanoseconds);
@@ -138,19 +149,28 @@ KFIFO_MUST_USE static inline kfifo_status kfifo_take_pointer_wait(kfifo_value_pa
 /* ---- Cells: the same. A call that waits never returns NO_TOKEN or FULL, and after any but DONE the cell that was
    reserved still is ---- */
 
-/* Reserves a cell, and waits at most `nanoseconds` while there is none. */
+/* Reserves a cell, and waits at most `nanoseconds` while there is none.
+
+       if (kfifo_reserve_wait(&passes[0], &cell, KFIFO_FOREVER) != KFIFO_DONE) return 1;
+*/
 KFIFO_MUST_USE static inline kfifo_status kfifo_reserve_wait(kfifo_cell_pass *pass, uint64_t *cell,
                                                              uint64_t nanoseconds) {
     KFIFO_WAITING(pass, KFIFO_WAITS_GIVER, kfifo_reserve(pass, cell));
 }
 
-/* Puts the reserved cell into the queue, and waits at most `nanoseconds` while there is no room for it. */
+/* Puts the reserved cell into the queue, and waits at most `nanoseconds` while there is no room for it.
+
+       if (kfifo_publish_wait(&passes[0], KFIFO_FOREVER) != KFIFO_DONE) return 1;
+*/
 KFIFO_MUST_USE static inline kfifo_status kfifo_publish_wait(kfifo_cell_pass *pass, uint64_t nanoseconds) {
     KFIFO_WAITING(pass, KFIFO_WAITS_GIVER, kfifo_publish_once(pass));
 }
 
 /* Takes a cell, and waits at most `nanoseconds` while there is none. The call first releases the cell that the
-   handle received before. FINISHED comes exactly where the queue was finished, and then found empty. */
+   handle received before. FINISHED comes exactly where the queue was finished, and then found empty.
+
+       if (kfifo_receive_wait(&passes[1], &cell, KFIFO_FOREVER) != KFIFO_DONE) return 1;
+*/
 KFIFO_MUST_USE static inline kfifo_status kfifo_receive_wait(kfifo_cell_pass *pass, uint64_t *cell,
                                                              uint64_t nanoseconds) {
     KFIFO_WAITING(pass, KFIFO_WAITS_TAKER, kfifo_receive_once(pass, cell));
@@ -158,6 +178,11 @@ KFIFO_MUST_USE static inline kfifo_status kfifo_receive_wait(kfifo_cell_pass *pa
 
 /* ---- Items: the same ---- */
 
+/* Puts an item, and takes one, and waits at most `nanoseconds` while there is no room or no item.
+
+       if (kfifo_put_wait(&passes[0], 7, KFIFO_FOREVER) != KFIFO_DONE) return 1;
+       if (kfifo_get_wait(&passes[1], &item, KFIFO_FOREVER) != KFIFO_DONE) return 1;
+*/
 KFIFO_MUST_USE static inline kfifo_status kfifo_put_wait(kfifo_pass *pass, uint32_t item, uint64_t nanoseconds) {
     KFIFO_WAITING(pass, KFIFO_WAITS_GIVER, kfifo_put_once(pass, item));
 }

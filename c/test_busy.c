@@ -1,5 +1,6 @@
 /* BUSY is not the user's: a call that comes to it is made again after a pause, and only the bounded calls, whose names
    end in _once, return it. The exports are wrapped by such as come to BUSY as often as they are told to. */
+#include "kfifo_many.h"
 #include "kfifo_wait.h"
 #include <stdio.h>
 
@@ -59,6 +60,16 @@ int main(void) {
     expect(kfifo_reserve(&cells, &value), KFIFO_DONE, "a cell");
     LOOKS(kfifo_publish_once, kfifo_publish, (&cells));
     LOOKS(kfifo_receive_once, kfifo_receive, (&cells, &value));
+    /* Each call of many is made again. */
+    uint64_t many[2] = {10, 11};
+    size_t count = 0;
+    left = TIMES, calls = 0;
+    expect(kfifo_give_all(&values, many, 2, &count), KFIFO_DONE, "a give of many");
+    expect(calls, TIMES + 2, "the looks of kfifo_give_all");
+    left = TIMES, calls = 0;
+    expect(kfifo_take_up_to(&values, many, 2, &count), KFIFO_DONE, "a take of many");
+    expect(calls, TIMES + 2, "the looks of kfifo_take_up_to");
+    expect((uint32_t)count, 2, "all of them");
     /* A call with a time gives up in time, and one without looks again. */
     left = UINT32_MAX;
     expect(kfifo_give_wait(&values, 9, 1000000), KFIFO_TIMED_OUT, "a give that is busy until its time is up");

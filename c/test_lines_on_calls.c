@@ -1,28 +1,70 @@
-/* The lines of kfifo.h on its calls. */
-#include "kfifo.h"
+/* The lines of kfifo.h, kfifo_wait.h and kfifo_many.h on their calls. */
+#include "kfifo_many.h"
+#include "kfifo_wait.h"
 #include <stdio.h>
 
+/* clang-format off */
 static int of_items(void) {
     kfifo_pass passes[2];
-    uint32_t item = 0;
     if (kfifo_open(1, 4, 1, KFIFO_LAST, passes, 2) != KFIFO_DONE) return 1;
+    uint32_t item = 0;
     kfifo_status put = kfifo_put(&passes[0], 7);
     kfifo_status took = kfifo_get(&passes[1], &item);
     if (put != KFIFO_DONE || took != KFIFO_DONE || item != 7) return 1;
+    if (kfifo_put_once(&passes[0], 8) == KFIFO_BUSY) puts("the item is not put, and a later call may do better");
+    if (kfifo_get_once(&passes[1], &item) == KFIFO_BUSY) puts("no item is got, and a later call may do better");
+    kfifo_status enqueued = kfifo_enqueue(&passes[0], 9, 0, 100);
+    kfifo_status dequeued = kfifo_dequeue(&passes[1], &item, 0, 100);
+    if (enqueued != KFIFO_DONE || dequeued != KFIFO_DONE || item != 9) return 1;
+    if (kfifo_put_wait(&passes[0], 7, KFIFO_FOREVER) != KFIFO_DONE) return 1;
+    if (kfifo_get_wait(&passes[1], &item, KFIFO_FOREVER) != KFIFO_DONE) return 1;
+    uint64_t ends = 0;
+    if (kfifo_word(&passes[0], 0, &ends) != KFIFO_DONE) return 1;
     if (kfifo_finish(&passes[0]) != KFIFO_DONE) abort();
     if (kfifo_get(&passes[1], &item) != KFIFO_FINISHED) return 1;
+    uint32_t left[1 * 4];
+    size_t count = 0;
+    if (kfifo_close(passes, 2, left, 1 * 4, &count) != KFIFO_DONE) return 1;
+    if (count != 0 || kfifo_open(1, 4, 1, KFIFO_LAST, passes, 2) != KFIFO_DONE) return 1;
     return kfifo_abandon(passes, 2) != KFIFO_DONE;
 }
 
 static int of_values(void) {
     kfifo_value_pass passes[2];
+    if (kfifo_open_values(1, 4, kfifo_enough_tokens(1, 4, 2), passes, 2) != KFIFO_DONE) return 1;
     uint64_t value = 0, sum = 0;
-    if (kfifo_open_values(1, 4, 8, passes, 2) != KFIFO_DONE) return 1;
     if (kfifo_give(&passes[0], 7) != KFIFO_DONE) return 1;
     while (kfifo_take(&passes[1], &value) == KFIFO_DONE) sum += value;
     if (sum != 7) return 1;
+    if (kfifo_give_once(&passes[0], 8) == KFIFO_BUSY) puts("the value is not given, and a later call may do better");
+    if (kfifo_take_once(&passes[1], &value) == KFIFO_BUSY) puts("no value is taken, and a later call may do better");
+    if (value != 8) return 1;
     if (kfifo_finish_values(&passes[0]) != KFIFO_DONE) abort();
     if (kfifo_give(&passes[0], 8) != KFIFO_FINISHED) return 1;
+    return kfifo_abandon_values(passes, 2) != KFIFO_DONE;
+}
+
+static int of_values_that_wait(void) {
+    kfifo_value_pass passes[2];
+    uint64_t value = 0, sum = 0;
+    if (kfifo_open_values_with(1, 4, 8, 64, 32, passes, 2) != KFIFO_DONE) return 1; // it changes all the time
+    if (kfifo_give_wait(&passes[0], 7, KFIFO_FOREVER) != KFIFO_DONE) return 1;
+    if (kfifo_finish_values(&passes[0]) != KFIFO_DONE) abort();
+    while (kfifo_take_wait(&passes[1], &value, KFIFO_FOREVER) == KFIFO_DONE) sum += value;
+    if (sum != 7) return 1;
+    return kfifo_abandon_values(passes, 2) != KFIFO_DONE;
+}
+
+static int of_pointers(void) {
+    kfifo_value_pass passes[2];
+    if (kfifo_open_values(1, 4, 8, passes, 2) != KFIFO_DONE) return 1;
+    int *order = malloc(sizeof *order);
+    if (kfifo_give_pointer(&passes[0], order) != KFIFO_DONE) free(order); // it is still ours
+    void *taken = NULL;
+    if (kfifo_take_pointer(&passes[1], &taken) == KFIFO_DONE) free(taken);
+    order = malloc(sizeof *order);
+    if (kfifo_give_pointer_wait(&passes[0], order, 1000000) == KFIFO_TIMED_OUT) free(order); // it is still ours
+    if (kfifo_take_pointer_wait(&passes[1], &taken, 1000000) == KFIFO_DONE) free(taken);
     return kfifo_abandon_values(passes, 2) != KFIFO_DONE;
 }
 
@@ -30,13 +72,53 @@ static int of_cells(void) {
     kfifo_cell_pass passes[2];
     uint64_t cell = 0;
     if (kfifo_open_cells(1, 4, 8, passes, 2) != KFIFO_DONE) return 1;
+    if (kfifo_reserve_wait(&passes[0], &cell, KFIFO_FOREVER) != KFIFO_DONE) return 1;
+    if (kfifo_publish_wait(&passes[0], KFIFO_FOREVER) != KFIFO_DONE) return 1;
+    if (kfifo_receive_wait(&passes[1], &cell, KFIFO_FOREVER) != KFIFO_DONE) return 1;
     if (kfifo_finish_cells(&passes[0]) != KFIFO_DONE) abort();
     if (kfifo_receive(&passes[1], &cell) != KFIFO_FINISHED) return 1;
     return kfifo_abandon_cells(passes, 2) != KFIFO_DONE;
 }
+/* clang-format on */
+
+static int of_many_values(void) {
+    kfifo_value_pass passes[2];
+    uint64_t values[64], sum = 0;
+    for (uint64_t i = 0; i < 64; i++) values[i] = i;
+    if (kfifo_open_values(1, 32, kfifo_enough_tokens(1, 32, 2), passes, 2) != KFIFO_DONE) return 1;
+    size_t given = 0;
+    kfifo_status gave = kfifo_give_all(&passes[0], values, 64, &given);
+    if (gave != KFIFO_DONE) printf("%zu of 64 are given: %s\n", given, kfifo_status_text(gave));
+    if (gave != KFIFO_FULL || given != 32) return 1;
+    size_t taken = 0;
+    while (kfifo_take_up_to(&passes[1], values, 64, &taken) == KFIFO_DONE)
+        for (size_t i = 0; i < taken; i++) sum += values[i];
+    if (sum != 31 * 32 / 2) return 1;
+    void *orders[2] = {values, &values[1]};
+    if (kfifo_give_all_pointers(&passes[0], orders, 2, &given) != KFIFO_DONE) return 1;
+    if (kfifo_take_pointers_up_to(&passes[1], orders, 2, &taken) != KFIFO_DONE) return 1;
+    if (taken != 2 || orders[0] != values) return 1;
+    return kfifo_abandon_values(passes, 2) != KFIFO_DONE;
+}
+
+static int of_many_items(void) {
+    kfifo_pass passes[2];
+    uint32_t items[64], sum = 0;
+    for (uint32_t i = 0; i < 64; i++) items[i] = i + 1;
+    if (kfifo_open(1, 32, 1, KFIFO_LAST, passes, 2) != KFIFO_DONE) return 1;
+    size_t put = 0;
+    if (kfifo_put_all(&passes[0], items, 64, &put) != KFIFO_DONE) printf("%zu of 64 are put\n", put);
+    if (put != 32) return 1;
+    size_t got = 0;
+    while (kfifo_get_up_to(&passes[1], items, 64, &got) == KFIFO_DONE)
+        for (size_t i = 0; i < got; i++) sum += items[i];
+    if (sum != 32 * 33 / 2) return 1;
+    return kfifo_abandon(passes, 2) != KFIFO_DONE;
+}
 
 int main(void) {
-    int failed = of_items() || of_values() || of_cells();
-    puts(failed ? "lines of kfifo.h fail" : "the lines of kfifo.h on its calls do what they say");
+    int failed = of_items() || of_values() || of_values_that_wait() || of_pointers() || of_cells() ||
+                 of_many_values() || of_many_items();
+    puts(failed ? "lines of the headers fail" : "the lines of the headers on their calls do what they say");
     return failed;
 }

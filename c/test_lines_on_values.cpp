@@ -1,9 +1,25 @@
-// The lines of kfifo.hpp and README.md on values, round after round. `make worn` runs them through many changes of
-// generations.
+// The lines of kfifo.hpp, docs/C.md and README.md on values, round after round. `make worn` runs them through many
+// changes of generations.
 #include "kfifo.hpp"
 
 #include <cstdio>
 #include <string>
+
+// The lines on many at once. Returns whether they do what they say.
+static bool many_at_once() {
+    kfifo::ValueQueue<std::string> queue(1, 2, 2);
+    auto giver = queue.handle(), taker = queue.handle();
+    std::vector<std::string> words{"one", "two", "three"}, read;
+    bool is_over = false;
+    auto gave = giver.give_all(kfifo::moving(words));
+    if (gave.why != kfifo::Put::done) std::printf("%zu are given: %s\n", gave.given, kfifo::text(gave.why));
+    words.erase(words.begin(), gave.rest.base()); // what is not given is still here
+    if (words != std::vector<std::string>{"three"}) return false;
+    giver.finish();
+    auto took = taker.take_up_to(64, read);
+    if (took.why == kfifo::Miss::finished) is_over = true;
+    return is_over && took.taken == 2 && read == std::vector<std::string>{"one", "two"};
+}
 
 int main() {
     constexpr int rounds = 20000;
@@ -17,5 +33,5 @@ int main() {
         if (word != "first" || taker.take().value != "xxx") return 1;
     }
     std::printf("%d words came in their order, and as many of another kind\n", rounds);
-    return 0;
+    return many_at_once() ? 0 : 1;
 }

@@ -400,7 +400,7 @@ void throws_as_taken() {
     handle.finish();
     expect(other->take().value->is(5) && other->take().why == kfifo::Miss::finished, "the end for another handle");
     int count = 0, sum = 0;
-    expect(throws(0, [&] { (void)handle.values().begin(); }), "a range that throws");
+    expect(throws(0, [&] { (void)*handle.values().begin(); }), "a range that throws");
     for (Throwing &&value : handle.values()) {
         count++;
         sum += *value.number;

@@ -1,6 +1,6 @@
-// A small model of waiting: the steps of kfifo_wait.h and wait.c over a queue that is two counters, explored over all
-// interleavings of three threads. None may end with a thread asleep. Then the same with a step left out or misplaced:
-// each of these has to be caught.
+// A small model of waiting: the steps of kfifo_wait.h, kfifo_many.h and wait.c over a queue that is two counters,
+// explored over all interleavings of three threads. None may end with a thread asleep. Then the same with a step left
+// out or misplaced: each of these has to be caught.
 #include <array>
 #include <cstdint>
 #include <cstdio>
@@ -17,6 +17,8 @@ enum class Fault {
     others_seen_before_call,
     not_handed_on,
     end_wakes_one,
+    one_woken_for_many,
+    others_seen_after_first,
     count
 };
 
@@ -52,14 +54,17 @@ struct Thread {
     bool until_end;           // it takes until the queue is finished
     bool is_announced;        // it is among those that wait
     bool is_current;          // the word that it would sleep on is what it read
+    bool of_many = false;     // it gives or takes all that is left in one call, or as much as there is room or values
     bool sees_takers = false; // what it saw of the others
     bool sees_givers = false;
+    std::uint64_t done = 0;  // how many values of this call were given or taken
+    std::uint64_t wakes = 0; // how many threads of a kind it still wakes
 
     std::uint64_t packed() const {
         std::uint64_t bits = step;
-        for (bool bit : {gives, finishes, until_end, is_announced, is_current, sees_takers, sees_givers})
+        for (bool bit : {gives, finishes, until_end, is_announced, is_current, of_many, sees_takers, sees_givers})
             bits = bits << 1 | bit;
-        return bits << 2 | left;
+        return ((bits << 2 | left) << 2 | done) << 2 | wakes;
     }
 };
 
@@ -72,7 +77,7 @@ struct State {
 
     std::uint64_t packed() const {
         std::uint64_t bits = finished;
-        for (const Thread &thread : threads) bits = bits << 14 | thread.packed();
+        for (const Thread &thread : threads) bits = bits << 19 | thread.packed();
         return (bits << 2 | head) << 2 | tail;
     }
     bool give() {
@@ -87,10 +92,10 @@ struct State {
         head--;
         return true;
     }
-    bool has_waiting(bool givers) const {
-        for (const Thread &thread : threads)
-            if (thread.gives == givers && thread.is_announced) return true;
-        return false;
+    std::uint64_t waiting(bool givers) const {
+        std::uint64_t number = 0;
+        for (const Thread &thread : threads) number += thread.gives == givers && thread.is_announced;
+        return number;
     }
     // The word that takers or givers sleep on changes.
     void change(bool of_givers) {
@@ -129,6 +134,7 @@ class Search {
     // The next call, or what comes behind the last one.
     static void begin(Thread &thread) {
         thread.sees_takers = thread.sees_givers = false;
+        thread.done = 0;
         if (thread.until_end || thread.left > 0)
             thread.step = thread.gives ? see_end : look;
         else
@@ -143,7 +149,31 @@ class Search {
         else if (thread.sees_givers)
             thread.step = change_emptied;
         else
-            begin(thread);
+            woke(thread);
+    }
+
+    // After it woke a taker and a giver: it looks at the others again, where its call was of more values.
+    void woke(Thread &thread) const {
+        if (thread.wakes > 1) {
+            thread.wakes--;
+            thread.step = see_others;
+        } else {
+            thread.wakes = 0;
+            if (fault == Fault::others_seen_after_first && thread.of_many && thread.done == 1 && thread.left > 0)
+                go_on(thread);
+            else
+                begin(thread);
+        }
+    }
+
+    // The next value of a call of many.
+    static void go_on(Thread &thread) { thread.step = thread.gives ? see_end : look; }
+
+    // How many threads a call wakes that was of so many values: as many as wait, but one at least is looked for.
+    std::uint64_t wakes_of(const State &state, const Thread &thread) const {
+        std::uint64_t most = state.waiting(!thread.gives);
+        if (thread.done < most) most = thread.done;
+        return most > 1 && fault != Fault::one_woken_for_many ? most : 1;
     }
 
     // After the look of a call: it was done, or found the queue full or empty.
@@ -152,8 +182,20 @@ class Search {
             // It no longer waits a step before it looks at the others, which only makes it wake fewer.
             leave(thread);
             if (!thread.until_end) thread.left--;
-            thread.step = see_others;
+            thread.done++;
+            if (!thread.of_many || thread.left == 0)
+                thread.step = see_others;
+            else
+                go_on(thread);
             if (fault == Fault::others_seen_before_call) wake_others(thread);
+            if (fault == Fault::others_seen_after_first && thread.of_many) {
+                if (thread.done == 1)
+                    thread.step = see_others;
+                else if (thread.left == 0)
+                    begin(thread);
+            }
+        } else if (thread.done > 0) {
+            thread.step = see_others; // the call of many ends where the queue is full or empty
         } else {
             thread.step = !thread.gives ? see_end_empty : thread.is_announced ? sleep : announce;
         }
@@ -179,10 +221,11 @@ class Search {
             if (state.finished) {
                 leave(thread);
                 thread.left = 0;
-                begin(thread);
+                thread.step = see_others;
+                if (thread.done == 0) begin(thread);
             } else {
                 thread.step = look;
-                if (fault == Fault::others_seen_before_call) thread.sees_takers = state.has_waiting(false);
+                if (fault == Fault::others_seen_before_call) thread.sees_takers = state.waiting(false) > 0;
             }
             return {state};
         case look: looked(thread, thread.gives ? state.give() : state.take()); return {state};
@@ -217,8 +260,9 @@ class Search {
             thread.step = thread.gives ? see_end : look;
             return {state};
         case see_others:
-            thread.sees_takers = thread.gives && state.has_waiting(false);
-            thread.sees_givers = state.has_waiting(true);
+            if (thread.wakes == 0) thread.wakes = wakes_of(state, thread);
+            thread.sees_takers = thread.gives && state.waiting(false) > 0;
+            thread.sees_givers = state.waiting(true) > 0;
             wake_others(thread);
             return {state};
         case change_filled:
@@ -233,7 +277,7 @@ class Search {
             if (fault != Fault::word_not_changed) state.change(true);
             thread.step = wake_giver;
             return {state};
-        case wake_giver: begin(thread); return wakes(state, true, false);
+        case wake_giver: woke(thread); return wakes(state, true, false);
         case set_end:
             state.finished = true;
             thread.step = end_filled;
@@ -258,6 +302,10 @@ Thread giver(std::uint64_t values, bool finishes = false) {
     return {see_end, true, values, finishes, false, false, false};
 }
 Thread taker(std::uint64_t values) { return {look, false, values, false, false, false, false}; }
+Thread of_many(Thread thread) {
+    thread.of_many = true;
+    return thread;
+}
 Thread taker_until_end() { return {look, false, 0, false, true, false, false}; }
 Thread finisher() { return {set_end, true, 0, true, false, false, false}; }
 
@@ -277,6 +325,12 @@ std::vector<State> beginnings() {
         ring(1, 2, giver(2, true), taker(2), taker_until_end()),
         ring(1, 2, giver(1), giver(2), finisher()),
         ring(1, 0, taker_until_end(), taker_until_end(), finisher()),
+        ring(2, 0, of_many(giver(2)), taker(1), taker(1)),
+        ring(1, 0, of_many(giver(3)), taker(1), taker(2)),
+        ring(2, 4, giver(1), giver(1), of_many(taker(2))),
+        ring(1, 2, of_many(giver(2)), giver(1), of_many(taker(3))),
+        ring(2, 0, of_many(giver(3)), of_many(taker(2)), taker(1)),
+        ring(1, 2, of_many(giver(2, true)), taker_until_end(), of_many(taker(2))),
     };
 }
 

@@ -144,7 +144,7 @@ static inline void kfifo_log_begin_(kfifo_log *log, bool enqueues, uint64_t item
     kfifo_log_fence_();
 }
 
-/* Makes the log of a thread, with room for so many calls. False where there is no memory or no clock, or the thread
+/* Makes the log of a thread, with room for this many calls. False where there is no memory or no clock, or the thread
    is over 63. */
 static inline bool kfifo_log_open(kfifo_log *log, unsigned thread, size_t calls) {
     struct timespec now;

@@ -8,7 +8,7 @@ How to use it:
     below 64.
  3. Make each call through it: `log.enqueue(item, queue.put_nowait)` and `log.dequeue(queue.get_nowait)`. An enqueue
     that raises `queue.Full` or returns False is logged as full, and a dequeue that raises `queue.Empty` or returns
-    None as empty. For other answers call `begin_enqueue(item)` or `begin_dequeue()`, and behind the call
+    None as empty. For other answers call `begin_enqueue(item)` or `begin_dequeue()`, and after the call
     `end(answer)`, or `end("got", item)`.
  4. Give each item a number of its own, 1 to 16,777,215, as from a counter of each producer that starts where no other
     gets to.
@@ -38,7 +38,7 @@ class MissedCalls(Exception):
 
 
 class ThreadLog:
-    """The log of one thread, with room for so many calls."""
+    """The log of one thread, with room for this many calls."""
 
     def __init__(self, thread, calls):
         if not 0 <= thread <= 63:

@@ -87,7 +87,7 @@ pub struct ThreadLog {
     origin: Instant,
 }
 
-/// Makes the logs of the threads 0, 1 and so on, each with room for so many calls.
+/// Makes the logs of the threads 0, 1 and so on, each with room for `calls` calls.
 ///
 /// # Panics
 ///
@@ -179,7 +179,7 @@ impl ThreadLog {
     }
 }
 
-/// The fields of a call in CSV, behind its thread.
+/// The fields of a call in CSV, after its thread.
 fn fields(first: u64, call: Call) -> String {
     match call {
         Call::Enqueue(item, None) => format!("enq,{item},{first},,"),

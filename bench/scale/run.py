@@ -1,9 +1,9 @@
 #!/usr/bin/env python3
-"""Simulates queues on up to 64 cores by scale.cpp, and writes docs/bench/scale.json, its picture, and the section of
-docs/PERFORMANCE.md, whose text is section.md with the figures of the table.
+"""Simulates queues on up to 64 cores by scale.cpp, and writes docs/bench/scale.json, its picture, and, with the figures
+of the table, the section of docs/PERFORMANCE.md, whose text is section.md, and docs/bench/scale.md, from details.md.
 
     bench/scale/run.py             simulates all, and writes all
-    bench/scale/run.py --page      writes the picture and the page from the table that is there
+    bench/scale/run.py --page      writes the picture and the pages from the table that is there
 
 It needs a compiler for C++20, and for the picture python3-matplotlib. The same sources give the same table.
 """
@@ -22,7 +22,7 @@ HERE = Path(__file__).resolve().parent
 DOCS = HERE.parent.parent / "docs"
 PROGRAM = HERE / "out/scale"
 TABLE, PICTURE, PAGE = DOCS / "bench/scale.json", DOCS / "bench/scale.svg", DOCS / "PERFORMANCE.md"
-MEASURED = DOCS / "bench/table.md"
+MEASURED, DETAILS = DOCS / "bench/table.md", DOCS / "bench/scale.md"
 HEADING = "## More processors than four"
 CAPACITY, SEEDS = 1024, 3
 THREADS = [1, 2, 4, 8, 16, 32, 64]
@@ -223,22 +223,27 @@ def figure(table, words):
     return f"{value:.0f}" if value >= 9.95 else f"{value:.1f}"
 
 
-def section(table):
-    """Returns the section of the page."""
+def filled(table, template):
+    """Returns the text of a template with the figures of the table."""
     parts = {"compared": compared_grid(compared(table)), "changed": changes_grid(table)}
     for load in LOADS:
         for work in WORK:
             parts[f"rates {load}" + " with work" * bool(work)] = rates_grid(table, load, work)
-    text = (HERE / "section.md").read_text()
+    text = (HERE / template).read_text()
     text = re.sub(r"\{([^}]+)\}", lambda it: parts[it[1]] if it[1] in parts else figure(table, it[1]), text)
     return "\n\n".join(wrapped(part) for part in text.split("\n\n"))
 
 
 def wrapped(part):
-    """Returns a part of a page, whose lines have at most 120 columns if it is a paragraph."""
+    """Returns a part of a page, whose lines have at most 120 columns if it is a paragraph or a list."""
     if re.match(r"[|#!]", part):
         return part
-    return textwrap.fill(part.replace("\n", " "), 120, break_long_words=False, break_on_hyphens=False)
+    items = re.split(r"\n(?=- )", part)
+    return "\n".join(
+        textwrap.fill(" ".join(it.split()), 120, subsequent_indent="  " * it.startswith("- "), break_long_words=False,
+                      break_on_hyphens=False)
+        for it in items
+    )
 
 
 def page_with(text, part):
@@ -301,7 +306,7 @@ def text_of(tables):
 
 def main():
     parser = argparse.ArgumentParser(description=__doc__, formatter_class=argparse.RawDescriptionHelpFormatter)
-    parser.add_argument("--page", action="store_true", help="writes the picture and the page alone")
+    parser.add_argument("--page", action="store_true", help="writes the picture and the pages alone")
     if not parser.parse_args().page:
         build()
         rows = [row_of(queue, *load, work) for work in WORK for load in loads() for queue in QUEUES]
@@ -309,7 +314,8 @@ def main():
         TABLE.write_text(text_of({"rows": rows, "changed": other, "fitted": [fit(transfer) for transfer in FITTED]}))
     table = Table.load()
     draw(table)
-    PAGE.write_text(page_with(PAGE.read_text(), section(table)))
+    PAGE.write_text(page_with(PAGE.read_text(), filled(table, "section.md")))
+    DETAILS.write_text(filled(table, "details.md"))
 
 
 if __name__ == "__main__":

@@ -45,9 +45,13 @@ mod error;
 mod ffi;
 #[cfg(feature = "judge")]
 pub mod judge;
+mod many;
 mod shared;
+mod values;
 
 pub use error::{OpenError, PopError, PushError};
+pub use many::PushAllError;
+pub use values::{IntoValues, TryValues, Values};
 
 use shared::{Looks, Shared, User};
 use std::cell::Cell;
@@ -491,23 +495,6 @@ impl<T> Handle<T> {
         }
     }
 
-    /// The values that come, until the queue is finished and empty; it sleeps while there is none.
-    ///
-    /// It ends also where [`Handle::pop`] answers `Worn`: a further `pop` says which of the two it was.
-    ///
-    /// ```
-    /// let queue = kfifo::Queue::new(1, 64, 1)?;
-    /// let handle = queue.handle().expect("a handle is free");
-    /// handle.push("a").expect("there is room");
-    /// handle.push("b").expect("there is room");
-    /// queue.finish();
-    /// assert_eq!(handle.values().collect::<Vec<_>>(), ["a", "b"]);
-    /// # Ok::<(), kfifo::OpenError>(())
-    /// ```
-    pub fn values(&self) -> Values<'_, T> {
-        Values { handle: self }
-    }
-
     /// A guard that finishes the queue when it is dropped, also by a panic, so that no thread sleeps on.
     ///
     /// ```
@@ -564,21 +551,6 @@ fn enough_tokens(k: u32, segments: u32, handles: usize) -> u32 {
 /// A time in nanoseconds. One beyond the clock, some 584 years, is for ever.
 fn nanoseconds_of(time: Duration) -> u64 {
     u64::try_from(time.as_nanos()).unwrap_or(ffi::FOREVER)
-}
-
-/// The values that come out of a queue until its end: [`Handle::values`].
-#[derive(Debug)]
-#[must_use = "it takes values only when it is asked for them"]
-pub struct Values<'a, T> {
-    handle: &'a Handle<T>,
-}
-
-impl<T> Iterator for Values<'_, T> {
-    type Item = T;
-
-    fn next(&mut self) -> Option<T> {
-        self.handle.pop_wait().ok()
-    }
 }
 
 impl<T> Drop for Handle<T> {

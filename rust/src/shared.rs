@@ -1,4 +1,6 @@
 //! What a queue and its handles share: the passes of the C library, which of them are in use, and the cells.
+mod many;
+
 use crate::Versions;
 use crate::cells::Cells;
 use crate::error::{OpenError, PopError, PushError};
@@ -119,7 +121,7 @@ pub(crate) enum Looks {
     Once,
     /// Until it is not busy.
     UnlessBusy,
-    /// Until it comes to something, with sleep between, for so many nanoseconds at most.
+    /// Until it comes to something, with sleep between, for this many nanoseconds at most.
     Within(u64),
 }
 
@@ -310,11 +312,11 @@ impl<T> Shared<T> {
         status
     }
 
-    /// One look for a value. It wakes who waits for room, unless it found one: then `move_out` does so.
+    /// One look for a value. It wakes who waits for room, unless it found one: then the caller does so.
     ///
     /// # Safety
     ///
-    /// As of `pop`. After GOT `move_out` of the cell comes next.
+    /// As of `pop`. After GOT the value of the cell is moved out next.
     unsafe fn look(&self, number: usize, cell: &mut u64) -> u32 {
         // SAFETY: as of `reserve` in `publish`.
         let status = unsafe { ffi::kfifo_c_receive(self.passes.at(number), cell) };
@@ -453,6 +455,19 @@ impl<T> Shared<T> {
     /// No other call uses the pass at the same time.
     pub(crate) unsafe fn pop(&self, number: usize, looks: Looks) -> Result<T, PopError> {
         let _call = self.enter(number, "a pop");
+        // SAFETY: as the caller says, and the cell has just been received.
+        unsafe {
+            self.receive_by(number, looks)
+                .map(|cell| self.move_out(number, cell))
+        }
+    }
+
+    /// Receives a cell, and looks for one so often.
+    ///
+    /// # Safety
+    ///
+    /// As of `pop`. The cell is this pass's until its next receive or release.
+    unsafe fn receive_by(&self, number: usize, looks: Looks) -> Result<u64, PopError> {
         let mut cell = 0;
         // SAFETY: as in `push`. GOT ends the calls.
         let mut receive = || unsafe { self.receive(number, &mut cell) };
@@ -461,8 +476,7 @@ impl<T> Shared<T> {
             status = self.again(number, ffi::TAKER, looks, status, receive);
         }
         match status {
-            // SAFETY: the cell has just been received.
-            ffi::GOT => Ok(unsafe { self.move_out(number, cell) }),
+            ffi::GOT => Ok(cell),
             ffi::EMPTY => Err(PopError::Empty),
             ffi::BUSY => Err(PopError::Busy),
             ffi::TIMED_OUT => Err(PopError::TimedOut),

@@ -98,6 +98,26 @@ pub unsafe extern "C" fn channel_receive(channel: *const Channel, value: *mut [u
 }
 
 /// # Safety
+/// As of `channel_send`. Returns false where the channel is full.
+#[no_mangle]
+pub unsafe extern "C" fn channel_try_send(channel: *const Channel, value: *const [u64; 2]) -> bool {
+    (*channel).0.try_send(*value).is_ok()
+}
+
+/// # Safety
+/// As of `channel_receive`. Returns false where the channel is empty.
+#[no_mangle]
+pub unsafe extern "C" fn channel_try_receive(channel: *const Channel, value: *mut [u64; 2]) -> bool {
+    match (*channel).1.try_recv() {
+        Ok(received) => {
+            *value = received;
+            true
+        }
+        Err(_) => false,
+    }
+}
+
+/// # Safety
 /// As of `channel_send`; nobody uses the channel any more.
 #[no_mangle]
 pub unsafe extern "C" fn channel_free(channel: *mut Channel) {

@@ -1,8 +1,16 @@
-//! The shape of the queues of C.
-ghost use Rattle.std.specs.Prelude.{◌≡◌, Some, true, MatchResult};
+//! The shape of the queues of C, and the queues of that shape that renew.
+ghost use Rattle.std.specs.Prelude.{◌≡◌, ◌<◌, ◌≤◌, ◌⊎◌, ◌↔◌, IfOk, IsErrOf, Some, true, MatchResult, length};
+ghost use Rattle.kfifo_model.specs.declared.calls.TheConstants.{MAX_THREADS};
 ghost use Rattle.kfifo_words.specs.Sizes.{fault_of};
+ghost use Rattle.kfifo_live.specs.Payloads.{pay_opening};
+ghost use Rattle.kfifo_live.specs.declared.fault.OpenFault.TheVariants.{ThreadsOutOfRange, TokensOutOfRange};
+ghost use Rattle.kfifo_live.specs.declared.payload.opening.TheConstants.{MAX_TOKENS};
+ghost use Rattle.kfifo_renewing.specs.Renewing.{HaveOne};
+ghost use Rattle.kfifo_renewing.specs.declared.fault.RenewFault.TheVariants.{Open, ReserveOutOfRange};
 
+use kfifo_renewing::{RenewFault, RenewingHandle, open};
 use kfifo_words::{Shape, ShapeFault};
+use std::alloc::Global;
 
 /// The shape of these sizes, whose enqueues hold again, or their first fault.
 pub(crate) fn shape_of(k: u32, segments: u32, last: u64, probes: u32) -> Result<Shape, ShapeFault>
@@ -13,4 +21,24 @@ pub(crate) fn shape_of(k: u32, segments: u32, last: u64, probes: u32) -> Result<
         Ok(shape) => Ok(shape.holding_again()),
         Err(fault) => Err(fault),
     }
+}
+
+/// Opens a queue that renews, as `kfifo_renewing::open`. Its generations have this shape, whose enqueues hold again.
+pub(crate) fn open_renewing<T: Drop>(
+    alloc: Global,
+    shape: Shape,
+    threads: u32,
+    tokens: u32,
+    reserve: u64,
+) -> Result<Vec<RenewingHandle<T>>, RenewFault>
+    requires again { shape.holds_again ≡ true }
+    ensures ok { IfOk result (λ handles. HaveOne (pay_opening shape threads tokens) handles.items
+        × (length handles.items ≡ threads)) }
+    ensures reserve { IsErrOf result ReserveOutOfRange ↔ (shape.last ≤ reserve) }
+    ensures threads { IsErrOf result (Open ThreadsOutOfRange) ↔ ((reserve < shape.last)
+        × ((threads ≡ 0) ⊎ (MAX_THREADS < threads))) }
+    ensures tokens { IsErrOf result (Open TokensOutOfRange)
+        ↔ ((reserve < shape.last) × (1 ≤ threads) × (threads ≤ MAX_THREADS) × ((tokens ≡ 0) ⊎ (MAX_TOKENS < tokens))) }
+{
+    open(alloc, shape, threads, tokens, reserve)
 }

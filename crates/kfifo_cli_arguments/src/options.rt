@@ -104,7 +104,8 @@ pub fn with_turns<'a>(alloc: Global, command: Command<'a>) -> Result<Command<'a>
         .value_parser(value_parser!(u16).range(1..))
         .default_value("2")
         .help(
-            "Rounds that a call makes before it returns busy,\n1 to 65535; segments plus 2 are enough for a call\nthat no other disturbs",
+            "Rounds that a call makes before it returns busy,\n1 to 65535; segments plus 2 are enough for a call\n\
+             that no other disturbs",
         );
     command.arg(turns)
 }

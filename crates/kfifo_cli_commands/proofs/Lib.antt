@@ -10,4 +10,5 @@ pub mod Drawing
 pub mod Picturing
 pub mod Endings
 pub mod EventLines
+pub mod Counts
 pub mod Filing

@@ -1,6 +1,7 @@
 -- What the command `judge` says of several files. Of what is in a file nothing is known.
 use Rattle.std.specs.Prelude.{ℕ, ◌≡◌, ◌⊎◌, Bool, List, [], ◌++◌, Some, MatchBool, codes, cond, map}
-use Rattle.std.specs.List.{FoldsTo}
+use Rattle.std.specs.Prelude.{string_bytes}
+use Rattle.std.specs.List.{All, FoldsTo}
 use denote.Ref.{Bor}
 use Rattle.kfifo_model.specs.declared.calls.Call.{Call}
 use Rattle.kfifo_model.specs.declared.logged.LoggedCall.{LoggedCall}
@@ -13,6 +14,7 @@ use Rattle.kfifo_cli_texts.specs.Faults.{fault_text}
 use Rattle.kfifo_cli_texts.specs.declared.fault.Fault.{Fault}
 use Rattle.kfifo_cli_texts.specs.declared.fault.Fault.TheVariants.{Input, Memory}
 use Rattle.kfifo_cli_requests.specs.declared.requests.JudgeFilesOptions.{JudgeFilesOptions}
+use Rattle.kfifo_cli_commands.specs.declared.commands.judge_files.Pending.{Pending}
 use Rattle.kfifo_cli_commands.specs.declared.tally.Found.{Found}
 use Rattle.kfifo_cli_commands.specs.declared.tally.Found.TheVariants.{Judged, Unjudged}
 use Rattle.kfifo_cli_commands.specs.declared.tally.Tally.{Tally}
@@ -72,3 +74,12 @@ pub record IsJudgeFiles (options : JudgeFilesOptions) (text : List ℕ) (status 
   pub judged : AreJudged options options.files.now lines tally
   pub text_is : text ≡ lines ++ summary options tally
   pub ended : status ≡ status_number (tally_status tally)
+
+-- the spare line of a file says that memory ran out
+abbrev pub IsSpare : JudgeFilesOptions → Pending → Type 0
+IsSpare options file = IsFaultLine options.json file.name.now Memory (string_bytes file.spare)
+
+-- these are the files that the options name, with their spare lines
+abbrev pub ArePending : JudgeFilesOptions → List Pending → Type 0
+ArePending options pending = (map (λ file. file.name.now) pending ≡ map (λ name. name.now) options.files.now)
+    × All (IsSpare options) pending

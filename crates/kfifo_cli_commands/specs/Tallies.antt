@@ -4,6 +4,7 @@ use Rattle.kfifo_judge.specs.declared.outcome.Outcome.TheVariants.{Answered, Uno
 use Rattle.kfifo_cli_requests.specs.declared.requests.JudgeFilesOptions.{JudgeFilesOptions}
 use Rattle.kfifo_cli_commands.specs.declared.status.Status.{Status}
 use Rattle.kfifo_cli_commands.specs.declared.status.Status.TheVariants as statuses
+use Rattle.kfifo_cli_commands.specs.declared.tally.Count.{Count}
 use Rattle.kfifo_cli_commands.specs.declared.tally.Found.{Found}
 use Rattle.kfifo_cli_commands.specs.declared.tally.Found.TheVariants.{Judged, Unjudged}
 use Rattle.kfifo_cli_commands.specs.declared.tally.Tally.{Tally}
@@ -42,3 +43,7 @@ counts_line t = codes "legal " ++ (decimal t.legal ++ (codes ", no order " ++ (d
 abbrev pub summary : JudgeFilesOptions → Tally → List ℕ
 summary options t = cond options.json [] ((codes "files " ++ (decimal (length options.files.now)
     ++ (codes " for k = " ++ (decimal options.k ++ codes ": ")))) ++ counts_line t)
+
+-- a number of the last line behind what stands before it
+abbrev pub counted : Count → List ℕ
+counted count = count.before.now ++ decimal count.number

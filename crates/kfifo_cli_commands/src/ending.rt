@@ -172,10 +172,7 @@ fn answer<H: Threads + Files + Sync, S: Source, W: Write, P: Progress>(
             Ok(status)
         }
         Request::JudgeFiles(options) => {
-            let said = judge_files::answer(alloc, rt, options, progress);
-            progress.ended();
-            let (text, status) = said?;
-            output.print(text.as_bytes())?;
+            let status = judge_files::answer(alloc, rt, options, output, progress)?;
             Ok(status)
         }
         Request::Least(options) => {

@@ -99,14 +99,17 @@ fn words_of(fault: Fault) -> &'static str {
             "there is no evidence for this k, and there are over 4,096 calls: draw a part by --calls or --lines"
         }
         Fault::Contradiction => {
-            "--evidence and --order, --text and --width, or --calls and --lines are given together, or --around without --evidence"
+            "--evidence and --order, --text and --width, or --calls and --lines are given together, or --around \
+             without --evidence"
         }
         Fault::Stretch => {
-            "the value of --calls or --lines is no stretch: allowed is <A>-<B>, two numbers of 1 to 10 digits, A at most B"
+            "the value of --calls or --lines is no stretch: allowed is <A>-<B>, two numbers of 1 to 10 digits, \
+             A at most B"
         }
         Fault::NoLines => "--lines is given, and the input is a record: allowed is a log in CSV",
         Fault::Unexplained => {
-            "no fault and no answer begins with these words: allowed are those that the program prints, and names as NeverPut, status 3 and KFIFO_FULL"
+            "no fault and no answer begins with these words: allowed are those that the program prints, and names \
+             as NeverPut, status 3 and KFIFO_FULL"
         }
         _ => NO_MEMORY,
     }

@@ -170,21 +170,22 @@ pub fn read_calls_given<H: Files, S: Source>(
 }
 
 /// The calls of an input. Where its first byte that is no white space is `[` it is a record in JSON, read as `check`
-/// reads it and with its faults; else it is a log in CSV, read as `import` reads it and with its faults, except that a get
-/// of an item that no call can put is none. An input of
-/// white space alone is a log that lacks its header. One with no byte is neither: the command before it in a pipe has
-/// probably failed.
+/// reads it and with its faults; else it is a log in CSV, read as `import` reads it and with its faults, except that a
+/// get of an item that no call can put is none. An input of white space alone is a log that lacks its header. One with
+/// no byte is neither: the command before it in a pipe has probably failed.
+///
+/// The bytes are freed before anything is made of the calls: those of a long log take much memory.
 pub(crate) fn read_calls<P: Progress>(
     alloc: Global,
-    bytes: &[u8],
+    bytes: Vec<u8>,
     progress: &mut P,
 ) -> Result<Calls, Failure>
     ensures { MatchResult result (λ calls.
-        IsCalls bytes.now calls.history (option_map (λ logged. logged.items) calls.logged))
-        (λ failure. IsNoCalls bytes.now failure.fault) }
+        IsCalls bytes.items calls.history (option_map (λ logged. logged.items) calls.logged))
+        (λ failure. IsNoCalls bytes.items failure.fault) }
 {
     progress.begun(Stage::Parsing(bytes.len()));
-    let calls = parse_calls(alloc, bytes)?;
+    let calls = parse_calls(alloc, bytes.as_slice())?;
     progress.begun(Stage::Judging(calls.history.calls().len()));
     Ok(calls)
 }

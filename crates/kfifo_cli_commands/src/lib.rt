@@ -7,6 +7,7 @@ mod cut;
 mod ending;
 mod explaining;
 mod failure;
+mod file_line;
 mod input;
 mod progress;
 mod start;

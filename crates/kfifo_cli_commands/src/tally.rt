@@ -1,13 +1,13 @@
 //! How many of several files had which verdict.
-ghost use Rattle.std.specs.Prelude.{◌≡◌, ◌≢◌, ◌^◌, ◌++◌, OnOk, string_bytes};
-ghost use Rattle.kfifo_cli_commands.specs.Tallies.{IsBelow, counts_line, none, summary, tallied, tally_status};
+ghost use Rattle.std.specs.Prelude.{◌≡◌, ◌≢◌, ◌^◌, ◌++◌, IfErr, MatchBool, OnErr, OnOk, codes, false, flat_map};
+ghost use Rattle.kfifo_cli_texts.specs.Printing.{Breaks, Writes};
+ghost use Rattle.kfifo_cli_commands.specs.Tallies.{IsBelow, counted, none, summary, tallied, tally_status};
 
 use crate::status::Status;
 use kfifo_cli_requests::JudgeFilesOptions;
-use kfifo_cli_texts::Fault;
+use kfifo_cli_texts::{Fault, Printer};
 use kfifo_judge::Outcome;
-use std::alloc::AllocError;
-use std::fmt::Write;
+use std::io::Write;
 
 /// What came of judging a file.
 #[derive(Clone, Copy)]
@@ -77,30 +77,75 @@ impl Tally {
     }
 }
 
-/// Adds how many files had which verdict.
-fn push_counts(text: &mut String, tally: Tally) -> Result<(), AllocError>
-    ensures { OnOk result (string_bytes text.new ≡ string_bytes text.old ++ counts_line tally) }
-{
-    let (legal, unordered) = (tally.legal, tally.unordered);
-    let (undecided, unjudged) = (tally.undecided, tally.unjudged);
-    writeln!(
-        text,
-        "legal {legal}, no order {unordered}, undecided {undecided}, fault {unjudged}"
-    )
+/// A number of the last line, and what stands before it.
+#[derive(Clone, Copy)]
+struct Count {
+    before: &'static str,
+    number: usize,
 }
 
-/// Adds the last line of what is said of several files, which have the others.
-pub(crate) fn push_summary(
-    text: &mut String,
+/// Writes these numbers, each behind what stands before it. Returns false where a call failed.
+fn write_counts<W: Write>(counts: &[Count], output: &mut Printer<'_, W>) -> bool
+    ensures { let text = flat_map counted counts.now in MatchBool result
+        (Writes W.contents output.old text output.new) (Breaks W.contents output.old text output.new) }
+{
+    for count in counts {
+        if !output.write_number(count.before, Some(count.number)) {
+            return false;
+        }
+    }
+    true
+}
+
+/// The numbers of the last line.
+fn counts_of(options: JudgeFilesOptions<'_>, tally: Tally) -> [Count; 6]
+    ensures { (options.entry.json ≡ false) → flat_map counted result ++ codes "\n" ≡ summary options.entry tally }
+{
+    [
+        Count {
+            before: "files ",
+            number: options.files.len(),
+        },
+        Count {
+            before: " for k = ",
+            number: options.k as usize,
+        },
+        Count {
+            before: ": legal ",
+            number: tally.legal,
+        },
+        Count {
+            before: ", no order ",
+            number: tally.unordered,
+        },
+        Count {
+            before: ", undecided ",
+            number: tally.undecided,
+        },
+        Count {
+            before: ", fault ",
+            number: tally.unjudged,
+        },
+    ]
+}
+
+/// Prints the last line of what is said of several files, which have the others. It takes no memory, so that an answer
+/// never lacks it.
+pub(crate) fn print_summary<W: Write>(
     options: JudgeFilesOptions<'_>,
     tally: Tally,
-) -> Result<(), AllocError>
-    ensures { OnOk result (string_bytes text.new ≡ string_bytes text.old ++ summary options.entry tally) }
+    output: &mut Printer<'_, W>,
+) -> Result<(), Fault>
+    ensures ok { OnOk result (Writes W.contents output.old (summary options.entry tally) output.new) }
+    ensures err { OnErr result (Breaks W.contents output.old (summary options.entry tally) output.new) }
+    ensures fault { IfErr result (λ fault. fault ≡ Fault.Output) }
 {
     if options.json {
         return Ok(());
     }
-    let (count, k) = (options.files.len(), options.k);
-    write!(text, "files {count} for k = {k}: ")?;
-    push_counts(text, tally)
+    let counts = counts_of(options, tally);
+    if !write_counts(&counts, output) {
+        return Err(Fault::Output);
+    }
+    output.print(b"\n")
 }

@@ -34,8 +34,8 @@ abbrev pub AllSeal : List Event → Type 0
 AllSeal [] = Unit {0}
 AllSeal (e ∷ es) = (e.begin ≡ Some Seal) × AllSeal es
 
--- The queue was sealed empty: it was found empty, then came a seal, or none where it was sealed before, and now its ends
--- are sealed
+-- The queue was sealed empty: it was found empty, then came a seal (none where it was sealed before), and now its
+-- ends are sealed
 pub record SealedEmpty (shape : Shape) (threads : ℕ) (events : List Event) : Type 0 where
   pub found : List Event
   pub seals : List Event
@@ -46,8 +46,8 @@ pub record SealedEmpty (shape : Shape) (threads : ℕ) (events : List Event) : T
   pub reached : after shape threads events ≡ Some here
   pub sealed : IsSealed shape (word_at here 0)
 
--- A queue that was sealed empty stays so: however its schedule goes on, wherever all calls have ended no item is left in
--- any slot
+-- A queue that was sealed empty stays so: however its schedule goes on, wherever all calls have ended no item is left
+-- in any slot
 abbrev pub StaysEmpty : Shape → ℕ → Type 0
 StaysEmpty shape threads = (events more : List Event) (here : World) → SealedEmpty shape threads events
     → after shape threads (events ++ more) ≡ Some here → ((thread : ℕ) → place_of here thread ≡ None)

@@ -17,7 +17,7 @@ use Rattle.kfifo_linear.specs.Seals.{SealedEmpty}
 use Rattle.kfifo_linear.proofs.Seals.{stays_empty}
 use Rattle.kfifo_live.specs.Schedule.{world_after}
 use Rattle.kfifo_live.specs.Left.{item_in, slots_left, segments_left, items_left}
-use Rattle.kfifo_live.specs.Pass.{PassView, AllSeen, IsComplete, AllIdle, OneSealedEmpty}
+use Rattle.kfifo_live.specs.Pass.{PassView, AllSeen, AllIdle, HaveAllThreads, OneSealedEmpty}
 
 -- where the pass of a thread is among these, its thread is idle after the whole schedule
 idle_of : (o : Opening) (ps : List PassView) (all : List Event) (world : World) (thread : ℕ) → world_after o all ≡ Some world
@@ -43,10 +43,10 @@ unfolding place_of
 no_thread world thread le = beyond world.places thread None le
 
 all_idle : (o : Opening) (ps : List PassView) (all : List Event) (world : World) → world_after o all ≡ Some world → AllSeen ps all
-    → AllIdle o ps → IsComplete o.threads ps → (thread : ℕ) → place_of world thread ≡ None
+    → AllIdle o ps → HaveAllThreads o.threads ps → (thread : ℕ) → place_of world thread ≡ None
 all_idle o ps all world reached seen idle complete thread =
     elim (cases_lt thread o.threads) [
-      | inl lt ↦ idle_of o ps all world thread reached seen idle (complete.each thread lt)
+      | inl lt ↦ idle_of o ps all world thread reached seen idle (complete thread lt)
       | inr ge ↦ no_thread world thread (let e = sound_threads o.shape o.threads all world reached in omega arith)
     ]
 
@@ -93,7 +93,7 @@ none_left shape threads all world reached none =
 
 -- so a queue that one of its passes saw sealed empty has no items when it is closed
 pub sealed_closes : (o : Opening) (ps : List PassView) (all : List Event) (world : World) → o.threads ≤ 64 → world_after o all ≡ Some world
-    → AllSeen ps all → AllIdle o ps → IsComplete o.threads ps → OneSealedEmpty o ps → items_left o.shape world.words ≡ []
+    → AllSeen ps all → AllIdle o ps → HaveAllThreads o.threads ps → OneSealedEmpty o ps → items_left o.shape world.words ≡ []
 sealed_closes o ps all world few reached seen idle complete one =
     let s = saw o ps all seen one in
     none_left o.shape o.threads all world reached

@@ -9,7 +9,7 @@ use Rattle.kfifo_machine.proofs.Sound.{sound_ends}
 use Rattle.kfifo_live.proofs.Types.{Event, Opening, Part, View}
 use Rattle.kfifo_machine.specs.Runs.{Begins}
 use Rattle.kfifo_live.specs.Hands.{Gifts}
-use Rattle.kfifo_live.specs.Payloads.{EndsIn, PayPassView}
+use Rattle.kfifo_live.specs.Payloads.{EndsIn, PayPassView, passes_of}
 use Rattle.kfifo_live.specs.Schedule.{world_after, gifts_of, seen_of, AllBegin, AllGiven, OneSchedule}
 use Rattle.kfifo_live.specs.Left.{items_left}
 use Rattle.kfifo_live.specs.Balance.{times, undos, takes}
@@ -36,6 +36,11 @@ pub all_idle_push : (o : Opening) (ps : List PassView) (p : PassView) → AllIdl
     → ((here : World) → world_after o p.seen ≡ Some here → place_of here p.thread ≡ None) → AllIdle o (ps ++ p ∷ [])
 all_idle_push o [] p idle mine = (mine, tt)
 all_idle_push o (x ∷ ps) p idle mine = (idle.0, all_idle_push o ps p idle.1 mine)
+
+pub pays_idle_push : {T : Type 0} (o : Opening) (ps : List (PayPassView T)) (p : PayPassView T) → AllIdle o (passes_of ps)
+    → ((here : World) → world_after o p.pass.seen ≡ Some here → place_of here p.pass.thread ≡ None) → AllIdle o (passes_of (ps ++ p ∷ []))
+pays_idle_push o [] p idle mine = (mine, tt)
+pays_idle_push o (x ∷ ps) p idle mine = (idle.0, pays_idle_push o ps p idle.1 mine)
 
 -- a pass is in no call
 pub pass_idle : {T : Type 0} (o : Opening) (thread : ℕ) (me : Me (Option T) (View T)) (p : PassView) → IsPass thread me
@@ -90,7 +95,7 @@ closes q ps items table_words slots key id v w rest last opened ps_are gathered 
       balance = λ item. balance q.opened kept.all kept.world item reached
           ∙ ap (λ xs. undos item q.opened kept.all + (takes item q.opened kept.all + times item xs)) (sym items_are);
       promise = keeps_promise q.opened kept.all kept.world few reached;
-      sealed = λ one. items_are ∙ sealed_closes q.opened ps kept.all kept.world few reached all_seen idle complete one;
+      sealed = λ one. items_are ∙ sealed_closes q.opened ps kept.all kept.world few reached all_seen idle complete.each one;
     }
 
 -- the ends word of a closed table names segments

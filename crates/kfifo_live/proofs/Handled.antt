@@ -4,7 +4,9 @@ use Rattle.kfifo_words.specs.declared.shape.Shape.{Shape}
 use Rattle.kfifo_live.specs.declared.handle.TheConstants.{MAX_TURNS}
 use Rattle.kfifo_live.specs.declared.payload.Given.{Given}
 use Rattle.kfifo_live.specs.declared.payload.Taken.{Taken}
+use Rattle.kfifo_live.specs.declared.payload.sealing.TakenOrSealed.{TakenOrSealed}
 use Rattle.kfifo_live.specs.Payloads.{PayPassView, Gives, TakesOut, PicksUpAtMost}
+use Rattle.kfifo_live.specs.Seals.{TakesOrSeals}
 use Rattle.kfifo_live.specs.Handles.{PayHeld, PicksUpIfNone, batch_size, one_more, shortages_after}
 
 -- a call of a handle has rounds enough to be Busy only by another thread's doing
@@ -35,6 +37,12 @@ module _ {T : Type 0} where
       → Gives old.give_start turns payload answer ready given
   gave start turns payload said answer old ready given start_is said_is gives =
       subst (λ (x : ℕ × Given T). Gives x.0 turns payload x.1 ready given) (λ i. (start_is i, said_is i)) gives
+
+  pub took_or_sealed : (start turns : ℕ) (answer : TakenOrSealed T) (old : PayHeld T) (was taken : PayPassView T)
+      → start ≡ old.take_start → was ≡ old.pass → TakesOrSeals start turns answer was taken
+      → TakesOrSeals old.take_start turns answer old.pass taken
+  took_or_sealed start turns answer old was taken start_is was_is takes =
+      subst (λ (x : ℕ × PayPassView T). TakesOrSeals x.0 turns answer x.1 taken) (λ i. (start_is i, was_is i)) takes
 
   pub took : (start turns : ℕ) (said answer : Taken T) (old : PayHeld T) (was taken : PayPassView T)
       → start ≡ old.take_start → said ≡ answer → was ≡ old.pass

@@ -20,11 +20,12 @@ use Rattle.kfifo_machine.proofs.Schedules.{first_made, made_within, own_none, ru
 use Rattle.kfifo_live.specs.Balance.{times, undos, takes}
 use Rattle.kfifo_live.specs.Hands.{Gifts, In, IsGift, beside}
 use Rattle.kfifo_live.specs.Left.{item_in, slots_left, segments_left, items_left}
-use Rattle.kfifo_live.specs.Pass.{OpenQueue}
-use Rattle.kfifo_live.specs.Payloads.{HavePayloads, IsEnded, PayCloses, PayJoins, PayPassView, in_slot, pay_pass_view}
+use Rattle.kfifo_live.specs.Pass.{AllIdle, AllSeen, OpenQueue}
+use Rattle.kfifo_live.specs.Payloads.{EndsIn, HavePayloads, IsEnded, PayCloses, PayJoins, PayPassView, in_slot, passes_of, pay_pass_view}
 use Rattle.kfifo_live.specs.Schedule.{OneSchedule, gifts_of, seen_of, world_after}
 use Rattle.kfifo_live.proofs.Balance.{balance}
-use Rattle.kfifo_live.proofs.Gathered.{final_head, pass_ends}
+use Rattle.kfifo_live.proofs.ClosedEmpty.{sealed_closes}
+use Rattle.kfifo_live.proofs.Gathered.{final_head, pass_ends, pass_idle}
 use Rattle.kfifo_live.proofs.Givers.{was_put, who_put}
 use Rattle.kfifo_live.proofs.Hands.{within_list}
 use Rattle.kfifo_live.proofs.Leftovers.{filled_item}
@@ -232,6 +233,15 @@ threads_are o seen here reached =
     let idle : Option Running = None in
     still_threads o.shape (opening o.shape o.threads) here seen reached ∙ length-replicate o.threads idle
 
+all_seen : {T : Type 0} (all : List Event) (gifts : Gifts T) (ps : List (PayPassView T)) → AllByRecursion (EndsIn all gifts) ps
+    → AllSeen (passes_of ps) all
+all_seen all gifts [] ends = tt
+all_seen all gifts (p ∷ ps) ends = (ends.0.0, all_seen all gifts ps ends.1)
+
+none_mapped : {T : Type 0} (xs : List T) → map Some xs ≡ [] → xs ≡ []
+none_mapped [] e = refl
+none_mapped (x ∷ xs) e = absurd (cc)
+
 module _ {T : Type 0} (q : OpenQueue) (table : TableId) {thread id : ℕ} {me : Me (Option T) (View T)} {words : List ℕ}
     (slots : List (Option T)) (others : List (PayPassView T)) {w : View T} (p : IsEnded thread me)
     (same : me.0.opened ≡ q.opened) (joined : PayJoins me.0 others w) (f : Final
@@ -343,4 +353,14 @@ module _ {T : Type 0} (q : OpenQueue) (table : TableId) {thread id : ℕ} {me : 
         balance = λ token. balance o kept.all kept.world token kept.runs
             ∙ ap (λ xs. undos token o kept.all + (takes token o kept.all + times token xs)) (sym tokens_are);
         promise = keeps_promise o kept.all kept.world few kept.runs;
+        sealed = λ each one.
+            let mine = pay_pass_view table thread me.0 in
+            let idle : AllIdle o (passes_of (mine ∷ others)) = (
+              pass_idle o thread me mine.pass p.0 same refl refl,
+              subst (λ (x : Opening). AllIdle x (passes_of others)) same joined.all_idle,
+            ) in
+            let none : items_left o.shape kept.world.words ≡ [] =
+            sealed_closes o (passes_of (mine ∷ others)) kept.all kept.world few kept.runs
+            (all_seen kept.all kept.gifts (mine ∷ others) (ended, parts.1)) idle each one in
+            none_mapped payloads (are ∙ ap (map (in_slot slots)) (tokens_are ∙ none));
       }

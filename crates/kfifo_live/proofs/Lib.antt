@@ -29,6 +29,7 @@ pub mod Balance
 pub mod CallScans
 pub mod Made
 pub mod Pays
+pub mod PaySeals
 pub mod Pools
 pub mod TokenCalls
 pub mod Minting

@@ -143,14 +143,14 @@ seals_at {T} o s id thread seen gifts hand more here sought to f reached within 
         let is_w : w' ≡ w = λ j. view_of o (part thread (b.goes_on j ++ e ∷ []) ((append-nil kept.gifts ∙ g.1) j) hand ∷ more) in
         let made : run o.shape (Some kept.world) (e ∷ []) ≡ Some (sealed o.shape kept.world) =
         ap world_of (seals_on o.shape kept.world thread inside still_idle may_now) in
-        let k = adds o s.words (slice_set s.words 0 (f (slice_index s.words 0))) s.homes s.homes s.views id thread seen gifts hand hand more
-        kept at (e ∷ []) [] (λ u apart. own_other thread u (Some Seal) apart) (sealed o.shape kept.world) made new_words
-        (few_more o kept.all e refl kept.few_ticks)
-        (record {
+        let fits_now : GiftsFit o (kept.all ++ e ∷ []) (kept.gifts ++ []) = record {
           in_turn = in_turn_on kept.all kept.gifts thread (Some Seal) [] kept.in_turn.in_turn;
           holder_law = λ some_tokens.
               begin_free_on o.shape (opening o.shape o.threads) kept.world kept.all e kept.runs (kept.in_turn.holder_law some_tokens) tt;
-        })
+        } in
+        let k = adds o s.words (slice_set s.words 0 (f (slice_index s.words 0))) s.homes s.homes s.views id thread seen gifts hand hand more
+        kept at (e ∷ []) [] (λ u apart. own_other thread u (Some Seal) apart) (sealed o.shape kept.world) made new_words
+        (few_more o kept.all e refl kept.few_ticks) fits_now
         (sealed_tokens o s.homes s.views s.words kept id thread seen gifts hand more at still_idle may_now) mine.resting.0 in (
           w,
           subst (λ (x : View T). OneSchedule o (slice_set s.words 0 (f (slice_index s.words 0))) s.homes (set s.views id x)) is_w k,
@@ -165,6 +165,8 @@ seals_at {T} o s id thread seen gifts hand more here sought to f reached within 
             word_is = word_is;
             seal_is = ap (λ x. cond x (e ∷ []) []) (sym is);
             made = made;
+            in_turn = subst (λ (x : List Event × Gifts T). GiftsFit o x.0 x.1)
+                (λ j. (b.goes_on j ++ e ∷ [], (append-nil kept.gifts ∙ g.1) j)) fits_now;
             afterwards = refl;
           },
         )
@@ -195,10 +197,12 @@ seals_at {T} o s id thread seen gifts hand more here sought to f reached within 
               subst (λ (g : Gifts T). HandFits o.bare (word_at kept.world) (place_of kept.world u) kept.at g s.homes u other)
               (sym (append-nil kept.gifts)) fits;
         } in
+        let fits_now : GiftsFit o (kept.all ++ []) (kept.gifts ++ []) =
+        subst (λ (x : List Event × Gifts T). GiftsFit o x.0 x.1) (λ j. (sym (append-nil kept.all) j, sym (append-nil kept.gifts) j))
+        kept.in_turn in
         let k = adds o s.words (slice_set s.words 0 (f (slice_index s.words 0))) s.homes s.homes s.views id thread seen gifts hand hand more
         kept at [] [] (λ u apart. refl) kept.world refl words (subst (FewTicks o) (sym (append-nil kept.all)) kept.few_ticks)
-        (subst (λ (x : List Event × Gifts T). GiftsFit o x.0 x.1) (λ j. (sym (append-nil kept.all) j, sym (append-nil kept.gifts) j))
-        kept.in_turn) tokens mine.resting.0 in (
+        fits_now tokens mine.resting.0 in (
           w,
           subst (λ (x : View T). OneSchedule o (slice_set s.words 0 (f (slice_index s.words 0))) s.homes (set s.views id x)) is_w k,
           record {
@@ -212,6 +216,8 @@ seals_at {T} o s id thread seen gifts hand more here sought to f reached within 
             word_is = word_is;
             seal_is = ap (λ x. cond x (e ∷ []) []) (sym is);
             made = refl;
+            in_turn = subst (λ (x : List Event × Gifts T). GiftsFit o x.0 x.1)
+                (λ j. (b.goes_on j ++ [], (append-nil kept.gifts ∙ g.1) j)) fits_now;
             afterwards = refl;
           },
         )

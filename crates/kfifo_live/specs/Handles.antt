@@ -6,6 +6,7 @@ use Rattle.kfifo_live.specs.declared.payload.Given.{Given}
 use Rattle.kfifo_live.specs.declared.payload.Given.TheVariants as G
 use Rattle.kfifo_live.specs.declared.payload.Taken.{Taken}
 use Rattle.kfifo_live.specs.declared.payload.Taken.TheVariants as K
+use Rattle.kfifo_live.specs.declared.payload.sealing.TakenOrSealed.{TakenOrSealed}
 use Rattle.kfifo_live.specs.declared.payload.handle.Published.{Published}
 use Rattle.kfifo_live.specs.declared.payload.handle.Published.TheVariants as P
 use Rattle.kfifo_live.specs.declared.payload.handle.Received.{Received}
@@ -15,6 +16,7 @@ use Rattle.kfifo_live.specs.declared.view.Opening.{Opening}
 use Rattle.kfifo_live.specs.Pass.{PassView}
 use Rattle.kfifo_live.specs.Payloads.{PayPassView, TokenView, Gives, TakesOut, LaysDownAtMost, PicksUpAtMost}
 use Rattle.kfifo_live.specs.Payloads.{PartsWith, TakesIn}
+use Rattle.kfifo_live.specs.Seals.{TakesOrSeals}
 
 -- a round robin: how many slots a segment has, how many slots further each start is than the one before, and the start
 -- that comes next
@@ -122,6 +124,13 @@ module _ {T : Type 0} where
   pub record TakesAndLaysDown (answer : Taken T) (old new : PayHeld T) : Type 0 where
     pub taken : PayHeld T
     pub takes : TakesOut old.take_start MAX_TURNS answer old.pass taken.pass
+    pub surpluses : taken.surpluses ≡ old.surpluses
+    pub lays : LaysSurplus taken new
+
+  -- What `take_or_seal` of a handle did: the pass did what a pass does, and then laid down what it had too many
+  pub record TakesOrSealsAndLaysDown (answer : TakenOrSealed T) (old new : PayHeld T) : Type 0 where
+    pub taken : PayHeld T
+    pub takes : TakesOrSeals old.take_start MAX_TURNS answer old.pass taken.pass
     pub surpluses : taken.surpluses ≡ old.surpluses
     pub lays : LaysSurplus taken new
 

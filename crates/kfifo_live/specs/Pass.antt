@@ -6,7 +6,7 @@ use Rattle.atomic_table.specs.Seated.{TableId}
 use Rattle.kfifo_machine.specs.declared.event.Event.{Event}
 use Rattle.kfifo_machine.specs.Machine.{World, word_at, place_of}
 use Rattle.kfifo_linear.specs.Seals.{SealedEmpty}
-use Rattle.kfifo_machine.specs.Runs.{Begins}
+use Rattle.kfifo_machine.specs.Runs.{Begins, own}
 use Rattle.kfifo_live.specs.declared.view.Opening.{Opening}
 use Rattle.kfifo_live.specs.declared.view.View.{View}
 use Rattle.kfifo_live.specs.Schedule.{IsSmall, part, world_after, seen_of, gifts_of, hand_of, AllBegin}
@@ -57,6 +57,10 @@ IsSamePass p q = (q.table ≡ p.table) × (q.opened ≡ p.opened) × (q.thread �
 abbrev pub PassKeepsPromise : PassView → Type 0
 PassKeepsPromise p = KeepsPromise p.opened p.seen
 
+-- a pass has seen no event of its own: its thread has begun no call
+abbrev pub HasNoEvent : PassView → Type 0
+HasNoEvent p = own p.thread p.seen ≡ []
+
 -- the passes of threads first, first + 1, .., which have seen the empty schedule
 abbrev pub new_passes : OpenQueue → ℕ → ℕ → List PassView
 new_passes q first zero = []
@@ -79,10 +83,14 @@ abbrev pub AllSeen : List PassView → List Event → Type 0
 AllSeen [] all = Unit {0}
 AllSeen (p ∷ ps) all = Begins p.thread p.seen all × AllSeen ps all
 
+-- each of so many threads has a pass among these
+abbrev pub HaveAllThreads : ℕ → List PassView → Type 0
+HaveAllThreads threads ps = (thread : ℕ) → thread < threads → list_any (λ p. p.thread == thread) ps ≡ true
+
 -- each pass of the opening is there once
 pub record IsComplete (threads : ℕ) (ps : List PassView) : Type 0 where
   pub count : length ps ≡ threads
-  pub each : (thread : ℕ) → thread < threads → list_any (λ p. p.thread == thread) ps ≡ true
+  pub each : HaveAllThreads threads ps
 
 -- after what each of these passes of an opening has seen its thread is in no call
 abbrev pub AllIdle : Opening → List PassView → Type 0

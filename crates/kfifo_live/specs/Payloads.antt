@@ -30,7 +30,7 @@ use Rattle.kfifo_live.specs.Left.{items_left}
 use Rattle.kfifo_live.specs.Promise.{KeepsPromise}
 use Rattle.kfifo_live.specs.Schedule.{GiftsFit, HolderLaw, count_up, seen_of, gifts_of, hand_of, world_after}
 use Rattle.kfifo_live.specs.Schedule.{resting_view, AllBegin, AllGiven}
-use Rattle.kfifo_live.specs.Pass.{PassView, OpenQueue, IsPass, pass_view, queue_of}
+use Rattle.kfifo_live.specs.Pass.{PassView, OpenQueue, IsPass, pass_view, queue_of, AllIdle, HaveAllThreads, OneSealedEmpty}
 use Rattle.kfifo_live.specs.Calls.{MakesCall}
 
 -- the opening of a payload queue with so many tokens a pass
@@ -262,17 +262,23 @@ module _ {T : Type 0} where
   abbrev pub EndsIn : List Event → Gifts T → PayPassView T → Type 0
   EndsIn all gifts p = Begins p.pass.thread p.pass.seen all × ((later : Gifts T) × (gifts ≡ p.gifts ++ later))
 
+  -- these passes, without their tokens and payloads
+  abbrev pub passes_of : List (PayPassView T) → List PassView
+  passes_of ps = map (λ p. p.pass) ps
+
   -- the view w has the parts of v and what these passes saw: whatever schedule and gifts all parts of w agree with, the
   -- parts of v and each of these passes agree with them too
   pub record PayJoins (v : View T) (ps : List (PayPassView T)) (w : View T) : Type 0 where
     pub opened : w.opened ≡ v.opened
     pub all_end : (all : List Event) (gifts : Gifts T) → AllBegin w.parts all → AllGiven w.parts gifts
         → (AllBegin v.parts all × AllGiven v.parts gifts) × AllByRecursion (EndsIn all gifts) ps
+    pub all_idle : AllIdle v.opened (passes_of ps)
 
   -- What is left at the end: there is one schedule, which begins with what each of these passes has seen and has no
   -- further event of them, and the payloads are the last ones given with the tokens in the filled slots after it, which
   -- are those of the enqueues that put them. Where the first pass is the only one, it is what that has seen. No token
-  -- is lost and none comes twice, and that schedule keeps the promise
+  -- is lost and none comes twice, and that schedule keeps the promise. None is left where all passes are there and one
+  -- of them saw the queue sealed empty
   pub record PayCloses (q : OpenQueue) (p : PayPassView T) (others : List (PayPassView T)) (payloads : List T)
       : Type 0 where
     pub all : List Event
@@ -293,3 +299,5 @@ module _ {T : Type 0} where
     pub balance : (token : ℕ) → puts token q.opened all
         ≡ undos token q.opened all + (takes token q.opened all + times token tokens)
     pub promise : KeepsPromise q.opened all
+    pub sealed : HaveAllThreads q.opened.threads (passes_of (p ∷ others))
+        → OneSealedEmpty q.opened (passes_of (p ∷ others)) → payloads ≡ []

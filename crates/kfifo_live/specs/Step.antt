@@ -93,6 +93,7 @@ module _ {T : Type 0} where
     pub word_is : word ≡ word_at here 0
     pub seal_is : seal ≡ (if word == sought then event (thread_of v) (Some Seal) ∷ [] else [])
     pub made : run v.opened.shape (Some here) seal ≡ Some end
+    pub in_turn : GiftsFit v.opened ((seen_of v ++ between) ++ seal) (gifts_of v ++ given)
     pub afterwards : w ≡ with_seen v ((seen_of v ++ between) ++ seal) (gifts_of v ++ given) (hand_of v)
 
   -- a look at a word, which is no event: the schedule so far was seen

@@ -7,10 +7,14 @@ use Rattle.kfifo_model.specs.declared.calls.Answer.TheVariants as A
 use Rattle.kfifo_live.specs.declared.payload.opening.TheConstants.{MOST_TOKENS}
 use Rattle.kfifo_live.specs.declared.payload.Taken.{Taken}
 use Rattle.kfifo_live.specs.declared.payload.Taken.TheVariants as K
+use Rattle.kfifo_live.specs.declared.payload.sealing.TakenOrSealed.{TakenOrSealed}
+use Rattle.kfifo_live.specs.declared.payload.sealing.TakenOrSealed.TheVariants as S
 use Rattle.kfifo_live.specs.declared.payload.handle.Published.{Published}
 use Rattle.kfifo_live.specs.declared.payload.handle.Published.TheVariants as G
 use Rattle.kfifo_live.specs.declared.payload.handle.Received.{Received}
 use Rattle.kfifo_live.specs.declared.payload.handle.Received.TheVariants as C
+use Rattle.kfifo_live.specs.declared.tokens.sealing.ReceivedOrSealed.{ReceivedOrSealed}
+use Rattle.kfifo_live.specs.declared.tokens.sealing.ReceivedOrSealed.TheVariants as R
 use Rattle.kfifo_live.specs.declared.tokens.Put.{Put}
 use Rattle.kfifo_live.specs.declared.tokens.Put.TheVariants as P
 use Rattle.kfifo_live.specs.declared.view.Opening.{Opening}
@@ -19,6 +23,7 @@ use Rattle.kfifo_live.specs.Hands.{beside}
 use Rattle.kfifo_live.specs.InHand.{HasInHand}
 use Rattle.kfifo_live.specs.Pass.{OpenQueue, queue_of}
 use Rattle.kfifo_live.specs.Payloads.{PayPassView, TokenView, EnqueuesWith, DequeuesWith, TookWhatWasPut}
+use Rattle.kfifo_live.specs.Seals.{SealsAfter, StaysOpen}
 
 -- the opening of a queue of tokens, with so many for each thread: bare, or with payloads
 abbrev pub token_opening : Bool → Shape → ℕ → ℕ → Opening
@@ -103,6 +108,31 @@ module _ {T : Type 0} where
   ReceivesWith start turns C.Empty old new = Dequeues start turns A.Empty old new
   ReceivesWith start turns C.Busy old new = Dequeues start turns A.Busy old new
   ReceivesWith start turns C.Worn old new = Dequeues start turns A.Worn old new
+
+  -- a dequeue that found the queue empty, and then a seal, or a try to seal that failed
+  abbrev pub FindsNoneAndSeals : ℕ → ℕ → PayPassView T → PayPassView T → Type 0
+  FindsNoneAndSeals start turns old new = (taken : PayPassView T) × Dequeues start turns A.Empty old taken
+      × SealsAfter taken new
+
+  abbrev pub FindsNone : ℕ → ℕ → PayPassView T → PayPassView T → Type 0
+  FindsNone start turns old new = (taken : PayPassView T) × Dequeues start turns A.Empty old taken
+      × StaysOpen old taken new
+
+  -- what `take_or_seal` did
+  abbrev pub TakesTokenOrSeals : ℕ → ℕ → TakenOrSealed TokenView → PayPassView T → PayPassView T → Type 0
+  TakesTokenOrSeals start turns (S.Got token) old new = GetsWith start turns token None old new
+  TakesTokenOrSeals start turns S.Empty old new = FindsNone start turns old new
+  TakesTokenOrSeals start turns S.Sealed old new = FindsNoneAndSeals start turns old new
+  TakesTokenOrSeals start turns S.Busy old new = Dequeues start turns A.Busy old new
+  TakesTokenOrSeals start turns S.Worn old new = Dequeues start turns A.Worn old new
+
+  -- what `receive_or_seal` did
+  abbrev pub ReceivesOrSeals : ℕ → ℕ → ReceivedOrSealed T → PayPassView T → PayPassView T → Type 0
+  ReceivesOrSeals start turns (R.Got payload token) old new = GetsWith start turns token (Some payload) old new
+  ReceivesOrSeals start turns R.Empty old new = FindsNone start turns old new
+  ReceivesOrSeals start turns R.Sealed old new = FindsNoneAndSeals start turns old new
+  ReceivesOrSeals start turns R.Busy old new = Dequeues start turns A.Busy old new
+  ReceivesOrSeals start turns R.Worn old new = Dequeues start turns A.Worn old new
 
 -- a pass of such a queue in a handle, and the slots at which its next enqueue and its next dequeue begin
 pub record TokenHeld (T : Type 0) : Type 0 where

@@ -17,6 +17,7 @@ pub(crate) mod meeting;
 pub(crate) mod opening;
 pub(crate) mod pool;
 pub(crate) mod pool_word;
+pub(crate) mod sealing;
 pub(crate) mod token;
 
 use crate::in_hand::{Refusal, dequeue_token, empty_slot, enqueue_token, fill_slot};

@@ -16,6 +16,7 @@ ghost use Rattle.kfifo_live.specs.Tokens.{GivesWith, IsTokenPass, Puts, Receives
 pub(crate) mod closing;
 pub(crate) mod handle;
 pub(crate) mod opening;
+pub(crate) mod sealing;
 pub(crate) mod sizes;
 
 use crate::in_hand::{Refusal, dequeue_token, empty_slot, enqueue_token, fill_slot};

@@ -1,3 +1,4 @@
+pub mod Shapes
 pub mod Histories
 pub mod Keeping
 pub mod Parts

@@ -1,8 +1,9 @@
 -- The generations of a renewing queue, as a handle has joined them, and what its calls do to each.
-use Rattle.std.specs.Prelude.{◌≡◌, ◌≢◌, ◌⊎◌, ◌≤◌, ◌==◌, ℕ, not, List, [], ◌∷◌, ◌++◌, All, filter, map, Option, Some, None}
+use Rattle.std.specs.Prelude.{◌≡◌, ◌≢◌, ◌⊎◌, ◌≤◌, ◌==◌, ℕ, not, true, List, [], ◌∷◌, ◌++◌, All, filter, map, Option, Some, None}
 use Rattle.std.specs.List.{Contains}
 use mathlib.Core.List.{IsPrefix}
 use Rattle.logbook.specs.Pages.{Book}
+use Rattle.kfifo_words.specs.declared.shape.Shape.{Shape}
 use Rattle.kfifo_live.specs.declared.payload.Given.{Given}
 use Rattle.kfifo_live.specs.declared.payload.Given.TheVariants as G
 use Rattle.kfifo_live.specs.declared.payload.Taken.{Taken}
@@ -17,6 +18,24 @@ use Rattle.kfifo_renewing.specs.History.{IsGone, IsMade, NewestWas, WasNewest, n
 use Rattle.kfifo_renewing.specs.declared.change.Change.{Change}
 use Rattle.kfifo_renewing.specs.declared.generation.Sizes.{Sizes}
 use Rattle.kfifo_renewing.specs.declared.places.Lineage.{Lineage}
+
+-- the shape of the same sizes whose enqueues hold again
+abbrev pub holding_again : Shape → Shape
+holding_again s = record {
+  k = s.k;
+  n = s.n;
+  last = s.last;
+  probes = s.probes;
+  holds_again = true;
+  some_slot = s.some_slot;
+  few_slots = s.few_slots;
+  some_segments = s.some_segments;
+  few_segments = s.few_segments;
+  some_versions = s.some_versions;
+  few_versions = s.few_versions;
+  some_probe = s.some_probe;
+  few_probes = s.few_probes;
+}
 
 -- what each generation of a queue of these sizes is opened with
 abbrev pub opening_of : Sizes → Opening

@@ -11,7 +11,7 @@ ghost use Rattle.kfifo_renewing.specs.declared.fault.RenewFault.TheVariants.{Ope
 ghost use Rattle.kfifo_renewing.specs.declared.places.Lineage.{Lineage};
 ghost use Rattle.kfifo_renewing.specs.Joining.{held_by};
 ghost use Rattle.kfifo_renewing.specs.Renewing.{ClosesAll, ClosesEach, Generations, HasOne, HaveOne, IsOfLineage};
-ghost use Rattle.kfifo_renewing.specs.Renewing.{IsOpenedAs, WereLeft, opening_of};
+ghost use Rattle.kfifo_renewing.specs.Renewing.{IsOpenedAs, WereLeft, holding_again, opening_of};
 
 use crate::fault::RenewFault;
 use crate::generation::{Generation, Sizes};
@@ -303,12 +303,25 @@ fn open_tested<T: Drop>(
     Ok(handles)
 }
 
+/// These sizes, with enqueues that hold again.
+#[tactic(auto, using(crate::proofs::Shapes::holds))]
+fn sizes_of(shape: Shape, threads: u32, tokens: u32) -> Sizes
+    ensures { result ≡ record { shape = holding_again shape; threads = threads; tokens = tokens } }
+{
+    Sizes {
+        shape: shape.holding_again(),
+        threads,
+        tokens,
+    }
+}
+
 /// Opens a queue of owned payloads that does not wear out, and returns a handle for each thread.
 ///
 /// Its first generation is a queue with a pool, as `PayQueue::open_with_pool` opens it, with so many tokens a thread.
-/// Each later one is opened like it, once the newest has fewer versions left than the reserve: `DEFAULT_RESERVE`, or
-/// less for tests. A reserve has to last until the generation is empty, which takes a version for each segment and each
-/// call that is under way. With `NO_RENEWAL` there is no later one.
+/// Its shape is this one with enqueues that hold again, whatever the shape says of that: with more segments than
+/// threads the queue is then lock-free. Each later one is opened like it, once the newest has fewer versions left than
+/// the reserve: `DEFAULT_RESERVE`, or less for tests. A reserve has to last until the generation is empty, which takes a
+/// version for each segment and each call that is under way. With `NO_RENEWAL` there is no later one.
 ///
 /// ```rust
 /// let shape = Shape::new(4, 8, MAX_VERSION)?; // k, segments, greatest version
@@ -325,7 +338,7 @@ pub fn open<T: Drop>(
     tokens: u32,
     reserve: u64,
 ) -> Result<Vec<RenewingHandle<T>>, RenewFault>
-    ensures ok { IfOk result (λ handles. HaveOne (pay_opening shape threads tokens) handles.items
+    ensures ok { IfOk result (λ handles. HaveOne (pay_opening (holding_again shape) threads tokens) handles.items
         × (length handles.items ≡ threads)) }
     ensures reserve { IsErrOf result ReserveOutOfRange ↔ (shape.last ≤ reserve) }
     ensures threads { IsErrOf result (Open ThreadsOutOfRange) ↔ ((reserve < shape.last)
@@ -336,12 +349,7 @@ pub fn open<T: Drop>(
     if reserve >= shape.last() {
         return Err(RenewFault::ReserveOutOfRange);
     }
-    let sizes = Sizes {
-        shape,
-        threads,
-        tokens,
-    };
-    match open_tested(alloc, sizes, reserve) {
+    match open_tested(alloc, sizes_of(shape, threads, tokens), reserve) {
         Ok(handles) => Ok(handles),
         Err(fault) => Err(RenewFault::Open(fault)),
     }

@@ -6,7 +6,7 @@ ghost use Rattle.kfifo_live.specs.Pass.{IsPassOf, IsSamePass};
 use kfifo_dispatch::{DispatchFault, Finished, Task};
 use kfifo_live::{
     CloseFault, GatherFault, Given, OpenFault, Pass, PayHandle, PayPass, PayQueue, Queue, Sealing,
-    StampPass, StampQueue, Taken,
+    StampPass, StampQueue, Taken, TakenOrSealed,
 };
 use kfifo_model::{Answer, History, MeasureFault, Overtaken, SearchFault};
 use kfifo_words::Shape;
@@ -144,6 +144,21 @@ pub fn open_payloads_one<T: Drop>(
     Ok((queue, pass))
 }
 
+/// A queue of payloads for two threads, with the pass of each.
+pub fn open_payloads_two<T: Drop>(
+    alloc: Global,
+    shape: Shape,
+    tokens: u32,
+) -> Result<(PayQueue<T>, PayPass<T>, PayPass<T>), OpenFault>
+    ensures { IfOk result (λ r. (r.0.opened.shape ≡ shape) × IsPassOf r.0 r.1.pass × IsPassOf r.0 r.2.pass) }
+{
+    let (queue, mut passes) = PayQueue::open(alloc, shape, 2, tokens)?;
+    let (Some(second), Some(first)) = (passes.pop(), passes.pop()) else {
+        unreachable!()
+    };
+    Ok((queue, first, second))
+}
+
 pub fn give<T: Drop>(
     queue: &PayQueue<T>,
     pass: &mut PayPass<T>,
@@ -168,6 +183,20 @@ pub fn take<T: Drop>(queue: &PayQueue<T>, pass: &mut PayPass<T>, start: u32, tur
     pass.take(queue, start, turns)
 }
 
+pub fn take_or_seal<T: Drop>(
+    queue: &PayQueue<T>,
+    pass: &mut PayPass<T>,
+    start: u32,
+    turns: u16,
+) -> TakenOrSealed<T>
+    requires of { IsPassOf queue.now pass.old.pass }
+    requires start { start < queue.now.opened.shape.k }
+    requires turns { 1 ≤ turns }
+    ensures { IsSamePass pass.old.pass pass.new.pass }
+{
+    pass.take_or_seal(queue, start, turns)
+}
+
 pub fn give_by_handle<T: Drop>(
     queue: &PayQueue<T>,
     handle: &mut PayHandle<T>,
@@ -186,6 +215,16 @@ pub fn take_by_handle<T: Drop>(queue: &PayQueue<T>, handle: &mut PayHandle<T>) -
     handle.take(queue)
 }
 
+pub fn take_or_seal_by_handle<T: Drop>(
+    queue: &PayQueue<T>,
+    handle: &mut PayHandle<T>,
+) -> TakenOrSealed<T>
+    requires { IsPassOf queue.now handle.old.pass.pass }
+    ensures { IsSamePass handle.old.pass.pass handle.new.pass.pass }
+{
+    handle.take_or_seal(queue)
+}
+
 pub fn close_payloads<T: Drop>(
     alloc: Global,
     queue: PayQueue<T>,
@@ -194,6 +233,21 @@ pub fn close_payloads<T: Drop>(
     requires { IsPassOf queue pass.pass }
 {
     queue.close(alloc, pass)
+}
+
+/// Closes a queue of payloads by the passes of both its threads.
+pub fn close_payloads_of_two<T: Drop>(
+    alloc: Global,
+    queue: PayQueue<T>,
+    first: PayPass<T>,
+    second: PayPass<T>,
+) -> Result<Vec<T>, CloseFault>
+    requires { IsPassOf queue first.pass × IsPassOf queue second.pass }
+{
+    let Ok(others) = vec![in alloc; second] else {
+        return Err(CloseFault::Memory);
+    };
+    queue.close_with(alloc, first, others)
 }
 
 pub fn dispatch<R: Threads + Sync, G: kfifo_dispatch::WorkGate + Sync>(

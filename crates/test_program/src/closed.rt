@@ -29,6 +29,28 @@ impl Write for Closing {
     }
 }
 
+/// Takes so many bytes and keeps them, and then fails.
+#[derive(Drop)]
+struct Taking {
+    taken: Vec<u8>,
+    room: usize,
+}
+
+impl Write for Taking {
+    fn write(&mut self, buf: &[u8]) -> io::Result<usize> {
+        if self.taken.len() >= self.room {
+            return Err(io::Error::from(ErrorKind::BrokenPipe));
+        }
+        let taken = buf.len().min(self.room - self.taken.len());
+        self.taken.extend_from_slice(&buf[..taken])?;
+        Ok(taken)
+    }
+
+    fn flush(&mut self) -> io::Result<()> {
+        Ok(())
+    }
+}
+
 /// Takes all bytes, and fails to pass them on.
 #[derive(Drop)]
 struct Stuck;
@@ -122,6 +144,30 @@ fn ends_where_the_output_is_closed(rt: HostRuntime) -> Result<(), Fail> {
         assert!(rt; status_of(&rt, texts, &mut output, &mut faults)? == 0);
         assert!(rt; status_of(&rt, texts, &mut Stuck, &mut faults)? == 1);
         assert!(rt; status_of(&rt, texts, &mut Stopped, &mut faults)? == 1);
+        assert!(rt; faults.is_empty());
+    }
+    Ok(())
+}
+
+/// The lines of files are printed one by one: the output may close within any of them, or behind one.
+#[test]
+fn ends_where_the_output_of_several_files_is_closed(rt: HostRuntime) -> Result<(), Fail> {
+    for texts in [
+        ["judge", "gone.csv", "lost.csv"].as_slice(),
+        ["judge", "--json", "gone.csv", "lost.csv"].as_slice(),
+    ] {
+        let mut whole = Vec::new(rt.alloc());
+        let mut faults = Vec::new(rt.alloc());
+        assert!(rt; status_of(&rt, texts, &mut whole, &mut faults)? == 1);
+        for room in 0..whole.len() {
+            let mut output = Taking {
+                taken: Vec::new(rt.alloc()),
+                room,
+            };
+            assert!(rt; status_of(&rt, texts, &mut output, &mut faults)? == 1);
+            assert_eq!(rt; output.taken.as_slice(), &whole[..room]);
+        }
+        assert!(rt; status_of(&rt, texts, &mut Stuck, &mut faults)? == 1);
         assert!(rt; faults.is_empty());
     }
     Ok(())

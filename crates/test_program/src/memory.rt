@@ -125,3 +125,35 @@ fn refused_memory_of_a_dispatch(rt: HostRuntime) {
 fn refused_memory_of_a_misuse(rt: HostRuntime) {
     assert!(rt; run_case(&rt, &CASES[2]) != Ended::Otherwise);
 }
+
+/// Memory that is refused before the first line is the fault of the program, and from there on that of a file: the
+/// others have their lines all the same, and so has the count.
+#[test]
+fn refused_memory_of_several_files(rt: HostRuntime) {
+    let Ok(words) = words(rt.alloc(), ["judge", "gone.csv", "lost.csv"].as_slice()) else {
+        return;
+    };
+    let (mut output, mut faults) = (page(), page());
+    let mut input = io::empty();
+    let alloc = rt.alloc();
+    let status = program(
+        &rt,
+        alloc,
+        words.as_slice(),
+        &mut input,
+        &mut output,
+        &mut faults,
+    );
+    assert!(rt; status == 1);
+    let written = &output.get_ref()[..output.position() as usize];
+    if holds(&faults, "kfifo: memory\n") {
+        assert!(rt; written.is_empty());
+        return;
+    }
+    assert!(rt; holds(&faults, ""));
+    assert!(rt; written.starts_with(b"gone.csv: "));
+    assert!(rt;
+        written.ends_with(b"files 2 for k = 1: legal 0, no order 0, undecided 0, fault 2\n")
+    );
+    assert_eq!(rt; written.iter().filter(|byte| **byte == b'\n').count(), 3);
+}

@@ -1,8 +1,10 @@
 //! A queue of tokens with payloads, by one thread.
-ghost use Rattle.std.specs.Prelude.{◌≡◌, ◌<◌, ◌≤◌, All, IfSome, false};
+ghost use Rattle.std.specs.Prelude.{◌≡◌, ◌<◌, ◌≤◌, All, IfOk, IfSome, false};
 ghost use Rattle.kfifo_live.specs.Pass.{IsPassOf, IsSamePass};
 
-use kfifo_live::{CloseFault, Published, Received, Token, TokenHandle, TokenQueue};
+use kfifo_live::{
+    CloseFault, Published, Received, ReceivedOrSealed, Token, TokenHandle, TokenQueue,
+};
 use kfifo_words::{MAX_VERSION, Shape};
 use std::alloc::{AllocError, Global};
 use std::marker::Model;
@@ -60,6 +62,32 @@ fn take(
     }
 }
 
+/// Why no parcel came.
+#[derive(Clone, Copy, PartialEq, Eq, Debug)]
+enum NoParcel {
+    Empty,
+    Sealed,
+    Refused,
+}
+
+/// Takes a parcel and its token, or seals the queue.
+fn take_or_seal(
+    queue: &TokenQueue<String>,
+    handle: &mut TokenHandle<String>,
+) -> Result<(String, Token<String>), NoParcel>
+    requires of { IsPassOf queue.now handle.old.pass.pass }
+    requires payloads { queue.now.opened.bare ≡ false }
+    ensures same { IsSamePass handle.old.pass.pass handle.new.pass.pass }
+    ensures of { IfOk result (λ r. r.1.queue ≡ queue.now) }
+{
+    match handle.receive_or_seal(queue) {
+        ReceivedOrSealed::Got(parcel, token) => Ok((parcel, token)),
+        ReceivedOrSealed::Empty => Err(NoParcel::Empty),
+        ReceivedOrSealed::Sealed => Err(NoParcel::Sealed),
+        ReceivedOrSealed::Busy | ReceivedOrSealed::Worn => Err(NoParcel::Refused),
+    }
+}
+
 impl Parcels {
     fn open(alloc: Global, shape: Shape, tokens: u32) -> Result<Parcels, AllocError>
         requires { (0 < tokens) × (tokens ≤ 1000) }
@@ -100,6 +128,13 @@ impl Parcels {
         let number = token.number();
         add(&self.queue, &mut self.spare, token);
         Some((parcel, number))
+    }
+
+    /// The next parcel, or why none came.
+    fn fetch_or_seal(&mut self) -> Result<String, NoParcel> {
+        let (parcel, token) = take_or_seal(&self.queue, &mut self.handle)?;
+        add(&self.queue, &mut self.spare, token);
+        Ok(parcel)
     }
 
     fn close(self, alloc: Global) -> Result<Vec<String>, CloseFault> {
@@ -148,5 +183,23 @@ fn come_back_and_are_left(rt: HostRuntime) -> Result<(), Fail> {
     assert_eq!(rt; parcels.fetch(), Some((format!(in alloc; "first")?, 4)));
     let left = parcels.close(alloc)?;
     assert_eq!(rt; left.as_slice(), [format!(in alloc; "second")?].as_slice());
+    Ok(())
+}
+
+/// The last parcel comes out before the queue is sealed, and one that is sent later comes back.
+#[test]
+fn come_out_before_a_seal(rt: HostRuntime) -> Result<(), Fail> {
+    let alloc = rt.alloc();
+    let mut parcels = Parcels::open(alloc, Shape::new(1, 4, MAX_VERSION)?, 2)?;
+    assert_eq!(rt; parcels.send(format!(in alloc; "last")?), Sent::Done);
+    assert_eq!(rt; parcels.fetch_or_seal(), Ok(format!(in alloc; "last")?));
+    assert_eq!(rt; parcels.fetch_or_seal(), Err(NoParcel::Empty));
+    assert_eq!(rt; parcels.fetch_or_seal(), Err(NoParcel::Sealed));
+    assert_eq!(rt; parcels.spare(), 2);
+    let late = format!(in alloc; "late")?;
+    assert_eq!(rt; parcels.send(late), Sent::Worn(format!(in alloc; "late")?));
+    assert_eq!(rt; parcels.spare(), 2);
+    assert_eq!(rt; parcels.fetch_or_seal(), Err(NoParcel::Sealed));
+    assert_eq!(rt; parcels.close(alloc)?.len(), 0);
     Ok(())
 }

@@ -3,7 +3,7 @@ ghost use Rattle.std.specs.Prelude.{◌≡◌, ◌<◌, ◌≤◌, All, true};
 ghost use Rattle.kfifo_live.specs.Pass.{IsPassOf, IsSamePass};
 ghost use Rattle.kfifo_live.specs.Payloads.{TokenView};
 
-use kfifo_live::{CloseFault, Put, Taken, Token, TokenHandle, TokenQueue};
+use kfifo_live::{CloseFault, Put, Taken, TakenOrSealed, Token, TokenHandle, TokenQueue};
 use kfifo_words::Shape;
 use std::alloc::{AllocError, Global};
 use std::marker::Model;
@@ -53,6 +53,20 @@ fn take_token(queue: &TokenQueue<()>, handle: &mut TokenHandle<()>) -> Taken<Tok
     ensures of { (token : TokenView) → result ≡ Taken.Got token → token.queue ≡ queue.now }
 {
     handle.take(queue)
+}
+
+/// Takes a token of the queue, or seals it.
+fn take_token_or_seal(
+    queue: &TokenQueue<()>,
+    handle: &mut TokenHandle<()>,
+) -> TakenOrSealed<Token<()>>
+    requires of { IsPassOf queue.now handle.old.pass.pass }
+    requires bare { queue.now.opened.bare ≡ true }
+    ensures same { IsSamePass handle.old.pass.pass handle.new.pass.pass }
+    ensures of { (token : TokenView) → result ≡ TakenOrSealed.Got token → token.queue ≡ queue.now }
+{
+    let taken = handle.take_or_seal(queue);
+    taken
 }
 
 impl Round {
@@ -112,6 +126,21 @@ impl Round {
             Taken::Empty => Taken::Empty,
             Taken::Busy => Taken::Busy,
             Taken::Worn => Taken::Worn,
+        }
+    }
+
+    /// Takes a token, and returns its number, or seals the queue.
+    pub fn take_or_seal(&mut self) -> TakenOrSealed<u32> {
+        match take_token_or_seal(&self.queue, &mut self.handle) {
+            TakenOrSealed::Got(token) => {
+                let number = token.number();
+                add(&self.queue, &mut self.spare, token);
+                TakenOrSealed::Got(number)
+            }
+            TakenOrSealed::Empty => TakenOrSealed::Empty,
+            TakenOrSealed::Sealed => TakenOrSealed::Sealed,
+            TakenOrSealed::Busy => TakenOrSealed::Busy,
+            TakenOrSealed::Worn => TakenOrSealed::Worn,
         }
     }
 

@@ -1,5 +1,5 @@
 //! Opening a queue of cells.
-ghost use Rattle.std.specs.Prelude.{◌≡◌, ◌≢◌, ◌<◌, ◌≤◌, ◌⊎◌, ◌↔◌, None, Some, IfSome, IfOk, IsErrOf, All, length, map};
+ghost use Rattle.std.specs.Prelude.{◌≡◌, ◌≢◌, ◌<◌, ◌≤◌, ◌⊎◌, ◌↔◌, None, Some, IfSome, IfOk, IsErrOf, All, length, map, true};
 ghost use Rattle.std.specs.Prelude.{reverse};
 ghost use Rattle.kfifo_model.specs.declared.calls.TheConstants.{MAX_THREADS};
 ghost use Rattle.kfifo_live.specs.declared.payload.opening.TheConstants.{MAX_TOKENS};
@@ -21,11 +21,11 @@ use crate::cell_queue::ordered::OrderedCells;
 use crate::cell_queue::payload::CellPayload;
 use crate::cell_queue::pool::{BATCH, Batch, Pool};
 use crate::cell_queue::seat::CellSeat;
-use crate::shape::shape_of;
+use crate::shape::{open_renewing, shape_of};
 use crate::status::{BAD_RESERVE, BAD_THREADS, DONE, shape_status};
 use crate::value_queue::status::renew_status;
 use kfifo_live::{OpenFault, PayPass, PayQueue};
-use kfifo_renewing::{RenewFault, RenewingHandle, open};
+use kfifo_renewing::{RenewFault, RenewingHandle};
 use kfifo_words::Shape;
 use std::alloc::{AllocError, Global};
 use std::sync::Arc;
@@ -164,6 +164,7 @@ fn open_seats(
     sizes: CellSizes,
     reserve: u64,
 ) -> Result<Vec<Box<CellSeat, Global>>, RenewFault>
+    requires again { sizes.shape.holds_again ≡ true }
     ensures ok { IfOk result (λ seats. OpensCells sizes.shape sizes.threads sizes.tokens
         (reverse (map (λ seat. seat.value) seats.items))) }
     ensures reserve { IsErrOf result ReserveOutOfRange ↔ (sizes.shape.last ≤ reserve) }
@@ -173,7 +174,7 @@ fn open_seats(
         ↔ ((reserve < sizes.shape.last) × (1 ≤ sizes.threads) × (sizes.threads ≤ MAX_THREADS)
         × ((sizes.tokens ≡ 0) ⊎ (MAX_TOKENS < sizes.tokens))) }
 {
-    let handles = match open(alloc, sizes.shape, sizes.threads, sizes.tokens, reserve) {
+    let handles = match open_renewing(alloc, sizes.shape, sizes.threads, sizes.tokens, reserve) {
         Ok(handles) => handles,
         Err(fault) => return Err(fault),
     };

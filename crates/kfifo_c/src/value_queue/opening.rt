@@ -1,5 +1,5 @@
 //! Opening a queue of values.
-ghost use Rattle.std.specs.Prelude.{◌≡◌, ◌≢◌, ◌<◌, ◌≤◌, ◌⊎◌, ◌↔◌, None, Some, IfSome, IfOk, IsErrOf, All, length, map};
+ghost use Rattle.std.specs.Prelude.{◌≡◌, ◌≢◌, ◌<◌, ◌≤◌, ◌⊎◌, ◌↔◌, None, Some, IfSome, IfOk, IsErrOf, All, length, map, true};
 ghost use Rattle.std.specs.Prelude.{reverse};
 ghost use Rattle.kfifo_model.specs.declared.calls.TheConstants.{MAX_THREADS};
 ghost use Rattle.kfifo_live.specs.declared.payload.opening.TheConstants.{MAX_TOKENS};
@@ -12,13 +12,13 @@ ghost use Rattle.kfifo_c.specs.Exports.{shape_number};
 ghost use Rattle.kfifo_c.specs.Values.{OpensValues, OpensValueSizes};
 
 use crate::address::no_address;
-use crate::shape::shape_of;
+use crate::shape::{open_renewing, shape_of};
 use crate::status::{BAD_RESERVE, BAD_THREADS, DONE, shape_status};
 use crate::value_queue::handle::ValueHandle;
 use crate::value_queue::seat::ValueSeat;
 use crate::value_queue::status::renew_status;
 use kfifo_live::OpenFault;
-use kfifo_renewing::{RenewFault, RenewingHandle, open};
+use kfifo_renewing::{RenewFault, RenewingHandle};
 use kfifo_words::Shape;
 use std::alloc::{AllocError, Global};
 
@@ -48,6 +48,7 @@ fn open_seats(
     tokens: u32,
     reserve: u64,
 ) -> Result<Vec<Box<ValueSeat, Global>>, RenewFault>
+    requires again { shape.holds_again ≡ true }
     ensures ok { IfOk result (λ seats. OpensValues shape threads tokens
         (reverse (map (λ seat. seat.value) seats.items))) }
     ensures reserve { IsErrOf result ReserveOutOfRange ↔ (shape.last ≤ reserve) }
@@ -56,7 +57,7 @@ fn open_seats(
     ensures tokens { IsErrOf result (Open TokensOutOfRange)
         ↔ ((reserve < shape.last) × (1 ≤ threads) × (threads ≤ MAX_THREADS) × ((tokens ≡ 0) ⊎ (MAX_TOKENS < tokens))) }
 {
-    let handles = match open(alloc, shape, threads, tokens, reserve) {
+    let handles = match open_renewing(alloc, shape, threads, tokens, reserve) {
         Ok(handles) => handles,
         Err(fault) => return Err(fault),
     };

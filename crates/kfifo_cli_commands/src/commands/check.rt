@@ -23,7 +23,8 @@ pub fn answer<H: Files, S: Source>(
     options: CheckOptions<'_>,
     input: &mut S,
 ) -> Result<(String, Status), Failure>
-    ensures ok { IfOk result (λ a. IsCheck options.entry (S.remaining input.old) (string_bytes a.0) (status_number a.1)) }
+    ensures ok { IfOk result (λ a. IsCheck options.entry (S.remaining input.old) (string_bytes a.0)
+        (status_number a.1)) }
     ensures status { IfOk result (λ a. (a.1 ≡ Status.Answered) ⊎ (a.1 ≡ Status.Unordered)) }
     ensures err { IfErr result (λ failure. IsCheckRefusal options.entry (S.remaining input.old) (S.failed input.old)
         (S.failed input.new) failure.fault) }

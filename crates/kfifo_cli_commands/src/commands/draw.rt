@@ -32,7 +32,8 @@ pub fn answer<H: Files, S: Source, P: Progress>(
 ) -> Result<String, Failure>
     ensures ok { IfOk result (λ _. IsDraw options.entry (read_from options.entry.file (S.remaining input.old))) }
     ensures err { IfErr result (λ failure. IsDrawRefusal options.entry
-        (read_from options.entry.file (S.remaining input.old)) (S.failed input.old) (S.failed input.new) failure.fault) }
+        (read_from options.entry.file (S.remaining input.old)) (S.failed input.old) (S.failed input.new)
+        failure.fault) }
     ensures silent { IfErr result (λ failure. failure.fault ≢ Fault.Output) }
     ensures reads { FailsWell result (S.failed input.old) (S.failed input.new) }
     ensures aside { IsSome options.entry.file → input.new ≡ input.old }
@@ -40,7 +41,7 @@ pub fn answer<H: Files, S: Source, P: Progress>(
     let cut = cut_of(options)?;
     let order = order_given(alloc, files, options)?;
     let bytes = read_calls_given(alloc, files, options.file, input)?;
-    let text = picture(alloc, bytes.as_slice(), options, cut, &order, progress)?;
+    let text = picture(alloc, bytes, options, cut, &order, progress)?;
     Ok(text)
 }
 
@@ -75,14 +76,14 @@ fn style_of(options: DrawOptions<'_>) -> Style {
 /// The picture of these calls of an input, with this order.
 fn picture<P: Progress>(
     alloc: Global,
-    bytes: &[u8],
+    bytes: Vec<u8>,
     options: DrawOptions<'_>,
     cut: Cut,
     order: &Option<Vec<usize>>,
     progress: &mut P,
 ) -> Result<String, Failure>
-    ensures { MatchResult result (λ _. IsPicture options.entry.check.k options.entry.evidence cut bytes.now)
-        (λ failure. IsNoPicture options.entry.check.k options.entry.evidence cut bytes.now failure.fault) }
+    ensures { MatchResult result (λ _. IsPicture options.entry.check.k options.entry.evidence cut bytes.items)
+        (λ failure. IsNoPicture options.entry.check.k options.entry.evidence cut bytes.items failure.fault) }
 {
     let calls = read_calls(alloc, bytes, progress)?;
     let history = &calls.history;

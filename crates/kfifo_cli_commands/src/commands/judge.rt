@@ -34,7 +34,7 @@ pub fn answer<H: Files, S: Source, P: Progress>(
     ensures aside { IsSome options.entry.file → input.new ≡ input.old }
 {
     let bytes = read_calls_given(alloc, files, options.file, input)?;
-    let (text, status) = text_of(alloc, options, bytes.as_slice(), progress)?;
+    let (text, status) = text_of(alloc, options, bytes, progress)?;
     Ok((text, status))
 }
 
@@ -42,11 +42,11 @@ pub fn answer<H: Files, S: Source, P: Progress>(
 fn text_of<P: Progress>(
     alloc: Global,
     options: JudgeOptions<'_>,
-    bytes: &[u8],
+    bytes: Vec<u8>,
     progress: &mut P,
 ) -> Result<(String, Status), Failure>
-    ensures said { MatchResult result (λ a. IsJudged options.entry bytes.now (string_bytes a.0) (status_number a.1))
-        (λ failure. IsNoCalls bytes.now failure.fault) }
+    ensures said { MatchResult result (λ a. IsJudged options.entry bytes.items (string_bytes a.0) (status_number a.1))
+        (λ failure. IsNoCalls bytes.items failure.fault) }
     ensures status { IfOk result (λ a. (a.1 ≡ Status.Answered) ⊎ (a.1 ≡ Status.Unordered) ⊎ (a.1 ≡ Status.Undecided)) }
 {
     let calls = read_calls(alloc, bytes, progress)?;

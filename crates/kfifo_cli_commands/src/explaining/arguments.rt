@@ -87,7 +87,8 @@ pub(crate) fn push_word(
             let word = shown(alloc, nth(options.words, number).as_bytes())?;
             write!(
                 text,
-                "word {number} is {word}, allowed are <id>:<left>:<sum>, with ids and sums below 2^32 and left from 0 to 65,535"
+                "word {number} is {word}, allowed are <id>:<left>:<sum>, with ids and sums below 2^32 and left from 0 \
+                 to 65,535"
             )
         }
         _ => write!(text, "word {number} is unreadable or out of range"),
@@ -230,7 +231,8 @@ fn push_pick(
         ),
         Some(thread) => write!(
             text,
-            "pick {place}, counted from 0, names thread {thread}, allowed are threads below {count}, the number of scripts"
+            "pick {place}, counted from 0, names thread {thread}, allowed are threads below {count}, the number of \
+             scripts"
         ),
         None => write!(
             text,

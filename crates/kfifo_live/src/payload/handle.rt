@@ -1,13 +1,15 @@
 //! Calls of a queue of owned payloads with nothing to choose.
 ghost use Rattle.std.specs.Prelude.{◌≡◌, ◌<◌, ◌≤◌, ◌+◌, ℕ, List, ◌∷◌, Some};
 ghost use Rattle.kfifo_live.specs.Calls.{IsDisturbed};
-ghost use Rattle.kfifo_live.specs.Pass.{IsPassOf, IsSamePass, PassKeepsPromise};
+ghost use Rattle.kfifo_live.specs.Pass.{IsPassOf, IsSamePass, IsSealedEmpty, PassKeepsPromise};
 ghost use Rattle.kfifo_live.specs.Payloads.{LaysDownAtMost, PartsWith, PicksUpAtMost, TokenView};
 ghost use Rattle.kfifo_live.specs.Handles.{PayHeld, PicksUpAndGives, TakesAndLaysDown, batch_size, cycle_at, first_of};
 ghost use Rattle.kfifo_live.specs.Handles.{LaysSurplus, PicksUpIfNone, Publishes, Receives, Releases, Reserves};
-ghost use Rattle.kfifo_live.specs.Handles.{SameButPass, further, one_more, pass_of, shortages_after};
+ghost use Rattle.kfifo_live.specs.Handles.{SameButPass, TakesOrSealsAndLaysDown, further, one_more, pass_of};
+ghost use Rattle.kfifo_live.specs.Handles.{shortages_after};
 
 use crate::handle::MAX_TURNS;
+use crate::payload::sealing::TakenOrSealed;
 use crate::payload::token::Token;
 use crate::payload::{Given, PayPass, PayQueue, Taken};
 use crate::round_robin::RoundRobin;
@@ -261,6 +263,31 @@ impl<T: Drop> PayHandle<T> {
     {
         let start = self.takes.next();
         let taken = self.pass.take(queue, start, MAX_TURNS);
+        self.lay_surplus(queue);
+        taken
+    }
+
+    /// Takes one of the k oldest payloads, as `take` does, or seals the queue where it is empty, as
+    /// `PayPass::take_or_seal` does. It lays tokens down as `take` does.
+    ///
+    /// ```rust
+    /// let taken = handle.take_or_seal(queue);
+    /// ```
+    ///
+    /// Returns Got with the payload, Empty, Sealed, Worn or Busy. Busy comes only where another thread won an exchange
+    /// during the call. It never allocates, waits or locks.
+    pub fn take_or_seal(&mut self, queue: &PayQueue<T>) -> TakenOrSealed<T>
+        requires of { IsPassOf queue.now (pass_of self.old) }
+        ensures same { IsSamePass (pass_of self.old) (pass_of self.new) }
+        ensures takes { TakesOrSealsAndLaysDown result self.old self.new }
+        ensures sealed { result ≡ TakenOrSealed.Sealed → IsSealedEmpty (pass_of self.new) }
+        ensures busy { result ≡ TakenOrSealed.Busy → IsDisturbed (pass_of self.old) (pass_of self.new) }
+        ensures starts { (self.new.take_start ≡ further (pass_of self.old) self.old.take_start)
+            × (self.new.give_start ≡ self.old.give_start) × (self.new.shortages ≡ self.old.shortages) }
+        ensures promise { PassKeepsPromise (pass_of self.new) }
+    {
+        let start = self.takes.next();
+        let taken = self.pass.take_or_seal(queue, start, MAX_TURNS);
         self.lay_surplus(queue);
         taken
     }

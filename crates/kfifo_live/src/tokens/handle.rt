@@ -3,15 +3,18 @@ ghost use Rattle.std.specs.Prelude.{◌≡◌, ◌+◌, true, false};
 ghost use Rattle.kfifo_live.specs.Calls.{IsDisturbed};
 ghost use Rattle.kfifo_live.specs.Handles.{cycle_at, first_of, further};
 ghost use Rattle.kfifo_live.specs.declared.handle.TheConstants.{MAX_TURNS};
-ghost use Rattle.kfifo_live.specs.Pass.{IsPassOf, IsSamePass, PassKeepsPromise};
+ghost use Rattle.kfifo_live.specs.Pass.{IsPassOf, IsSamePass, IsSealedEmpty, PassKeepsPromise};
 ghost use Rattle.kfifo_live.specs.Payloads.{TokenView};
-ghost use Rattle.kfifo_live.specs.Tokens.{GivesWith, Puts, ReceivesWith, TakesToken, TokenHeld};
+ghost use Rattle.kfifo_live.specs.Tokens.{GivesWith, Puts, ReceivesOrSeals, ReceivesWith, TakesToken, TakesTokenOrSeals};
+ghost use Rattle.kfifo_live.specs.Tokens.{TokenHeld};
 
 use crate::handle::MAX_TURNS;
 use crate::payload::Taken;
 use crate::payload::handle::{Published, Received};
+use crate::payload::sealing::TakenOrSealed;
 use crate::payload::token::Token;
 use crate::round_robin::RoundRobin;
+use crate::tokens::sealing::ReceivedOrSealed;
 use crate::tokens::{Put, TokenPass, TokenQueue};
 use std::marker::Model;
 
@@ -152,5 +155,45 @@ impl<T: Drop> TokenHandle<T> {
     {
         let start = self.takes.next();
         self.pass.receive(queue, start, MAX_TURNS)
+    }
+
+    /// Takes one of the k oldest tokens out of a bare queue, or seals it where it is empty, as `TokenPass::take_or_seal`
+    /// does. It begins where a `take` would.
+    ///
+    /// Returns Got with the token, Empty, Sealed, Worn or Busy. Busy comes only where another thread won an exchange
+    /// during the call. It never allocates, waits or locks.
+    pub fn take_or_seal(&mut self, queue: &TokenQueue<T>) -> TakenOrSealed<Token<T>>
+        requires of { IsPassOf queue.now self.old.pass.pass }
+        requires bare { queue.now.opened.bare ≡ true }
+        ensures same { IsSamePass self.old.pass.pass self.new.pass.pass }
+        ensures takes { TakesTokenOrSeals self.old.take_start MAX_TURNS result self.old.pass self.new.pass }
+        ensures sealed { result ≡ TakenOrSealed.Sealed → IsSealedEmpty self.new.pass.pass }
+        ensures busy { result ≡ TakenOrSealed.Busy → IsDisturbed self.old.pass.pass self.new.pass.pass }
+        ensures starts { (self.new.take_start ≡ further self.old.pass.pass self.old.take_start)
+            × (self.new.put_start ≡ self.old.put_start) }
+        ensures promise { PassKeepsPromise self.new.pass.pass }
+    {
+        let start = self.takes.next();
+        self.pass.take_or_seal(queue, start, MAX_TURNS)
+    }
+
+    /// Takes one of the k oldest payloads and its token out of a queue with payloads, or seals it where it is empty, as
+    /// `TokenPass::receive_or_seal` does. It begins where a `take` would.
+    ///
+    /// Returns Got with both, Empty, Sealed, Worn or Busy. Busy comes only where another thread won an exchange during
+    /// the call. It never allocates, waits or locks.
+    pub fn receive_or_seal(&mut self, queue: &TokenQueue<T>) -> ReceivedOrSealed<T>
+        requires of { IsPassOf queue.now self.old.pass.pass }
+        requires payloads { queue.now.opened.bare ≡ false }
+        ensures same { IsSamePass self.old.pass.pass self.new.pass.pass }
+        ensures receives { ReceivesOrSeals self.old.take_start MAX_TURNS result self.old.pass self.new.pass }
+        ensures sealed { result ≡ ReceivedOrSealed.Sealed → IsSealedEmpty self.new.pass.pass }
+        ensures busy { result ≡ ReceivedOrSealed.Busy → IsDisturbed self.old.pass.pass self.new.pass.pass }
+        ensures starts { (self.new.take_start ≡ further self.old.pass.pass self.old.take_start)
+            × (self.new.put_start ≡ self.old.put_start) }
+        ensures promise { PassKeepsPromise self.new.pass.pass }
+    {
+        let start = self.takes.next();
+        self.pass.receive_or_seal(queue, start, MAX_TURNS)
     }
 }

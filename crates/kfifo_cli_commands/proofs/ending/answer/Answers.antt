@@ -1,4 +1,4 @@
-use Rattle.std.proofs.Common.{refl}
+use Rattle.std.proofs.Common.{refl, rules}
 use Rattle.kfifo_cli_commands.specs.Statuses.{status_number}
 use Rattle.kfifo_cli_commands.proofs.Refusals.{any_err}
 use Rattle.kfifo_cli_commands.proofs.ending.answer.Goals as goal
@@ -43,13 +43,13 @@ returns-in_err-print-in-Judge-clause-broken g c = any_err c.from_residual-in_err
   c.in_err-print-in-Judge.ensures.err,
 ))
 
-pub returns-in_err-print-in-JudgeFiles-clause-broken : goal.returns-in_err-print-in-JudgeFiles-clause-broken
-returns-in_err-print-in-JudgeFiles-clause-broken g c = any_err c.from_residual-in_err-print-in-JudgeFiles.result _ (λ fault is. (
-  c.as_bytes-in-JudgeFiles.result.now,
-  status_number c.in_ok-text-in-JudgeFiles.status,
-  rw (c.in-JudgeFiles.is, c.as_bytes-in-JudgeFiles.ensures.value) c.in_ok-text-in-JudgeFiles.ensures.ok,
-  c.in_err-print-in-JudgeFiles.ensures.err,
-))
+pub returns-in_err-status-in-JudgeFiles-clause-broken : goal.returns-in_err-status-in-JudgeFiles-clause-broken
+returns-in_err-status-in-JudgeFiles-clause-broken g c =
+    let broke = c.in_err-status-in-JudgeFiles.ensures.broken in rw c.in-JudgeFiles.is (search (rules, broke))
+
+pub returns-in_err-status-in-JudgeFiles-clause-refused : goal.returns-in_err-status-in-JudgeFiles-clause-refused
+returns-in_err-status-in-JudgeFiles-clause-refused g c =
+    let refused = c.in_err-status-in-JudgeFiles.ensures.refused in rw c.in-JudgeFiles.is (search (rules, refused))
 
 pub returns-in_err-print-in-Least-clause-broken : goal.returns-in_err-print-in-Least-clause-broken
 returns-in_err-print-in-Least-clause-broken g c = any_err c.from_residual-in_err-print-in-Least.result _ (λ fault is. (

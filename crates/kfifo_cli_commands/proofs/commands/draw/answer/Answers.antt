@@ -1,6 +1,6 @@
-use Rattle.std.proofs.Common.{◌≡◌, ◌≢◌, List, ℕ, rules, subst, sym}
+use Rattle.std.proofs.Common.{◌≢◌, rules}
 use Rattle.kfifo_cli_texts.specs.declared.fault.Fault.TheVariants.{Output}
-use Rattle.kfifo_cli_commands.specs.Inputs.{IsCallsInput, read_from}
+use Rattle.kfifo_cli_commands.specs.Inputs.{read_from}
 use Rattle.kfifo_cli_commands.specs.Pictures.{IsDrawRefusal}
 use Rattle.kfifo_cli_commands.proofs.Drawing.{cut_refused, input_refused, order_refused, picture_refused, refusal_told}
 use Rattle.kfifo_cli_commands.proofs.commands.draw.answer.Goals as goal
@@ -41,10 +41,9 @@ returns-in_err-text-clause-err g c =
     let input = read_from c.args.options.file (g.S.Source.remaining c.args.input.now) in
     let before = g.S.Source.failed c.args.input.now in
     let after = g.S.Source.failed c.read_calls_given.new.input in
-    let read = subst (λ (b : List ℕ). IsCallsInput input b) (sym c.as_slice.ensures.value) c.in_ok-bytes.ensures.ok in
     let fault = c.in_err-text.field-0.0.fault in
     let refusal : IsDrawRefusal c.args.options input before after fault =
-    picture_refused input before after c.args.options c.in_ok-cut.cut c.in_ok-cut.ensures c.as_slice.result.now read fault
+    picture_refused input before after c.args.options c.in_ok-cut.cut c.in_ok-cut.ensures c.in_ok-bytes.bytes.items c.in_ok-bytes.ensures.ok fault
     c.in_err-text.ensures in
     search (rules, refusal)
 
@@ -52,10 +51,9 @@ pub returns-in_err-text-clause-silent : goal.returns-in_err-text-clause-silent
 returns-in_err-text-clause-silent g c =
     let input = read_from c.args.options.file (g.S.Source.remaining c.args.input.now) in
     let at = g.S.Source.failed c.args.input.now in
-    let read = subst (λ (b : List ℕ). IsCallsInput input b) (sym c.as_slice.ensures.value) c.in_ok-bytes.ensures.ok in
     let fault = c.in_err-text.field-0.0.fault in
     let told : fault ≢ Output = refusal_told input at at c.args.options fault
-    (picture_refused input at at c.args.options c.in_ok-cut.cut c.in_ok-cut.ensures c.as_slice.result.now read fault
+    (picture_refused input at at c.args.options c.in_ok-cut.cut c.in_ok-cut.ensures c.in_ok-bytes.bytes.items c.in_ok-bytes.ensures.ok fault
     c.in_err-text.ensures) in
     search (rules, told)
 
@@ -67,7 +65,7 @@ returns-clause-ok g c =
       asked = c.in_ok-cut.ensures;
       order = _;
       order_given = c.in_ok-order.ensures.ok;
-      bytes = c.as_slice.result.now;
-      read = subst (λ (b : List ℕ). IsCallsInput input b) (sym c.as_slice.ensures.value) c.in_ok-bytes.ensures.ok;
+      bytes = c.in_ok-bytes.bytes.items;
+      read = c.in_ok-bytes.ensures.ok;
       pictured = c.in_ok-text.ensures;
     }

@@ -10,8 +10,8 @@ returns-in-Some g c =
     let k = c.args.options.check.k in
     let asked = c.args.options.evidence in
     let history = c.in_ok-calls.calls.history in
-    let calls : IsCalls c.args.bytes.now history (Some c.in-Some.logged.items) = rw c.in-Some.is at c.in_ok-calls.ensures in
-    of_calls k asked c.args.cut c.args.bytes.now history (Some c.in-Some.logged.items) calls (λ _. refl) HasFew
+    let calls : IsCalls c.args.bytes.items history (Some c.in-Some.logged.items) = rw c.in-Some.is at c.in_ok-calls.ensures in
+    of_calls k asked c.args.cut c.args.bytes.items history (Some c.in-Some.logged.items) calls (λ _. refl) HasFew
     (subst (λ (l : List LoggedCall). IsPictureOf HasFew k asked c.args.cut history l) c.as_slice.ensures.value
     c.in_ok-text.ensures)
 
@@ -21,9 +21,9 @@ returns-in_err-text g c =
     let asked = c.args.options.evidence in
     let history = c.in_ok-calls.calls.history in
     let fault = c.in_err-text.field-0.0 in
-    let calls : IsCalls c.args.bytes.now history (Some c.in-Some.logged.items) = rw c.in-Some.is at c.in_ok-calls.ensures in
-    let none : IsNoPicture k asked c.args.cut c.args.bytes.now fault =
-    not_drawn k asked c.args.cut c.args.bytes.now history (Some c.in-Some.logged.items) calls (λ _. refl) fault
+    let calls : IsCalls c.args.bytes.items history (Some c.in-Some.logged.items) = rw c.in-Some.is at c.in_ok-calls.ensures in
+    let none : IsNoPicture k asked c.args.cut c.args.bytes.items fault =
+    not_drawn k asked c.args.cut c.args.bytes.items history (Some c.in-Some.logged.items) calls (λ _. refl) fault
     (subst (λ (l : List LoggedCall). IsNotDrawn k asked c.args.cut history l fault) c.as_slice.ensures.value
     c.in_err-text.ensures) in
     search (rules, none)

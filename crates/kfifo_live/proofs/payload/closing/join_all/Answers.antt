@@ -5,9 +5,9 @@ use Rattle.std.proofs.lemmas.List.Elements.{All-pop}
 use Rattle.kfifo_model.proofs.Lists.{AllByRecursion-append}
 use Rattle.kfifo_live.proofs.Types.{Part}
 use Rattle.kfifo_live.specs.Schedule.{AllBegin, AllGiven}
-use Rattle.kfifo_live.specs.Pass.{queue_of, IsPassOf}
-use Rattle.kfifo_live.specs.Payloads.{EndsIn, PayPassView}
-use Rattle.kfifo_live.proofs.Gathered.{all_begin_parts, all_given_parts, pass_ends}
+use Rattle.kfifo_live.specs.Pass.{queue_of, AllIdle, IsPassOf}
+use Rattle.kfifo_live.specs.Payloads.{EndsIn, PayPassView, passes_of}
+use Rattle.kfifo_live.proofs.Gathered.{all_begin_parts, all_given_parts, pass_ends, pass_idle, pays_idle_push}
 use Rattle.kfifo_live.proofs.payload.closing.join_all.Goals as goal
 
 pub join_seats-requires-clause-other : goal.join_seats-requires-clause-other
@@ -37,6 +37,13 @@ loop-pass-preserved g c =
           (sym (ap (λ (k : PayPassView g.row.T.Denot). k.gifts) c.pass.view_is)) begins.1 given.1 in
           i.covers all gifts begins.0 given.0 (subst (AllByRecursion (EndsIn all gifts)) (sym items)
           (AllByRecursion-append (EndsIn all gifts) _ (c.in-Some.pass ∷ []) s (ends, tt)));
+      idle = λ others.
+          let o = c.args.seat.me.0.opened in
+          let mine = pass_idle o _ c.pass.inside.seat.me c.in-Some.pass.pass c.pass.invariant.0
+          (ap (λ (k : PayPassView g.row.T.Denot). k.pass.opened) c.pass.view_is ∙ of.1.1)
+          (sym (ap (λ (k : PayPassView g.row.T.Denot). k.pass.thread) c.pass.view_is))
+          (sym (ap (λ (k : PayPassView g.row.T.Denot). k.pass.seen) c.pass.view_is)) in
+          i.idle (subst (λ (ps : List (PayPassView g.row.T.Denot)). AllIdle o (passes_of ps)) (sym items) (pays_idle_push o _ _ others mine));
     }
 
 pub returns-clause-all : goal.returns-clause-all
@@ -45,4 +52,5 @@ returns-clause-all g c =
     let none : c.loop-pass.passes.items ≡ [] = search rules in record {
       opened = i.opened;
       all_end = λ all gifts b h. i.covers all gifts b h (subst (AllByRecursion (EndsIn all gifts)) (sym none) tt);
+      all_idle = i.idle (subst (λ (ps : List (PayPassView g.row.T.Denot)). AllIdle c.args.seat.me.0.opened (passes_of ps)) (sym none) tt);
     }

@@ -3,8 +3,8 @@ use Rattle.std.specs.List.{AllByRecursion}
 use Rattle.kfifo_live.proofs.Types.{Event}
 use Rattle.kfifo_live.specs.Hands.{Gifts}
 use Rattle.kfifo_live.specs.Schedule.{AllBegin, AllGiven}
-use Rattle.kfifo_live.specs.Pass.{queue_of, IsPassOf}
-use Rattle.kfifo_live.specs.Payloads.{EndsIn, PayPassView}
+use Rattle.kfifo_live.specs.Pass.{queue_of, AllIdle, IsPassOf}
+use Rattle.kfifo_live.specs.Payloads.{EndsIn, PayPassView, passes_of}
 use Rattle.kfifo_live.proofs.payload.closing.join_all.Given as goal
 
 abbrev pub invariant-loop-pass : goal.invariant-loop-pass
@@ -15,6 +15,7 @@ invariant-loop-pass g l = record {
   covers : (all : List Event) (gifts : Gifts g.row.T.Denot) → AllBegin l.seat.me.0.parts all → AllGiven l.seat.me.0.parts gifts
       → AllByRecursion (EndsIn all gifts) l.passes.items
       → (AllBegin l.fn.seat.me.0.parts all × AllGiven l.fn.seat.me.0.parts gifts) × AllByRecursion (EndsIn all gifts) l.initial.passes.items;
+  idle : AllIdle l.fn.seat.me.0.opened (passes_of l.passes.items) → AllIdle l.fn.seat.me.0.opened (passes_of l.initial.passes.items);
 }
 
 abbrev pub decreases-loop-pass : goal.decreases-loop-pass

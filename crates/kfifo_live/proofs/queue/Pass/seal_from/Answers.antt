@@ -1,48 +1,36 @@
--- Where the ends stand sealed, or the seal was won, they are sealed; else others' events came alone.
-use Rattle.std.proofs.Common.{◌≡◌, ◌≤◌, ◌∙◌, sym, ap, subst, arith, eqb-true}
-use Rattle.kfifo_words.specs.Words.{head_of, tail_of, version_of}
-use Rattle.kfifo_machine.proofs.Sound.{sound_ends}
-use Rattle.kfifo_machine.specs.Machine.{word_at}
-use Rattle.kfifo_live.proofs.Types.{Opening, Shape}
+-- A try to seal leaves the pass in no call.
+use Rattle.std.proofs.Common.{◌∙◌, ap, subst, sym}
+use Rattle.kfifo_live.proofs.Types.{View}
 use Rattle.kfifo_live.specs.Schedule.{seen_of}
-use Rattle.kfifo_live.specs.Pass.{OpenQueue, PassView}
-use Rattle.kfifo_live.specs.Seals.{SealsFrom}
-use Rattle.kfifo_live.proofs.Passes.{promised}
-use Rattle.kfifo_live.proofs.Sealed.{sealed_before, tried, tries_won}
+use Rattle.kfifo_live.specs.Pass.{PassView}
+use Rattle.kfifo_live.specs.Seals.{FailsToSeal, SealsFrom, WasSeen}
+use Rattle.kfifo_live.proofs.Passes.{pass_thread, promised}
+use Rattle.kfifo_live.proofs.Sealed.{pass_on}
 use Rattle.kfifo_live.proofs.queue.Pass.seal_from.Goals as goal
 
-pub returns-then-head-tail-clause-promise : goal.returns-then-head-tail-clause-promise
-returns-then-head-tail-clause-promise c = c.requires.promise
-
-pub returns-then-version-last-clause-sealed : goal.returns-then-version-last-clause-sealed
-returns-then-version-last-clause-sealed c = λ _.
-    let s = c.requires.seen in
-    let o = c.args.self.now.opened in
-    let shape : c.queue.inside.shape ≡ o.shape =
-    ap (λ (q : OpenQueue). q.opened.shape) c.queue.view_is ∙ ap (λ (x : Opening). x.shape) (sym c.requires.of.1) in
-    let last : c.last.result ≡ o.shape.last = c.last.ensures ∙ ap (λ (x : Shape). x.last) shape in
-    let most : version_of (word_at s.world 0) ≤ o.shape.last = (sound_ends o.shape o.threads s.before s.world s.reached).version in
-    let version : c.version.result ≡ version_of c.args.ends = c.version.ensures.value in
-    let same : version_of c.args.ends ≡ version_of (word_at s.world 0) = ap version_of s.word_is in
-    let low : c.last.result ≤ c.version.result = c.if-version-last.true in
-    let together : head_of c.args.ends ≡ tail_of c.args.ends = sym c.head.ensures.value ∙ c.if-head-tail.false ∙ c.tail.ensures.value in
-    sealed_before o c.args.ends c.args.self.now.seen s.before s.rest s.world s.now s.split s.reached s.word_is s.seen
-    (record { together = together; last = omega arith })
-
-pub returns-then-version-last-clause-promise : goal.returns-then-version-last-clause-promise
-returns-then-version-last-clause-promise c = c.requires.promise
+pub seal_ends-requires-clause-seen : goal.seal_ends-requires-clause-seen
+seal_ends-requires-clause-seen c =
+    subst (λ (k : PassView). WasSeen k.opened c.args.ends k.seen) (sym c.self.view_is) c.requires.seen
 
 pub invariant_of-self : goal.invariant_of-self
-invariant_of-self c = tried c.args.ends c.try_seal.result _ c.self.inside.seat.me c.try_seal.new.seat.me c.self.invariant
-    c.try_seal.ensures.same.1 c.try_seal.ensures.tries
+invariant_of-self c = pass_on _ _ c.self.inside.seat.me c.seal_ends.new.seat.me c.self.invariant c.seal_ends.ensures.same.1
+    c.seal_ends.ensures.idle c.seal_ends.ensures.gifts.1
 
-pub returns-clause-sealed : goal.returns-clause-sealed
-returns-clause-sealed c = λ won.
-    let word : c.try_seal.result ≡ c.args.ends = eqb-true c.try_seal.result c.args.ends (sym c.eq.ensures ∙ won) in
-    subst (λ (k : PassView). SealsFrom k.opened c.args.ends k.seen (seen_of c.try_seal.new.seat.me.0)) c.self.view_is
-    (tries_won c.args.ends c.try_seal.result c.self.inside.seat.me.0 c.try_seal.new.seat.me.0 c.try_seal.ensures.tries word)
-
-pub returns-clause-promise : goal.returns-clause-promise
-returns-clause-promise c = promised _ c.try_seal.new.seat.me
-    (tried c.args.ends c.try_seal.result _ c.self.inside.seat.me c.try_seal.new.seat.me c.self.invariant c.try_seal.ensures.same.1
-    c.try_seal.ensures.tries)
+pub returns : goal.returns
+returns c =
+    let was = c.self.view_is in
+    let me = c.self.inside.seat.me in
+    let now = seen_of c.seal_ends.new.seat.me.0 in
+    let mine = pass_thread _ me c.self.invariant in
+    record {
+      same = (
+        c.seal_ends.ensures.same.0 ∙ ap (λ (k : PassView). k.table) was,
+        ap (λ (v : View (Unit {0})). v.opened) c.seal_ends.ensures.gifts.1 ∙ ap (λ (k : PassView). k.opened) was,
+        ap (λ (k : PassView). k.thread) was,
+      );
+      sealed = λ won. subst (λ (k : PassView). SealsFrom k.opened k.thread c.args.ends k.seen now) was
+          (subst (λ t. SealsFrom me.0.opened t c.args.ends (seen_of me.0) now) mine (c.seal_ends.ensures.sealed won));
+      «open» = λ lost. subst (λ (k : PassView). FailsToSeal k.opened k.thread c.args.ends k.seen now) was
+          (subst (λ t. FailsToSeal me.0.opened t c.args.ends (seen_of me.0) now) mine (c.seal_ends.ensures.«open» lost));
+      promise = promised _ c.seal_ends.new.seat.me (invariant_of-self c);
+    }

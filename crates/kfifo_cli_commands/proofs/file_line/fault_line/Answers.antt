@@ -4,7 +4,7 @@ use Rattle.std.proofs.lemmas.Result.{IfOk-weaker}
 use Rattle.kfifo_judge.specs.Reports.{fault_report}
 use Rattle.kfifo_cli_texts.specs.Faults.{fault_text}
 use Rattle.kfifo_cli_commands.specs.FileVerdicts.{fault_said, named_line}
-use Rattle.kfifo_cli_commands.proofs.commands.judge_files.fault_line.Goals as goal
+use Rattle.kfifo_cli_commands.proofs.file_line.fault_line.Goals as goal
 
 pub returns-then-options : goal.returns-then-options
 returns-then-options c = IfOk-weaker c.fault_report.result _ _ (λ text told.

@@ -2,7 +2,7 @@ use Rattle.std.proofs.Common.{List, option_map, subst}
 use Rattle.std.specs.Prelude.{string_bytes}
 use Rattle.kfifo_model.specs.declared.logged.LoggedCall.{LoggedCall}
 use Rattle.kfifo_cli_commands.specs.FileVerdicts.{IsFileVerdict}
-use Rattle.kfifo_cli_commands.proofs.commands.judge_files.verdict_in.Goals as goal
+use Rattle.kfifo_cli_commands.proofs.file_line.verdict_in.Goals as goal
 
 pub returns : goal.returns
 returns g c = record {

@@ -1,0 +1,203 @@
+/* Many at once, for the proved k-FIFO queue: an array of values or items goes into the queue until that is full, and up
+   to so many come out into one. In the proof each value is a call of its own, and other threads may give or take
+   between two of them. docs/C.md, "Many at once", says how to use these calls.
+
+   A call looks for threads that wait once, after its last value, and wakes as many as there are values, or all where
+   fewer wait. kfifo_wait.h says why no wake-up is lost after a single give: the look comes after the call, and a
+   waiting thread's second look after it has announced itself. So it is here, of each value. Only the wake-up may come
+   later, by as long as the other values take. */
+#ifndef KFIFO_MANY_H
+#define KFIFO_MANY_H
+
+#include "kfifo.h"
+
+#ifdef __cplusplus
+extern "C" {
+#endif
+
+/* After so many gives that were done and woke nobody: wakes a taker for each, and a giver. */
+static inline void kfifo_after_gives(kfifo_waits *waits, size_t given) {
+    uint32_t state = given ? kfifo_waits_state(waits) : 0;
+    if (__builtin_expect(state <= KFIFO_WAITS_FINISHED, 1)) return;
+    size_t takers = (state & KFIFO_WAITS_TAKERS) / KFIFO_WAITS_TAKER;
+    size_t wakes = given < takers ? given : takers;
+    do (void)kfifo_after_give(waits, KFIFO_DONE);
+    while (wakes-- > 1);
+}
+
+/* After so many takes that were done and woke nobody: wakes a giver for each. */
+static inline void kfifo_after_takes(kfifo_waits *waits, size_t taken) {
+    uint32_t state = taken ? kfifo_waits_state(waits) : 0;
+    if (__builtin_expect(state < KFIFO_WAITS_GIVER, 1)) return;
+    size_t givers = state / KFIFO_WAITS_GIVER;
+    for (size_t wakes = taken < givers ? taken : givers; wakes; wakes--) (void)kfifo_after_take(waits, KFIFO_DONE);
+}
+
+/* Returns what a give comes to of an open handle. Where it is done it wakes nobody: that comes after the last one. */
+#define KFIFO_ONE_GIVE(pass, call)                                                                                     \
+    kfifo_waits *waits = KFIFO_WAITS(pass);                                                                            \
+    if (__builtin_expect(kfifo_is_finished(waits), 0)) return KFIFO_FINISHED;                                          \
+    kfifo_status status = (call);                                                                                      \
+    return __builtin_expect(status == KFIFO_DONE, 1) ? status : kfifo_after_give(waits, status)
+
+/* The same of a take. One that found nothing is made as a single one. */
+#define KFIFO_ONE_TAKE(pass, bare, single)                                                                             \
+    kfifo_status status = (bare);                                                                                      \
+    if (__builtin_expect(status == KFIFO_DONE, 1)) return status;                                                      \
+    (void)kfifo_after_take(KFIFO_WAITS(pass), status);                                                                 \
+    return status == KFIFO_EMPTY && kfifo_is_finished(KFIFO_WAITS(pass)) ? (single) : status
+
+static inline kfifo_status kfifo_one_give_once(kfifo_value_pass *pass, uint64_t value) {
+    KFIFO_ONE_GIVE(pass, kfifo_bare_give(pass, value));
+}
+
+static inline kfifo_status kfifo_one_take_once(kfifo_value_pass *pass, uint64_t *value) {
+    KFIFO_ONE_TAKE(pass, kfifo_bare_take(pass, value), kfifo_take_once(pass, value));
+}
+
+static inline kfifo_status kfifo_one_publish_once(kfifo_cell_pass *pass) {
+    KFIFO_ONE_GIVE(pass, kfifo_bare_publish(pass));
+}
+
+static inline kfifo_status kfifo_one_put_once(kfifo_pass *pass, uint32_t item) {
+    KFIFO_ONE_GIVE(pass, kfifo_bare_put(pass, item));
+}
+
+static inline kfifo_status kfifo_one_get_once(kfifo_pass *pass, uint32_t *item) {
+    KFIFO_ONE_TAKE(pass, kfifo_bare_get(pass, item), kfifo_get_once(pass, item));
+}
+
+static inline kfifo_status kfifo_one_give(kfifo_value_pass *pass, uint64_t value) {
+    KFIFO_UNLESS_BUSY(pass, kfifo_one_give_once(pass, value));
+}
+
+static inline kfifo_status kfifo_one_take(kfifo_value_pass *pass, uint64_t *value) {
+    KFIFO_UNLESS_BUSY(pass, kfifo_one_take_once(pass, value));
+}
+
+static inline kfifo_status kfifo_one_put(kfifo_pass *pass, uint32_t item) {
+    KFIFO_UNLESS_BUSY(pass, kfifo_one_put_once(pass, item));
+}
+
+static inline kfifo_status kfifo_one_get(kfifo_pass *pass, uint32_t *item) {
+    KFIFO_UNLESS_BUSY(pass, kfifo_one_get_once(pass, item));
+}
+
+static inline kfifo_status kfifo_one_take_pointer(kfifo_value_pass *pass, void **pointer) {
+    uint64_t value = 0;
+    kfifo_status status = kfifo_one_take(pass, &value);
+    if (status == KFIFO_DONE) *pointer = KFIFO_CAST_POINTER(void *, KFIFO_CAST(uintptr_t, value));
+    return status;
+}
+
+/* Whether each of these is an item. */
+static inline int kfifo_are_items(const uint32_t *items, size_t count) {
+    uint32_t wrong = 0;
+    for (size_t i = 0; i < count; i++) wrong |= KFIFO_CAST(uint32_t, items[i] - 1 >= KFIFO_MAX_ITEM);
+    return !wrong;
+}
+
+/* Writes 0 where a call says how many there were. Returns BAD_CALL unless it has a place for that, an open handle, and
+   an array where it needs one. */
+#define KFIFO_BEGIN_MANY(pass, array, count, many)                                                                     \
+    if (!(many)) return KFIFO_BAD_CALL;                                                                                \
+    *(many) = 0;                                                                                                       \
+    if (!(pass) || !KFIFO_WAITS(pass) || (!(array) && (count))) return KFIFO_BAD_CALL
+
+/* Makes a call for each i from 0 on while it is done, and wakes who waits for that. Returns what the last one came to.
+ */
+#define KFIFO_GIVE_EACH(pass, count, given, call)                                                                      \
+    kfifo_status status = KFIFO_DONE;                                                                                  \
+    size_t i = 0;                                                                                                      \
+    while (i < (count) && (status = (call)) == KFIFO_DONE) i++;                                                        \
+    kfifo_after_gives(KFIFO_WAITS(pass), i);                                                                           \
+    *(given) = i;                                                                                                      \
+    return status
+
+/* The same. Returns DONE also where the last call was not, but one before. */
+#define KFIFO_TAKE_EACH(pass, most, taken, call)                                                                       \
+    kfifo_status status = KFIFO_DONE;                                                                                  \
+    size_t i = 0;                                                                                                      \
+    while (i < (most) && (status = (call)) == KFIFO_DONE) i++;                                                         \
+    kfifo_after_takes(KFIFO_WAITS(pass), i);                                                                           \
+    *(taken) = i;                                                                                                      \
+    return i ? KFIFO_DONE : status
+
+/* ---- Many values or items at once ----
+
+   A call that gives returns DONE where all are in the queue, and else why the next one is not: FULL, FINISHED, WORN, or
+   NO_TOKEN of values. Those from that one on stay the caller's. A call that takes returns DONE where it took at least
+   one, or none was asked for, and else why it took none: EMPTY, FINISHED or WORN. Each writes how many there were, also
+   0. BAD_CALL of a null pointer or a closed handle: nothing was done. None of them waits, and each wakes who does. */
+
+/* Gives the values of an array in their order, until the queue takes no more: the first *given are in the queue.
+
+       size_t given = 0;
+       kfifo_status gave = kfifo_give_all(&passes[0], values, 64, &given);
+       if (gave != KFIFO_DONE) printf("%zu of 64 are given: %s\n", given, kfifo_status_text(gave));
+*/
+KFIFO_MUST_USE static inline kfifo_status kfifo_give_all(kfifo_value_pass *pass, const uint64_t *values, size_t count,
+                                                         size_t *given) {
+    KFIFO_BEGIN_MANY(pass, values, count, given);
+    KFIFO_GIVE_EACH(pass, count, given, kfifo_one_give(pass, values[i]));
+}
+
+/* Takes values until there are `most` or the queue has no more, and writes them from values[0] on. Those that it has
+   not taken stay as they are in the array.
+
+       size_t taken = 0;
+       while (kfifo_take_up_to(&passes[1], values, 64, &taken) == KFIFO_DONE)
+           for (size_t i = 0; i < taken; i++) sum += values[i];
+*/
+KFIFO_MUST_USE static inline kfifo_status kfifo_take_up_to(kfifo_value_pass *pass, uint64_t *values, size_t most,
+                                                           size_t *taken) {
+    KFIFO_BEGIN_MANY(pass, values, most, taken);
+    KFIFO_TAKE_EACH(pass, most, taken, kfifo_one_take(pass, &values[i]));
+}
+
+/* The same two with pointers for values.
+
+       if (kfifo_give_all_pointers(&passes[0], orders, 2, &given) != KFIFO_DONE) return 1;
+       if (kfifo_take_pointers_up_to(&passes[1], orders, 2, &taken) != KFIFO_DONE) return 1;
+*/
+KFIFO_MUST_USE static inline kfifo_status kfifo_give_all_pointers(kfifo_value_pass *pass, void *const *pointers,
+                                                                  size_t count, size_t *given) {
+    KFIFO_BEGIN_MANY(pass, pointers, count, given);
+    KFIFO_GIVE_EACH(pass, count, given, kfifo_one_give(pass, KFIFO_CAST_POINTER(uintptr_t, pointers[i])));
+}
+
+KFIFO_MUST_USE static inline kfifo_status kfifo_take_pointers_up_to(kfifo_value_pass *pass, void **pointers,
+                                                                    size_t most, size_t *taken) {
+    KFIFO_BEGIN_MANY(pass, pointers, most, taken);
+    KFIFO_TAKE_EACH(pass, most, taken, kfifo_one_take_pointer(pass, &pointers[i]));
+}
+
+/* Puts the items of an array in their order, until the queue takes no more: the first *put are in the queue. BAD_CALL,
+   and none is put, also where one of them is not 1 to KFIFO_MAX_ITEM.
+
+       size_t put = 0;
+       if (kfifo_put_all(&passes[0], items, 64, &put) != KFIFO_DONE) printf("%zu of 64 are put\n", put);
+*/
+KFIFO_MUST_USE static inline kfifo_status kfifo_put_all(kfifo_pass *pass, const uint32_t *items, size_t count,
+                                                        size_t *put) {
+    KFIFO_BEGIN_MANY(pass, items, count, put);
+    if (!kfifo_are_items(items, count)) return KFIFO_BAD_CALL;
+    KFIFO_GIVE_EACH(pass, count, put, kfifo_one_put(pass, items[i]));
+}
+
+/* Takes items until there are `most` or the queue has no more, as kfifo_take_up_to does.
+
+       size_t got = 0;
+       while (kfifo_get_up_to(&passes[1], items, 64, &got) == KFIFO_DONE)
+           for (size_t i = 0; i < got; i++) sum += items[i];
+*/
+KFIFO_MUST_USE static inline kfifo_status kfifo_get_up_to(kfifo_pass *pass, uint32_t *items, size_t most, size_t *got) {
+    KFIFO_BEGIN_MANY(pass, items, most, got);
+    KFIFO_TAKE_EACH(pass, most, got, kfifo_one_get(pass, &items[i]));
+}
+
+#ifdef __cplusplus
+}
+#endif
+
+#endif

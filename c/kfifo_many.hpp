@@ -1,0 +1,239 @@
+// Many at once, for C++17: a part of kfifo.hpp, which includes it. The declarations there say what each call does.
+#ifndef KFIFO_MANY_HPP
+#define KFIFO_MANY_HPP
+
+#include "kfifo.hpp"
+
+namespace kfifo {
+
+namespace detail {
+
+// The values of a range, each as one that can be moved from.
+template <typename Iterator, typename End> struct Moving {
+    Iterator first;
+    End last;
+    Iterator begin() const { return first; }
+    End end() const { return last; }
+};
+
+// Whether the iterators of a range that is handed over so are good after the call.
+template <typename Range>
+constexpr bool is_outlived = std::is_lvalue_reference_v<Range>
+#ifdef __cpp_lib_ranges
+                             || std::ranges::borrowed_range<Range>
+#endif
+    ;
+template <typename Iterator, typename End> constexpr bool is_outlived<Moving<Iterator, End>> = true;
+
+// Whether the range of an iterator can be read again, so that a step does not wait for anybody.
+template <typename Iterator, typename = void> constexpr bool can_read_again = false;
+template <typename Iterator>
+constexpr bool can_read_again<Iterator, std::void_t<typename std::iterator_traits<Iterator>::iterator_category>> =
+    std::is_base_of_v<std::forward_iterator_tag, typename std::iterator_traits<Iterator>::iterator_category>;
+
+template <typename Range> auto begin_of(Range &range) {
+    using std::begin;
+    return begin(range);
+}
+
+template <typename Range> auto end_of(Range &range) {
+    using std::end;
+    return end(range);
+}
+
+// The gives of a call, which wakes who waits for them when it ends, also by an exception.
+class GivesMany {
+  public:
+    explicit GivesMany(kfifo_waits *of) : waits(of) {}
+    GivesMany(const GivesMany &) = delete;
+    GivesMany &operator=(const GivesMany &) = delete;
+    ~GivesMany() { wake(); }
+
+    // Calls `give` with each value of a range, until one is not done.
+    template <typename Iterator, typename End, typename Give>
+    GaveAll<Iterator> each(Iterator first, End end, Give give) {
+        GaveAll<Iterator> all{0, std::move(first), Put::done};
+        while (all.rest != end) {
+            all.why = give(*all.rest);
+            if (all.why != Put::done) break;
+            all.given++;
+            asleep++;
+            if constexpr (!can_read_again<Iterator>) wake();
+            ++all.rest;
+        }
+        return all;
+    }
+
+  private:
+    void wake() { kfifo_after_gives(waits, std::exchange(asleep, 0)); }
+
+    kfifo_waits *waits;
+    std::size_t asleep = 0; // so many were given, and who waits for them was not woken yet
+};
+
+// The takes of a call, which wakes who waits for room when it ends, also by an exception.
+struct TakesMany {
+    explicit TakesMany(kfifo_waits *of) : waits(of) {}
+    TakesMany(const TakesMany &) = delete;
+    TakesMany &operator=(const TakesMany &) = delete;
+    ~TakesMany() { kfifo_after_takes(waits, all.taken); }
+
+    kfifo_waits *waits;
+    TookUpTo all;
+};
+
+} // namespace detail
+
+// The values of a range, to be moved from: giver.give_all(kfifo::moving(words)). Those that are not given stay as they
+// are. `rest` of the result is a std::move_iterator, whose base() is the place in the range.
+template <typename Range> [[nodiscard]] auto moving(Range &range) {
+    auto first = std::make_move_iterator(detail::begin_of(range));
+    auto last = std::make_move_iterator(detail::end_of(range));
+    return detail::Moving<decltype(first), decltype(last)>{first, last};
+}
+
+// ---- Items ----
+
+template <typename Iterator, typename End> GaveAll<Iterator> Pass::enqueue_all(Iterator first, End end) const {
+    using Item = std::decay_t<decltype(*first)>;
+    static_assert(std::is_unsigned_v<Item> && sizeof(Item) <= sizeof(std::uint32_t),
+                  "an item is a std::uint32_t, or of an unsigned type for which it has room");
+    if (!KFIFO_WAITS(handle)) refuse(1, 0, 1, kfifo_status_text(KFIFO_BAD_CALL));
+    if constexpr (detail::can_read_again<Iterator>) {
+        for (Iterator it = first; it != end; ++it)
+            if (std::uint32_t item = *it; !kfifo_are_items(&item, 1)) refuse(item, 0, 1, "");
+    }
+    return detail::GivesMany(KFIFO_WAITS(handle)).each(std::move(first), end, [this](std::uint32_t item) {
+        return put(kfifo_are_items(&item, 1) ? kfifo_one_put(handle, item) : KFIFO_BAD_CALL, item, 0, 1);
+    });
+}
+
+template <typename Range> auto Pass::enqueue_all(Range &&range) const {
+    static_assert(detail::is_outlived<Range>, "what was not put would go with the range: give it a name");
+    return enqueue_all(detail::begin_of(range), detail::end_of(range));
+}
+
+template <typename Container> TookUpTo Pass::dequeue_up_to(std::size_t most, Container &out) const {
+    if (!KFIFO_WAITS(handle)) refuse(1, 0, 1, kfifo_status_text(KFIFO_BAD_CALL));
+    detail::TakesMany takes(KFIFO_WAITS(handle));
+    for (; takes.all.taken < most; takes.all.taken++) {
+        // There is a place before there is an item.
+        out.push_back(0);
+        std::uint32_t item = 0;
+        kfifo_status status = kfifo_one_get(handle, &item);
+        if (status != KFIFO_DONE) {
+            out.pop_back();
+            takes.all.why = taken(status, item, 0, 1).why;
+            break;
+        }
+        out.back() = item;
+    }
+    return takes.all;
+}
+
+inline TakenItems Pass::dequeue_up_to(std::size_t most) const {
+    TakenItems taken;
+    KFIFO_TRY { taken.why = dequeue_up_to(most, taken.items).why; }
+    KFIFO_CATCH {
+        // There is no memory for more.
+        if (taken.items.empty()) KFIFO_THROW_AGAIN;
+    }
+    return taken;
+}
+
+// ---- Values ----
+
+// Gives what an iterator reads, and wakes nobody where that is done.
+template <typename T> template <typename Reference> Put ValueQueue<T>::Handle::give_one(Reference &&value) {
+    static_assert(std::is_convertible_v<Reference &&, T>,
+                  "a value of the range cannot be copied or converted to one of the queue: see kfifo::moving");
+    if constexpr (std::is_same_v<Reference &&, T &&>) {
+        return give_by<kfifo_one_publish_once>(detail::UnlessBusy(), std::move(value));
+    } else {
+        return put<kfifo_one_publish_once>(
+            detail::UnlessBusy(), [&](Reserved &cell) { cell.make(std::forward<Reference>(value)); }, [](T &) {});
+    }
+}
+
+template <typename T>
+template <typename Iterator, typename End>
+GaveAll<Iterator> ValueQueue<T>::Handle::give_all(Iterator first, End end) {
+    return detail::GivesMany(usable()).each(
+        std::move(first), end, [this](auto &&value) { return this->give_one(std::forward<decltype(value)>(value)); });
+}
+
+template <typename T> template <typename Range> auto ValueQueue<T>::Handle::give_all(Range &&range) {
+    static_assert(detail::is_outlived<Range> || std::is_same_v<Range, Values>,
+                  "what was not given would go with the range: give it a name");
+    return give_all(detail::begin_of(range), detail::end_of(range));
+}
+
+// The cell of the latest take of a call. The next one releases it, so that the last cell alone is released at the end.
+// One whose value could not be moved out is kept with it.
+template <typename T> struct ValueQueue<T>::Handle::LastCell {
+    explicit LastCell(Handle &by) : handle(by) {}
+    LastCell(const LastCell &) = delete;
+    LastCell &operator=(const LastCell &) = delete;
+    ~LastCell() {
+        if (has_value) {
+            handle.kept = number;
+            (void)kfifo_after_take(KFIFO_WAITS(handle.pass), KFIFO_DONE);
+        } else if (is_received) {
+            (void)kfifo_release(handle.pass);
+        }
+    }
+
+    // Takes a value, if there is one: that of the cell that was kept, or one of the queue.
+    kfifo_status take(kfifo_waits *waits) {
+        number = std::exchange(handle.kept, detail::no_cell);
+        kfifo_status status = KFIFO_DONE;
+        if (number == detail::no_cell)
+            status = detail::UnlessBusy()(handle.pass, [&] { return handle.look(waits, &number); });
+        is_received = has_value = status == KFIFO_DONE;
+        return status;
+    }
+
+    // The value is moved out.
+    void out() {
+        handle.state->cells.destroy(handle.bits, number);
+        has_value = false;
+    }
+
+    Handle &handle;
+    std::uint64_t number = detail::no_cell;
+    bool is_received = false, has_value = false;
+};
+
+template <typename T>
+template <typename Container>
+TookUpTo ValueQueue<T>::Handle::take_up_to(std::size_t most, Container &out) {
+    detail::TakesMany takes(usable());
+    detail::InCall in_call(pass, "a take of kfifo::ValueQueue");
+    LastCell last(*this);
+    for (; takes.all.taken < most; takes.all.taken++) {
+        kfifo_status status = last.take(takes.waits);
+        if (status != KFIFO_DONE) {
+            takes.all.why = static_cast<Miss>(detail::checked(status));
+            break;
+        }
+        out.push_back(std::move_if_noexcept(state->cells[last.number]));
+        last.out();
+    }
+    return takes.all;
+}
+
+template <typename T> TakenValues<T> ValueQueue<T>::Handle::take_up_to(std::size_t most) {
+    (void)usable();
+    TakenValues<T> taken;
+    most = most < state->cells.size() ? most : state->cells.size();
+    taken.values.reserve(most);
+    KFIFO_TRY { taken.why = take_up_to(most, taken.values).why; }
+    KFIFO_CATCH {
+        if (taken.values.empty()) KFIFO_THROW_AGAIN;
+    }
+    return taken;
+}
+
+} // namespace kfifo
+
+#endif

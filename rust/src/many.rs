@@ -1,0 +1,139 @@
+//! Many values at once.
+use crate::Handle;
+use crate::error::{PopError, PushError};
+use std::error::Error;
+use std::fmt::{self, Debug, Display, Formatter};
+use std::iter::{Chain, Once, once};
+
+/// Why not all values were put: [`Handle::push_all`]. It holds those that were not.
+///
+/// ```
+/// use kfifo::{PushError, Queue};
+///
+/// let queue = Queue::new(1, 2, 1)?;
+/// let handle = queue.handle().expect("a handle is free");
+/// let stopped = handle.push_all(["a", "b", "c", "d"]).expect_err("there are two slots");
+/// assert_eq!((stopped.pushed, stopped.refused), (2, PushError::Full("c")));
+/// assert_eq!(stopped.rest.collect::<Vec<_>>(), ["d"]);
+/// # Ok::<(), kfifo::OpenError>(())
+/// ```
+pub struct PushAllError<I: Iterator> {
+    /// How many values are in the queue.
+    pub pushed: usize,
+    /// The value that was refused, and why.
+    pub refused: PushError<I::Item>,
+    /// The iterator, with the values behind that one.
+    pub rest: I,
+}
+
+impl<I: Iterator> PushAllError<I> {
+    /// The values that were not put: the one that was refused, and those behind it.
+    ///
+    /// ```
+    /// let queue = kfifo::Queue::new(1, 2, 1)?;
+    /// let handle = queue.handle().expect("a handle is free");
+    /// let stopped = handle.push_all(1..=4).expect_err("there are two slots");
+    /// assert!(stopped.into_rest().eq([3, 4]));
+    /// # Ok::<(), kfifo::OpenError>(())
+    /// ```
+    #[must_use]
+    pub fn into_rest(self) -> Chain<Once<I::Item>, I> {
+        once(self.refused.into_inner()).chain(self.rest)
+    }
+}
+
+// As with `PushError`, the values need not be printable.
+impl<I: Iterator> Debug for PushAllError<I> {
+    fn fmt(&self, f: &mut Formatter<'_>) -> fmt::Result {
+        f.debug_struct("PushAllError")
+            .field("pushed", &self.pushed)
+            .field("refused", &self.refused)
+            .finish_non_exhaustive()
+    }
+}
+
+impl<I: Iterator> Display for PushAllError<I> {
+    fn fmt(&self, f: &mut Formatter<'_>) -> fmt::Result {
+        write!(
+            f,
+            "{} values were put, and then {}",
+            self.pushed, self.refused
+        )
+    }
+}
+
+impl<I: Iterator> Error for PushAllError<I> {}
+
+/// Many values at once.
+impl<T> Handle<T> {
+    /// Puts each value of an iterator, until the queue takes no more: how many there were. Else the error holds the
+    /// value that was refused, and the rest of the iterator. It never waits, unless the iterator does.
+    ///
+    /// Each value is a push of its own, and wakes a thread that waits for it. So an iterator may itself wait for those
+    /// that pop, as one over the values of another queue.
+    ///
+    /// A handle does not implement [`Extend`], which could not say that the queue was full.
+    ///
+    /// ```
+    /// let queue = kfifo::Queue::new(1, 8, 2)?;
+    /// let producer = queue.handle().expect("a handle is free");
+    /// let consumer = queue.handle().expect("a handle is free");
+    /// std::thread::scope(|scope| {
+    ///     scope.spawn(move || {
+    ///         let _end = producer.finish_on_drop();
+    ///         let mut numbers = 0..1000;
+    ///         while let Err(stopped) = producer.push_all(&mut numbers) {
+    ///             // Full: it sleeps until there is room for the one that was refused.
+    ///             if let Err(refused) = producer.push_wait(stopped.refused.into_inner()) {
+    ///                 eprintln!("{} was not put: {refused}", refused.into_inner());
+    ///                 break;
+    ///             }
+    ///         }
+    ///     });
+    ///     assert!(consumer.values().eq(0..1000));
+    /// });
+    /// # Ok::<(), kfifo::OpenError>(())
+    /// ```
+    pub fn push_all<I>(&self, values: I) -> Result<usize, PushAllError<I::IntoIter>>
+    where
+        I: IntoIterator<Item = T>,
+    {
+        let mut rest = values.into_iter();
+        let mut pushed = 0;
+        while let Some(value) = rest.next() {
+            if let Err(refused) = self.push(value) {
+                return Err(PushAllError {
+                    pushed,
+                    refused,
+                    rest,
+                });
+            }
+            pushed += 1;
+        }
+        Ok(pushed)
+    }
+
+    /// Takes values until there are `most` or the queue has no more, and puts them at the end of a vector: how many
+    /// there were. An error says why there is none. It never waits.
+    ///
+    /// It wakes as many threads that wait for room as it took values, when it ends. It costs less than as many calls of
+    /// [`Handle::pop`]. To wait for the first value, take that one by [`Handle::pop_wait`].
+    ///
+    /// ```
+    /// use kfifo::{PopError, Queue};
+    ///
+    /// let queue = Queue::new(1, 8, 1)?;
+    /// let handle = queue.handle().expect("a handle is free");
+    /// assert_eq!(handle.push_all(1..=5).expect("there is room"), 5);
+    /// let mut values = Vec::new();
+    /// assert_eq!(handle.pop_up_to(3, &mut values), Ok(3));
+    /// assert_eq!(handle.pop_up_to(3, &mut values), Ok(2));
+    /// assert_eq!(handle.pop_up_to(3, &mut values), Err(PopError::Empty));
+    /// assert_eq!(values, [1, 2, 3, 4, 5]);
+    /// # Ok::<(), kfifo::OpenError>(())
+    /// ```
+    pub fn pop_up_to(&self, most: usize, values: &mut Vec<T>) -> Result<usize, PopError> {
+        // SAFETY: as in `push`.
+        unsafe { self.shared.pop_up_to(self.number, most, values) }
+    }
+}
