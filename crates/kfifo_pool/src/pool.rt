@@ -1,12 +1,13 @@
 //! The queue and the free tokens that no handle has.
-ghost use Rattle.std.specs.Prelude.{◌≡◌, ◌≤◌, ◌++◌, All, IfOk, IfSome, List, [], None, reverse, vec_capacity};
-ghost use Rattle.counted_slot.specs.Counting.{IsTurn};
+ghost use Rattle.std.specs.Prelude.{◌≡◌, ◌≤◌, ◌<◌, ◌%◌, ◌++◌, All, IfOk, IfSome, List, [], None, reverse, vec_capacity};
+ghost use Rattle.counted_slot.specs.Counting.{IsTurn, readers};
 ghost use Rattle.kfifo_live.specs.Pass.{OpenQueue};
 ghost use Rattle.kfifo_live.specs.Payloads.{TokenView};
 ghost use Rattle.kfifo_pool.specs.Pooled.{AreOf, in_list};
 ghost use Rattle.kfifo_pool.specs.declared.pool.TheConstants.{BATCH};
 
 use counted_slot::{Claim, Counted, FREE, Fits, PRESENT, TAKEN};
+use kfifo_exclusive::Exclusive;
 use kfifo_live::{Token, TokenQueue};
 use std::alloc::{AllocError, Global};
 use std::marker::Model;
@@ -33,12 +34,6 @@ impl<T> Model for Batch<T> {
     ghost invariant = { λ b. BATCH ≤ vec_capacity b.tokens };
 }
 
-impl<T: Drop> Fits for Batch<T> {
-    type Tag = TokenQueue<T>;
-
-    ghost fits = { λ queue batch. AreOf queue batch };
-}
-
 impl<T: Drop> Batch<T> {
     /// An empty list, with room for a batch.
     pub(crate) fn new(alloc: Global) -> Result<Batch<T>, AllocError>
@@ -62,6 +57,38 @@ impl<T: Drop> Batch<T> {
     }
 }
 
+/// A list that lies in a place.
+// Handles of all threads share the places. What is shared may be read by any thread unless nothing can be.
+#[derive(Drop)]
+pub(crate) struct Resting<T: Drop> {
+    batch: Exclusive<Batch<T>>,
+}
+
+impl<T: Drop> Fits for Resting<T> {
+    type Tag = TokenQueue<T>;
+
+    ghost fits = { λ queue resting. AreOf queue resting.batch.inner };
+}
+
+impl<T: Drop> Resting<T> {
+    /// This list, out of reach.
+    pub(crate) fn new(batch: Batch<T>) -> Resting<T>
+        ensures { result.batch.inner ≡ batch }
+    {
+        Resting {
+            batch: Exclusive::new(batch),
+        }
+    }
+
+    /// The list.
+    fn into_batch(self) -> Batch<T>
+        ensures { result ≡ self.batch.inner }
+    {
+        let Resting { batch } = self;
+        batch.into_inner()
+    }
+}
+
 /// A running queue of tokens, with places in which batches of its free tokens lie.
 ///
 /// In each place lies a list: one with tokens, or an empty one where the place is empty. Who lays a batch down exchanges
@@ -71,7 +98,7 @@ impl<T: Drop> Batch<T> {
 #[derive(Drop)]
 pub struct PooledQueue<T: Drop> {
     pub(crate) queue: TokenQueue<T>,
-    pub(crate) places: Vec<Counted<Option<Batch<T>>>>,
+    pub(crate) places: Vec<Counted<Option<Resting<T>>>>,
 }
 
 impl<T: Drop> Model for PooledQueue<T> {
@@ -82,9 +109,32 @@ impl<T: Drop> Model for PooledQueue<T> {
     ghost invariant = { λ q. All (λ place. place ≡ q.queue) q.places.items };
 }
 
+/// This list, out of reach.
+fn put_out_of_reach<T: Drop>(list: Option<Batch<T>>) -> Option<Resting<T>>
+    ensures { (queue : OpenQueue) → AreOf queue (in_list list)
+        → IfSome result (λ resting. AreOf queue resting.batch.inner) }
+{
+    let batch = list?;
+    Some(Resting::new(batch))
+}
+
+/// Leaves this list in a place, under this state, and returns the one that lay there.
+fn exchange<T: Drop>(
+    claim: Claim<'_, Option<Resting<T>>>,
+    list: Option<Batch<T>>,
+    state: u64,
+) -> Option<Batch<T>>
+    requires claim { (claim.right ≡ 2) × (state % 4 < 3) × (readers state ≡ 0) }
+    requires of { AreOf claim.tag (in_list list) }
+    ensures { AreOf claim.entry.tag (in_list result) }
+{
+    let found = claim.put(put_out_of_reach(list), state)?;
+    Some(found.into_batch())
+}
+
 impl<T: Drop> PooledQueue<T> {
     /// The right to write to this place, if it is in this state.
-    fn claim(&self, index: usize, state: u64) -> Option<Claim<'_, Option<Batch<T>>>>
+    fn claim(&self, index: usize, state: u64) -> Option<Claim<'_, Option<Resting<T>>>>
         requires { IsTurn state 3 }
         ensures { IfSome result (λ claim. (claim.right ≡ 2) × (claim.tag ≡ self.now)) }
     {
@@ -108,7 +158,7 @@ impl<T: Drop> PooledQueue<T> {
         from: usize,
         end: usize,
         state: u64,
-    ) -> Option<(usize, Claim<'_, Option<Batch<T>>>)>
+    ) -> Option<(usize, Claim<'_, Option<Resting<T>>>)>
         requires { IsTurn state 3 }
         ensures { IfSome result (λ r. (r.1.right ≡ 2) × (r.1.tag ≡ self.now)) }
     {
@@ -121,7 +171,7 @@ impl<T: Drop> PooledQueue<T> {
     }
 
     /// The same of all places. The look begins at this place, and comes to each place once.
-    fn claim_any(&self, from: usize, state: u64) -> Option<(usize, Claim<'_, Option<Batch<T>>>)>
+    fn claim_any(&self, from: usize, state: u64) -> Option<(usize, Claim<'_, Option<Resting<T>>>)>
         requires { IsTurn state 3 }
         ensures { IfSome result (λ r. (r.1.right ≡ 2) × (r.1.tag ≡ self.now)) }
     {
@@ -144,7 +194,7 @@ impl<T: Drop> PooledQueue<T> {
         ensures none { result ≡ None → list.new ≡ list.old }
     {
         let (index, claim) = self.claim_any(from, FREE)?;
-        *list = claim.put(list.take(), PRESENT);
+        *list = exchange(claim, list.take(), PRESENT);
         Some(index)
     }
 
@@ -158,7 +208,7 @@ impl<T: Drop> PooledQueue<T> {
         ensures none { result ≡ None → list.new ≡ list.old }
     {
         let (index, claim) = self.claim_any(from, PRESENT)?;
-        *list = claim.put(list.take(), FREE);
+        *list = exchange(claim, list.take(), FREE);
         Some(index)
     }
 }

@@ -10,7 +10,7 @@ ghost use Rattle.kfifo_live.specs.Tokens.{token_opening};
 ghost use Rattle.kfifo_pool.specs.Pooled.{AreOf, in_list, new_handle, new_handles, pass_of, passes_in};
 
 use crate::handle::PooledHandle;
-use crate::pool::{BATCH, Batch, PooledQueue};
+use crate::pool::{BATCH, Batch, PooledQueue, Resting};
 use counted_slot::Counted;
 use kfifo_live::{CloseFault, Sizes, Token, TokenPass, TokenQueue};
 use std::alloc::{AllocError, Global};
@@ -20,13 +20,13 @@ fn empty_places<T: Drop>(
     alloc: Global,
     queue: &TokenQueue<T>,
     count: usize,
-) -> Result<Vec<Counted<Option<Batch<T>>>>, AllocError>
+) -> Result<Vec<Counted<Option<Resting<T>>>>, AllocError>
     ensures { IfOk result (λ places. All (λ place. place ≡ queue.now) places.items) }
 {
     let mut places = Vec::with_capacity(alloc, count)?;
     for _ in 0..count {
         let batch = Batch::new(alloc)?;
-        places.push(Counted::new(Some(batch), queue))?;
+        places.push(Counted::new(Some(Resting::new(batch)), queue))?;
     }
     Ok(places)
 }
