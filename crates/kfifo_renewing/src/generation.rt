@@ -4,9 +4,9 @@ ghost use Rattle.kfifo_live.specs.Pass.{IsPassOf};
 ghost use Rattle.kfifo_renewing.specs.History.{IsMade};
 ghost use Rattle.kfifo_renewing.specs.Renewing.{Numbered, other_threads, without};
 
-use crate::exclusive::Exclusive;
 use crate::history::{History, Next};
 use counted_slot::{Counted, FREE, Fits, TAKEN};
+use kfifo_exclusive::Exclusive;
 use kfifo_live::{CloseFault, PayPass, PayQueue};
 use kfifo_words::Shape;
 use std::alloc::{AllocError, Global};

@@ -3,7 +3,6 @@
 #![tactic(auto)]
 
 mod change;
-mod exclusive;
 mod fault;
 mod generation;
 mod handle;
@@ -14,7 +13,7 @@ mod leaving;
 mod places;
 mod queue;
 
-pub use exclusive::Exclusive;
 pub use fault::RenewFault;
 pub use handle::RenewingHandle;
+pub use kfifo_exclusive::Exclusive;
 pub use queue::{DEFAULT_RESERVE, NO_RENEWAL, close, open};

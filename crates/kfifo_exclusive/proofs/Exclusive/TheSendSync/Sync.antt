@@ -1,7 +1,7 @@
 use denote.RattleType.{RattleType}
 use denote.Param.Send.{IsSend, IsSync, part_keyless}
-use Rattle.kfifo_renewing.specs.contracts.exclusive.Exclusive.{the_row}
-use Rattle.kfifo_renewing.proofs.exclusive.Exclusive.TheSendSync.Send.{send}
+use Rattle.kfifo_exclusive.specs.contracts.Exclusive.{the_row}
+use Rattle.kfifo_exclusive.proofs.Exclusive.TheSendSync.Send.{send}
 
 pub sync : (T : RattleType) → IsSend T → IsSync (the_row T)
 sync T s = record { shared = λ d b o κ q. part_keyless (the_row T) (send T s) q d b o }

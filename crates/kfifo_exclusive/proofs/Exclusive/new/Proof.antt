@@ -22,11 +22,11 @@ use denote.Triple.Walked.{Stays, stay_dropped, walk_of, Goes-dropped}
 use Rattle.core.proofs.mem.Param.{El, lawful, Good, one}
 use Rattle.std.proofs.raw_atomic.Walks.{proved_at, leaves}
 use Rattle.std.proofs.ResultValues.{and_tt}
-use Rattle.kfifo_renewing.specs.contracts.exclusive.Exclusive as exclusive
-use Rattle.kfifo_renewing.specs.contracts.exclusive.Exclusive.new.{ended, clauses}
-use Rattle.kfifo_renewing.specs.contracts.exclusive.Exclusive.new.Key.{name as #self}
-use Rattle.kfifo_renewing.proofs.exclusive.Exclusive.new.Statement.{statement}
-use Rattle.kfifo_renewing.proofs.exclusive.Exclusive.new.Code as code
+use Rattle.kfifo_exclusive.specs.contracts.Exclusive as exclusive
+use Rattle.kfifo_exclusive.specs.contracts.Exclusive.new.{ended, clauses}
+use Rattle.kfifo_exclusive.specs.contracts.Exclusive.new.Key.{name as #self}
+use Rattle.kfifo_exclusive.proofs.Exclusive.new.Statement.{statement}
+use Rattle.kfifo_exclusive.proofs.Exclusive.new.Code as code
 
 pub new_spec : {M : Type 1} → statement M
 new_spec 𝓤 𝓛 𝓜 𝓡 wired X L =

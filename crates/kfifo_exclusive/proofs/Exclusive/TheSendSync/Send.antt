@@ -3,7 +3,7 @@ use denote.Param.Send.{IsSend, owning_send, struct_send}
 use denote.Struct.Struct.{exits_of}
 use denote.Struct.Owning.{shape, fields, to}
 use Rattle.std_alloc.proofs.SendSync.{quiet}
-use Rattle.kfifo_renewing.specs.contracts.exclusive.Exclusive.{the_row, the_type}
+use Rattle.kfifo_exclusive.specs.contracts.Exclusive.{the_row, the_type}
 
 pub send : (T : RattleType) → IsSend T → IsSend (the_row T)
 send T s = let O = the_type T in

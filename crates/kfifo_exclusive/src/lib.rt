@@ -1,4 +1,6 @@
 //! A value that no shared reference can reach.
+#![tactic(auto)]
+
 ghost use Rattle.std.specs.Prelude.{◌≡◌};
 ghost use base.Fml.{ftrue};
 

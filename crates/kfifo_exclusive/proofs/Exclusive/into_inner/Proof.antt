@@ -23,11 +23,11 @@ use Rattle.core.proofs.alloc.Calls.{Goes-blank}
 use Rattle.core.proofs.mem.Param.{El, lawful, Good, one}
 use Rattle.std.proofs.raw_atomic.Walks.{proved_at, leaves}
 use Rattle.std.proofs.ResultValues.{and_tt}
-use Rattle.kfifo_renewing.specs.contracts.exclusive.Exclusive as exclusive
-use Rattle.kfifo_renewing.specs.contracts.exclusive.Exclusive.into_inner.{ended, clauses}
-use Rattle.kfifo_renewing.specs.contracts.exclusive.Exclusive.into_inner.Key.{name as #self}
-use Rattle.kfifo_renewing.proofs.exclusive.Exclusive.into_inner.Statement.{statement}
-use Rattle.kfifo_renewing.proofs.exclusive.Exclusive.into_inner.Code as code
+use Rattle.kfifo_exclusive.specs.contracts.Exclusive as exclusive
+use Rattle.kfifo_exclusive.specs.contracts.Exclusive.into_inner.{ended, clauses}
+use Rattle.kfifo_exclusive.specs.contracts.Exclusive.into_inner.Key.{name as #self}
+use Rattle.kfifo_exclusive.proofs.Exclusive.into_inner.Statement.{statement}
+use Rattle.kfifo_exclusive.proofs.Exclusive.into_inner.Code as code
 
 pub into_inner_spec : {M : Type 1} → statement M
 into_inner_spec 𝓤 𝓛 𝓜 𝓡 wired X L =

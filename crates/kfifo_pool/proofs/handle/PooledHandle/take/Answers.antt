@@ -1,0 +1,9 @@
+use Rattle.std.proofs.Common.{subst}
+use Rattle.kfifo_live.specs.Calls.{IsDisturbed}
+use Rattle.kfifo_pool.specs.Pooled.{Pooled, pass_of}
+use Rattle.kfifo_pool.proofs.handle.PooledHandle.take.Goals as goal
+
+pub returns-clause-busy : goal.returns-clause-busy
+returns-clause-busy g c = λ busy.
+    subst (λ (old : Pooled g.row.T.Denot). IsDisturbed (pass_of old.held) (pass_of c.take.new.self)) c.self.view_is
+    (c.take.ensures.busy busy)

@@ -1,0 +1,12 @@
+//! Tests of the queue with a pool of free tokens, in a crate of their own: tests beside the proofs would have every proof
+//! made once more.
+#![tactic(auto)]
+
+#[cfg(test)]
+mod bare;
+#[cfg(test)]
+mod pages;
+#[cfg(test)]
+mod parcels;
+#[cfg(test)]
+mod threads;
