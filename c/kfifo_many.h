@@ -5,11 +5,13 @@
    A call looks for threads that wait once, after its last value, and wakes as many as there are values, or all where
    fewer wait. kfifo_wait.h says why no wake-up is lost after a single give: the look comes after the call, and a
    waiting thread's second look after it has announced itself. So it is here, of each value. Only the wake-up may come
-   later, by as long as the other values take. */
+   later, by as long as the other values take. A give that waits also looks before each of its waits, since those that
+   make room for it may sleep until they are woken. */
 #ifndef KFIFO_MANY_H
 #define KFIFO_MANY_H
 
 #include "kfifo.h"
+#include "kfifo_wait.h"
 
 #ifdef __cplusplus
 extern "C" {
@@ -83,11 +85,22 @@ static inline kfifo_status kfifo_one_get(kfifo_pass *pass, uint32_t *item) {
     KFIFO_UNLESS_BUSY(pass, kfifo_one_get_once(pass, item));
 }
 
+/* Writes the pointer where a take of its value was done. */
+static inline kfifo_status kfifo_written(kfifo_status status, uint64_t value, void **pointer) {
+    if (status == KFIFO_DONE) *pointer = KFIFO_CAST_POINTER(void *, KFIFO_CAST(uintptr_t, value));
+    return status;
+}
+
+static inline kfifo_status kfifo_one_take_pointer_once(kfifo_value_pass *pass, void **pointer) {
+    uint64_t value = 0;
+    kfifo_status status = kfifo_one_take_once(pass, &value);
+    return kfifo_written(status, value, pointer);
+}
+
 static inline kfifo_status kfifo_one_take_pointer(kfifo_value_pass *pass, void **pointer) {
     uint64_t value = 0;
     kfifo_status status = kfifo_one_take(pass, &value);
-    if (status == KFIFO_DONE) *pointer = KFIFO_CAST_POINTER(void *, KFIFO_CAST(uintptr_t, value));
-    return status;
+    return kfifo_written(status, value, pointer);
 }
 
 /* Whether each of these is an item. */
@@ -122,6 +135,42 @@ static inline int kfifo_are_items(const uint32_t *items, size_t count) {
     kfifo_after_takes(KFIFO_WAITS(pass), i);                                                                           \
     *(taken) = i;                                                                                                      \
     return i ? KFIFO_DONE : status
+
+/* Makes a call for each i from 0 on, and waits while there is no room. Who waits for those that were done is woken
+   before each wait, and at the end. Returns what the last one came to. */
+#define KFIFO_GIVE_EACH_WAIT(pass, count, given, call)                                                                 \
+    kfifo_waiter waiter = kfifo_waiter_of(KFIFO_WAITS(pass), KFIFO_WAITS_GIVER, nanoseconds);                          \
+    kfifo_status status = KFIFO_DONE;                                                                                  \
+    size_t i = 0, told = 0; /* so many are given, and who waits for so many of them was woken */                       \
+    while (i < (count)) {                                                                                              \
+        status = (call);                                                                                               \
+        if (__builtin_expect(kfifo_may_retry(status), 0)) {                                                            \
+            kfifo_after_gives(waiter.waits, i - told);                                                                 \
+            told = i;                                                                                                  \
+            KFIFO_WAIT_FOR(pass, waiter, status, call)                                                                 \
+        }                                                                                                              \
+        if (status != KFIFO_DONE) break;                                                                               \
+        i++;                                                                                                           \
+    }                                                                                                                  \
+    kfifo_after_gives(waiter.waits, i - told);                                                                         \
+    *(given) = i;                                                                                                      \
+    return status
+
+/* Makes the bounded call for i = 0, and waits while there is nothing. Then it makes the other call for each further i
+   while it is done. Returns what the first one came to. */
+#define KFIFO_TAKE_EACH_WAIT(pass, most, taken, bounded, call)                                                         \
+    kfifo_waiter waiter = kfifo_waiter_of(KFIFO_WAITS(pass), KFIFO_WAITS_TAKER, nanoseconds);                          \
+    kfifo_status status = KFIFO_DONE;                                                                                  \
+    size_t i = 0;                                                                                                      \
+    if ((most) > 0) {                                                                                                  \
+        status = (bounded);                                                                                            \
+        if (__builtin_expect(kfifo_may_retry(status), 0)) KFIFO_WAIT_FOR(pass, waiter, status, bounded)                \
+        if (status == KFIFO_DONE)                                                                                      \
+            for (i = 1; i < (most) && (call) == KFIFO_DONE;) i++;                                                      \
+    }                                                                                                                  \
+    kfifo_after_takes(waiter.waits, i);                                                                                \
+    *(taken) = i;                                                                                                      \
+    return status
 
 /* ---- Many values or items at once ----
 
@@ -194,6 +243,79 @@ KFIFO_MUST_USE static inline kfifo_status kfifo_put_all(kfifo_pass *pass, const 
 KFIFO_MUST_USE static inline kfifo_status kfifo_get_up_to(kfifo_pass *pass, uint32_t *items, size_t most, size_t *got) {
     KFIFO_BEGIN_MANY(pass, items, most, got);
     KFIFO_TAKE_EACH(pass, most, got, kfifo_one_get(pass, &items[i]));
+}
+
+/* ---- The same, but they wait ----
+
+   They wait as the calls of kfifo_wait.h do: `nanoseconds` is the most time that a call waits in all. FULL, NO_TOKEN,
+   EMPTY and BUSY never come back. With 0 nanoseconds a call does not sleep. */
+
+/* Gives the values of an array in their order, and waits while there is no room for the next one: DONE, and all are in
+   the queue. Else TIMED_OUT, FINISHED, WORN or BAD_CALL: the first *given are in the queue, and the others stay the
+   caller's.
+
+       kfifo_status all = kfifo_give_all_wait(&passes[0], values, 64, &given, KFIFO_FOREVER);
+       if (all != KFIFO_DONE) printf("%zu of 64 are given: %s\n", given, kfifo_status_text(all));
+*/
+KFIFO_MUST_USE static inline kfifo_status kfifo_give_all_wait(kfifo_value_pass *pass, const uint64_t *values,
+                                                              size_t count, size_t *given, uint64_t nanoseconds) {
+    KFIFO_BEGIN_MANY(pass, values, count, given);
+    KFIFO_GIVE_EACH_WAIT(pass, count, given, kfifo_one_give_once(pass, values[i]));
+}
+
+/* Waits for a value, and then takes what is there, `most` values at most: DONE, and writes at least one, unless `most`
+   is 0. Else TIMED_OUT, FINISHED, WORN or BAD_CALL, and none was taken.
+
+       while (kfifo_take_up_to_wait(&passes[1], values, 64, &taken, KFIFO_FOREVER) == KFIFO_DONE)
+           for (size_t i = 0; i < taken; i++) sum += values[i];
+*/
+KFIFO_MUST_USE static inline kfifo_status kfifo_take_up_to_wait(kfifo_value_pass *pass, uint64_t *values, size_t most,
+                                                                size_t *taken, uint64_t nanoseconds) {
+    KFIFO_BEGIN_MANY(pass, values, most, taken);
+    KFIFO_TAKE_EACH_WAIT(pass, most, taken, kfifo_one_take_once(pass, &values[i]), kfifo_one_take(pass, &values[i]));
+}
+
+/* The same two with pointers for values.
+
+       if (kfifo_give_all_pointers_wait(&passes[0], orders, 2, &given, 1000000) != KFIFO_DONE) return 1;
+       if (kfifo_take_pointers_up_to_wait(&passes[1], orders, 2, &taken, 1000000) != KFIFO_DONE) return 1;
+*/
+KFIFO_MUST_USE static inline kfifo_status kfifo_give_all_pointers_wait(kfifo_value_pass *pass, void *const *pointers,
+                                                                       size_t count, size_t *given,
+                                                                       uint64_t nanoseconds) {
+    KFIFO_BEGIN_MANY(pass, pointers, count, given);
+    KFIFO_GIVE_EACH_WAIT(pass, count, given, kfifo_one_give_once(pass, KFIFO_CAST_POINTER(uintptr_t, pointers[i])));
+}
+
+KFIFO_MUST_USE static inline kfifo_status kfifo_take_pointers_up_to_wait(kfifo_value_pass *pass, void **pointers,
+                                                                         size_t most, size_t *taken,
+                                                                         uint64_t nanoseconds) {
+    KFIFO_BEGIN_MANY(pass, pointers, most, taken);
+    KFIFO_TAKE_EACH_WAIT(pass, most, taken, kfifo_one_take_pointer_once(pass, &pointers[i]),
+                         kfifo_one_take_pointer(pass, &pointers[i]));
+}
+
+/* Puts the items of an array, and waits while there is no room for the next one, as kfifo_give_all_wait does. BAD_CALL,
+   and none is put, also where one of them is not 1 to KFIFO_MAX_ITEM.
+
+       if (kfifo_put_all_wait(&passes[0], items, 64, &put, KFIFO_FOREVER) != KFIFO_DONE) return 1;
+*/
+KFIFO_MUST_USE static inline kfifo_status kfifo_put_all_wait(kfifo_pass *pass, const uint32_t *items, size_t count,
+                                                             size_t *put, uint64_t nanoseconds) {
+    KFIFO_BEGIN_MANY(pass, items, count, put);
+    if (!kfifo_are_items(items, count)) return KFIFO_BAD_CALL;
+    KFIFO_GIVE_EACH_WAIT(pass, count, put, kfifo_one_put_once(pass, items[i]));
+}
+
+/* Waits for an item, and then takes what is there, as kfifo_take_up_to_wait does.
+
+       while (kfifo_get_up_to_wait(&passes[1], items, 64, &got, KFIFO_FOREVER) == KFIFO_DONE)
+           for (size_t i = 0; i < got; i++) sum += items[i];
+*/
+KFIFO_MUST_USE static inline kfifo_status kfifo_get_up_to_wait(kfifo_pass *pass, uint32_t *items, size_t most,
+                                                               size_t *got, uint64_t nanoseconds) {
+    KFIFO_BEGIN_MANY(pass, items, most, got);
+    KFIFO_TAKE_EACH_WAIT(pass, most, got, kfifo_one_get_once(pass, &items[i]), kfifo_one_get(pass, &items[i]));
 }
 
 #ifdef __cplusplus

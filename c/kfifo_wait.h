@@ -44,11 +44,11 @@ extern "C" {
 /* A time that never ends. Times are in nanoseconds; one that reaches beyond the clock is for ever too. */
 #define KFIFO_FOREVER UINT64_MAX
 
-/* A call that waits, between two looks at the queue. */
+/* A call that waits, between two looks at the queue. One that gives many waits once for each value without room. */
 typedef struct kfifo_waiter {
     kfifo_waits *waits;
     uint64_t nanoseconds;
-    uint64_t deadline;
+    uint64_t deadline; /* 0 until the first wait begins */
     uint64_t spins_until;
     uint32_t kind; /* KFIFO_WAITS_TAKER or KFIFO_WAITS_GIVER */
     uint32_t seen; /* the word that the thread would sleep on, as it was before the latest look */
@@ -85,20 +85,25 @@ static inline int kfifo_may_be_over(kfifo_waits *waits, kfifo_status status) {
     return kfifo_may_retry(status) && status != KFIFO_BUSY && kfifo_is_alone(waits);
 }
 
-/* Returns what a call comes to that is made again while it may do better: FINISHED where nobody else is left. */
-#define KFIFO_WAITING(pass, kind, call)                                                                                \
-    kfifo_status status = (call);                                                                                      \
-    if (__builtin_expect(!kfifo_may_retry(status), 1)) return status;                                                  \
-    kfifo_waits *waits = KFIFO_WAITS(pass);                                                                            \
-    kfifo_waiter waiter = kfifo_waiter_of(waits, (kind), nanoseconds);                                                 \
-    for (;;) {                                                                                                         \
-        if (kfifo_may_be_over(waits, status)) {                                                                        \
+/* Waits while a call that came to `status` may do better, and makes it again: `status` is then what it came to last,
+   FINISHED where nobody else is left. One waiter may be used for several waits, whose time is one. */
+#define KFIFO_WAIT_FOR(pass, waiter, status, call)                                                                     \
+    for (int again = 1; again;) {                                                                                      \
+        if (kfifo_may_be_over((waiter).waits, status)) {                                                               \
             status = (call);                                                                                           \
             if (kfifo_may_retry(status) && status != KFIFO_BUSY) status = KFIFO_FINISHED;                              \
         }                                                                                                              \
-        if (!KFIFO_WAIT_AGAIN(pass, &waiter, &status)) return status;                                                  \
-        status = (call);                                                                                               \
+        again = KFIFO_WAIT_AGAIN(pass, &(waiter), &status);                                                            \
+        if (again) status = (call);                                                                                    \
     }
+
+/* Returns what a call comes to that is made again while it may do better. */
+#define KFIFO_WAITING(pass, kind, call)                                                                                \
+    kfifo_status status = (call);                                                                                      \
+    if (__builtin_expect(!kfifo_may_retry(status), 1)) return status;                                                  \
+    kfifo_waiter waiter = kfifo_waiter_of(KFIFO_WAITS(pass), (kind), nanoseconds);                                     \
+    KFIFO_WAIT_FOR(pass, waiter, status, call)                                                                         \
+    return status
 
 /* ---- Values ----
 
