@@ -782,12 +782,12 @@ template <typename T> class ValueQueue {
         //     auto later = taker.take_until(soon);
         template <typename Clock, typename Duration>
         Put give_until(T &&value, const std::chrono::time_point<Clock, Duration> &end) {
-            return give_by(detail::Until<Clock, Duration>(usable(), KFIFO_WAITS_GIVER, end), std::move(value));
+            return give_by(until(KFIFO_WAITS_GIVER, end), std::move(value));
         }
 
         template <typename Clock, typename Duration>
         TakenValue<T> take_until(const std::chrono::time_point<Clock, Duration> &end) {
-            return take_by(detail::Until<Clock, Duration>(usable(), KFIFO_WAITS_TAKER, end));
+            return take_by(until(KFIFO_WAITS_TAKER, end));
         }
 
         // Gives each value of a range, until the queue takes no more. It does not wait, and wakes a thread for each
@@ -804,6 +804,24 @@ template <typename T> class ValueQueue {
         template <typename Range> auto give_all(Range &&range);
         template <typename Iterator, typename End> GaveAll<Iterator> give_all(Iterator first, End end);
 
+        // The same, but they sleep while there is no room for the next value: done, finished or worn. give_all_for and
+        // give_all_until do so for a time at most, that of all their waits: also timed_out. Before each wait they wake
+        // who waits for the values that are given.
+        //
+        //     auto all_gave = giver.give_all_wait(kfifo::moving(words));
+        //     if (all_gave.why != kfifo::Put::done) words.erase(words.begin(), all_gave.rest.base());
+        //     auto in_time = giver.give_all_for(words, std::chrono::seconds(1));
+        template <typename Range> auto give_all_wait(Range &&range);
+        template <typename Iterator, typename End> GaveAll<Iterator> give_all_wait(Iterator first, End end);
+        template <typename Range, typename Rep, typename Period>
+        auto give_all_for(Range &&range, const std::chrono::duration<Rep, Period> &time);
+        template <typename Iterator, typename End, typename Rep, typename Period>
+        GaveAll<Iterator> give_all_for(Iterator first, End end, const std::chrono::duration<Rep, Period> &time);
+        template <typename Range, typename Clock, typename Duration>
+        auto give_all_until(Range &&range, const std::chrono::time_point<Clock, Duration> &time);
+        template <typename Iterator, typename End, typename Clock, typename Duration>
+        GaveAll<Iterator> give_all_until(Iterator first, End end, const std::chrono::time_point<Clock, Duration> &time);
+
         // Takes values until there are `most` or the queue has no more, and puts them at the end of a container. It
         // does not wait, and wakes a thread for each when it ends. What T or the container throws comes out of the
         // call, and nothing is lost: the values before are in the container, and the next take of the handle begins
@@ -816,6 +834,23 @@ template <typename T> class ValueQueue {
         // The same, but returns the values, at most as many as the queue has cells: threads * tokens. Where T throws
         // after the first one, the call ends with those before, and the next take of the handle throws.
         TakenValues<T> take_up_to(std::size_t most);
+
+        // The same two, but they sleep until there is a value, and then take what is there: one at least, else
+        // finished or worn. take_up_to_for and take_up_to_until do so for a time at most: also timed_out.
+        //
+        //     while (taker.take_up_to_wait(64, read).taken != 0) show(read);
+        //     auto batch = taker.take_up_to_for(64, std::chrono::milliseconds(1));
+        template <typename Container> TookUpTo take_up_to_wait(std::size_t most, Container &out);
+        TakenValues<T> take_up_to_wait(std::size_t most);
+        template <typename Container, typename Rep, typename Period>
+        TookUpTo take_up_to_for(std::size_t most, Container &out, const std::chrono::duration<Rep, Period> &time);
+        template <typename Rep, typename Period>
+        TakenValues<T> take_up_to_for(std::size_t most, const std::chrono::duration<Rep, Period> &time);
+        template <typename Container, typename Clock, typename Duration>
+        TookUpTo take_up_to_until(std::size_t most, Container &out,
+                                  const std::chrono::time_point<Clock, Duration> &time);
+        template <typename Clock, typename Duration>
+        TakenValues<T> take_up_to_until(std::size_t most, const std::chrono::time_point<Clock, Duration> &time);
 
         // The values that come, until the queue is finished and empty: for (T value : handle.values()). It sleeps while
         // there is none, and throws Error with KFIFO_WORN where take answers Miss::worn.
@@ -857,6 +892,12 @@ template <typename T> class ValueQueue {
 
         detail::Within within(std::uint32_t kind, std::uint64_t nanoseconds) const {
             return detail::Within(usable(), kind, nanoseconds);
+        }
+
+        template <typename Clock, typename Duration>
+        detail::Until<Clock, Duration> until(std::uint32_t kind,
+                                             const std::chrono::time_point<Clock, Duration> &end) const {
+            return detail::Until<Clock, Duration>(usable(), kind, end);
         }
 
         // Ends a give that came to nothing, also by an exception: destroys what is left of the value, and gives the
@@ -974,8 +1015,13 @@ template <typename T> class ValueQueue {
                 });
         }
 
-        template <typename Reference> Put give_one(Reference &&value);
+        template <typename Calls, typename Reference> Put give_one(Calls calls, Reference &&value);
+        template <typename Calls, typename Iterator, typename End>
+        GaveAll<Iterator> give_all_by(Calls calls, Iterator first, End end);
         struct LastCell;
+        template <typename Calls, typename Container>
+        TookUpTo take_up_to_by(Calls calls, std::size_t most, Container &out);
+        template <typename Calls> TakenValues<T> take_up_to_by(Calls calls, std::size_t most);
 
         std::shared_ptr<State> state;
         kfifo_cell_pass *pass; // of the state
