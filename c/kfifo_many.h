@@ -180,6 +180,7 @@ static inline int kfifo_are_items(const uint32_t *items, size_t count) {
    0. BAD_CALL of a null pointer or a closed handle: nothing was done. None of them waits, and each wakes who does. */
 
 /* Gives the values of an array in their order, until the queue takes no more: the first *given are in the queue.
+   Cost: as a kfifo_give for each value, but for all but one of the looks for threads that wait.
 
        size_t given = 0;
        kfifo_status gave = kfifo_give_all(&passes[0], values, 64, &given);
@@ -193,6 +194,8 @@ KFIFO_MUST_USE static inline kfifo_status kfifo_give_all(kfifo_value_pass *pass,
 
 /* Takes values until there are `most` or the queue has no more, and writes them from values[0] on. Those that it has
    not taken stay as they are in the array.
+   Cost: as a kfifo_take for each value, but for all but one of the looks for threads that wait, and one more that finds
+   none.
 
        size_t taken = 0;
        while (kfifo_take_up_to(&passes[1], values, 64, &taken) == KFIFO_DONE)
@@ -205,6 +208,7 @@ KFIFO_MUST_USE static inline kfifo_status kfifo_take_up_to(kfifo_value_pass *pas
 }
 
 /* The same two with pointers for values.
+   Cost: as that of the calls for values.
 
        if (kfifo_give_all_pointers(&passes[0], orders, 2, &given) != KFIFO_DONE) return 1;
        if (kfifo_take_pointers_up_to(&passes[1], orders, 2, &taken) != KFIFO_DONE) return 1;
@@ -223,6 +227,7 @@ KFIFO_MUST_USE static inline kfifo_status kfifo_take_pointers_up_to(kfifo_value_
 
 /* Puts the items of an array in their order, until the queue takes no more: the first *put are in the queue. BAD_CALL,
    and none is put, also where one of them is not 1 to KFIFO_MAX_ITEM.
+   Cost: as a kfifo_put for each item, but for all but one of the looks for threads that wait.
 
        size_t put = 0;
        if (kfifo_put_all(&passes[0], items, 64, &put) != KFIFO_DONE) printf("%zu of 64 are put\n", put);
@@ -235,6 +240,7 @@ KFIFO_MUST_USE static inline kfifo_status kfifo_put_all(kfifo_pass *pass, const 
 }
 
 /* Takes items until there are `most` or the queue has no more, as kfifo_take_up_to does.
+   Cost: as a kfifo_get for each item, as kfifo_take_up_to.
 
        size_t got = 0;
        while (kfifo_get_up_to(&passes[1], items, 64, &got) == KFIFO_DONE)
@@ -253,6 +259,7 @@ KFIFO_MUST_USE static inline kfifo_status kfifo_get_up_to(kfifo_pass *pass, uint
 /* Gives the values of an array in their order, and waits while there is no room for the next one: DONE, and all are in
    the queue. Else TIMED_OUT, FINISHED, WORN or BAD_CALL: the first *given are in the queue, and the others stay the
    caller's.
+   Cost: as kfifo_give_all where it need not wait, and a look for threads that wait before each wait.
 
        kfifo_status all = kfifo_give_all_wait(&passes[0], values, 64, &given, KFIFO_FOREVER);
        if (all != KFIFO_DONE) printf("%zu of 64 are given: %s\n", given, kfifo_status_text(all));
@@ -265,6 +272,7 @@ KFIFO_MUST_USE static inline kfifo_status kfifo_give_all_wait(kfifo_value_pass *
 
 /* Waits for a value, and then takes what is there, `most` values at most: DONE, and writes at least one, unless `most`
    is 0. Else TIMED_OUT, FINISHED, WORN or BAD_CALL, and none was taken.
+   Cost: as kfifo_take_up_to where it need not wait.
 
        while (kfifo_take_up_to_wait(&passes[1], values, 64, &taken, KFIFO_FOREVER) == KFIFO_DONE)
            for (size_t i = 0; i < taken; i++) sum += values[i];
@@ -276,6 +284,7 @@ KFIFO_MUST_USE static inline kfifo_status kfifo_take_up_to_wait(kfifo_value_pass
 }
 
 /* The same two with pointers for values.
+   Cost: as that of the calls for values.
 
        if (kfifo_give_all_pointers_wait(&passes[0], orders, 2, &given, 1000000) != KFIFO_DONE) return 1;
        if (kfifo_take_pointers_up_to_wait(&passes[1], orders, 2, &taken, 1000000) != KFIFO_DONE) return 1;
@@ -297,6 +306,7 @@ KFIFO_MUST_USE static inline kfifo_status kfifo_take_pointers_up_to_wait(kfifo_v
 
 /* Puts the items of an array, and waits while there is no room for the next one, as kfifo_give_all_wait does. BAD_CALL,
    and none is put, also where one of them is not 1 to KFIFO_MAX_ITEM.
+   Cost: as kfifo_put_all where it need not wait, and a look for threads that wait before each wait.
 
        if (kfifo_put_all_wait(&passes[0], items, 64, &put, KFIFO_FOREVER) != KFIFO_DONE) return 1;
 */
@@ -308,6 +318,7 @@ KFIFO_MUST_USE static inline kfifo_status kfifo_put_all_wait(kfifo_pass *pass, c
 }
 
 /* Waits for an item, and then takes what is there, as kfifo_take_up_to_wait does.
+   Cost: as kfifo_get_up_to where it need not wait.
 
        while (kfifo_get_up_to_wait(&passes[1], items, 64, &got, KFIFO_FOREVER) == KFIFO_DONE)
            for (size_t i = 0; i < got; i++) sum += items[i];

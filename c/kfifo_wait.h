@@ -114,6 +114,7 @@ static inline int kfifo_may_be_over(kfifo_waits *waits, kfifo_status status) {
    others end too, and then closes the queue. */
 
 /* Gives a value, and waits at most `nanoseconds` while there is no room for it.
+   Cost: as kfifo_give where it need not wait.
 
        if (kfifo_give_wait(&passes[0], 7, KFIFO_FOREVER) != KFIFO_DONE) return 1;
 */
@@ -124,6 +125,7 @@ KFIFO_MUST_USE static inline kfifo_status kfifo_give_wait(kfifo_value_pass *pass
 
 /* Takes a value, and waits at most `nanoseconds` while there is none. FINISHED comes exactly where the queue was
    finished, and then found empty.
+   Cost: as kfifo_take where it need not wait.
 
        while (kfifo_take_wait(&passes[1], &value, KFIFO_FOREVER) == KFIFO_DONE) sum += value;
 */
@@ -133,6 +135,7 @@ KFIFO_MUST_USE static inline kfifo_status kfifo_take_wait(kfifo_value_pass *pass
 }
 
 /* The same with a pointer for a value.
+   Cost: as that of the calls for values.
 
        if (kfifo_give_pointer_wait(&passes[0], order, 1000000) == KFIFO_TIMED_OUT) free(order); // it is still ours
        if (kfifo_take_pointer_wait(&passes[1], &taken, 1000000) == KFIFO_DONE) free(taken);
@@ -155,6 +158,7 @@ KFIFO_MUST_USE static inline kfifo_status kfifo_take_pointer_wait(kfifo_value_pa
    reserved still is ---- */
 
 /* Reserves a cell, and waits at most `nanoseconds` while there is none.
+   Cost: as kfifo_reserve where it need not wait.
 
        if (kfifo_reserve_wait(&passes[0], &cell, KFIFO_FOREVER) != KFIFO_DONE) return 1;
 */
@@ -164,6 +168,7 @@ KFIFO_MUST_USE static inline kfifo_status kfifo_reserve_wait(kfifo_cell_pass *pa
 }
 
 /* Puts the reserved cell into the queue, and waits at most `nanoseconds` while there is no room for it.
+   Cost: as kfifo_publish where it need not wait.
 
        if (kfifo_publish_wait(&passes[0], KFIFO_FOREVER) != KFIFO_DONE) return 1;
 */
@@ -173,6 +178,7 @@ KFIFO_MUST_USE static inline kfifo_status kfifo_publish_wait(kfifo_cell_pass *pa
 
 /* Takes a cell, and waits at most `nanoseconds` while there is none. The call first releases the cell that the
    handle received before. FINISHED comes exactly where the queue was finished, and then found empty.
+   Cost: as kfifo_receive where it need not wait.
 
        if (kfifo_receive_wait(&passes[1], &cell, KFIFO_FOREVER) != KFIFO_DONE) return 1;
 */
@@ -184,6 +190,7 @@ KFIFO_MUST_USE static inline kfifo_status kfifo_receive_wait(kfifo_cell_pass *pa
 /* ---- Items: the same ---- */
 
 /* Puts an item, and takes one, and waits at most `nanoseconds` while there is no room or no item.
+   Cost: as kfifo_put and kfifo_get where they need not wait.
 
        if (kfifo_put_wait(&passes[0], 7, KFIFO_FOREVER) != KFIFO_DONE) return 1;
        if (kfifo_get_wait(&passes[1], &item, KFIFO_FOREVER) != KFIFO_DONE) return 1;

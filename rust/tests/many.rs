@@ -203,7 +203,10 @@ fn calls_that_wait_say_what_ended_them() {
     assert_eq!(handle.push_all_wait(4..6).expect("there is room"), 2);
     queue.finish();
     let stopped = handle.push_all_wait(6..9).expect_err("it is finished");
-    assert_eq!((stopped.pushed, stopped.refused), (0, PushError::Finished(6)));
+    assert_eq!(
+        (stopped.pushed, stopped.refused),
+        (0, PushError::Finished(6))
+    );
     assert_eq!(handle.pop_up_to_wait(9, &mut values), Ok(2));
     assert_eq!(
         handle.pop_up_to_wait(9, &mut values),
@@ -216,8 +219,13 @@ fn calls_that_wait_end_where_nobody_is_left() {
     let queue = Queue::new(1, 4, 1).expect("the sizes are in range");
     let handle = queue.handle().expect("a handle is free");
     drop(queue);
-    let stopped = handle.push_all_wait(0..9).expect_err("there are four slots");
-    assert_eq!((stopped.pushed, stopped.refused), (4, PushError::Finished(4)));
+    let stopped = handle
+        .push_all_wait(0..9)
+        .expect_err("there are four slots");
+    assert_eq!(
+        (stopped.pushed, stopped.refused),
+        (4, PushError::Finished(4))
+    );
     let mut values = Vec::new();
     assert_eq!(handle.pop_up_to_wait(4, &mut values), Ok(4));
     assert_eq!(
