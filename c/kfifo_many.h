@@ -179,7 +179,8 @@ static inline int kfifo_are_items(const uint32_t *items, size_t count) {
    one, or none was asked for, and else why it took none: EMPTY, FINISHED or WORN. Each writes how many there were, also
    0. BAD_CALL of a null pointer or a closed handle: nothing was done. None of them waits, and each wakes who does. */
 
-/* Gives the values of an array in their order, until the queue takes no more: the first *given are in the queue.
+/* Gives the values of an array in their order, until the queue takes no more: DONE, and all are in the queue; else
+   FULL, FINISHED, WORN, NO_TOKEN or BAD_CALL, and the first *given are.
    Cost: as a kfifo_give for each value, but for all but one of the looks for threads that wait.
 
        size_t given = 0;
@@ -192,8 +193,8 @@ KFIFO_MUST_USE static inline kfifo_status kfifo_give_all(kfifo_value_pass *pass,
     KFIFO_GIVE_EACH(pass, count, given, kfifo_one_give(pass, values[i]));
 }
 
-/* Takes values until there are `most` or the queue has no more, and writes them from values[0] on. Those that it has
-   not taken stay as they are in the array.
+/* Takes values until there are `most` or the queue has no more, and writes them from values[0] on: DONE, and writes at
+   least one, unless `most` is 0; else EMPTY, FINISHED, WORN or BAD_CALL. The array behind the last one stays as it is.
    Cost: as a kfifo_take for each value, but for all but one of the looks for threads that wait, and one more that finds
    none.
 
@@ -225,8 +226,9 @@ KFIFO_MUST_USE static inline kfifo_status kfifo_take_pointers_up_to(kfifo_value_
     KFIFO_TAKE_EACH(pass, most, taken, kfifo_one_take_pointer(pass, &pointers[i]));
 }
 
-/* Puts the items of an array in their order, until the queue takes no more: the first *put are in the queue. BAD_CALL,
-   and none is put, also where one of them is not 1 to KFIFO_MAX_ITEM.
+/* Puts the items of an array in their order, until the queue takes no more: DONE, and all are in the queue; else FULL,
+   FINISHED or WORN, and the first *put are. BAD_CALL, and none is put, also where one of them is not 1 to
+   KFIFO_MAX_ITEM.
    Cost: as a kfifo_put for each item, but for all but one of the looks for threads that wait.
 
        size_t put = 0;

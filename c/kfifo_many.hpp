@@ -108,8 +108,11 @@ struct TakesMany {
 
 } // namespace detail
 
-// The values of a range, to be moved from: giver.give_all(kfifo::moving(words)). Those that are not given stay as they
-// are. `rest` of the result is a std::move_iterator, whose base() is the place in the range.
+// The values of a range, to be moved from. Those that are not given stay as they are. `rest` of the result is a
+// std::move_iterator, whose base() is the place in the range.
+// Cost: nothing.
+//
+//     auto all_gave = giver.give_all_wait(kfifo::moving(words));
 template <typename Range> [[nodiscard]] auto moving(Range &range) {
     auto first = std::make_move_iterator(detail::begin_of(range));
     auto last = std::make_move_iterator(detail::end_of(range));

@@ -31,6 +31,8 @@ pub struct PushAllError<I: Iterator> {
 impl<I: Iterator> PushAllError<I> {
     /// The values that were not put: the one that was refused, and those behind it.
     ///
+    /// Cost: a move of the iterator.
+    ///
     /// ```
     /// let queue = kfifo::Queue::new(1, 2, 1)?;
     /// let handle = queue.handle().expect("a handle is free");
@@ -76,6 +78,8 @@ impl<T> Handle<T> {
     ///
     /// A handle does not implement [`Extend`], which could not say that the queue was full.
     ///
+    /// Cost: a [`Handle::push`] for each value.
+    ///
     /// ```
     /// let queue = kfifo::Queue::new(1, 8, 2)?;
     /// let producer = queue.handle().expect("a handle is free");
@@ -106,6 +110,8 @@ impl<T> Handle<T> {
     /// As [`Handle::push_all`], but it sleeps while there is no room for the next value: that is refused as `Finished`
     /// or `Worn` alone.
     ///
+    /// Cost: as [`Handle::push_all`] where it need not sleep.
+    ///
     /// ```
     /// let queue = kfifo::Queue::new(1, 8, 2)?;
     /// let producer = queue.handle().expect("a handle is free");
@@ -130,6 +136,8 @@ impl<T> Handle<T> {
 
     /// As [`Handle::push_all_wait`], but all its waits take this time at most: then the next value is refused as
     /// `TimedOut`. The time begins where the call first waits. With no time it does not sleep.
+    ///
+    /// Cost: as [`Handle::push_all`] where it need not sleep, and a look at the clock before each wait.
     ///
     /// ```
     /// use kfifo::PushError;
@@ -194,6 +202,9 @@ impl<T> Handle<T> {
     /// It wakes as many threads that wait for room as it took values, when it ends. It costs less than as many calls of
     /// [`Handle::pop`].
     ///
+    /// Cost: as a [`Handle::pop`] for each value and one more that finds none, but for all but one of the looks for
+    /// threads that wait and all but one release of a cell.
+    ///
     /// ```
     /// use kfifo::{PopError, Queue};
     ///
@@ -213,6 +224,8 @@ impl<T> Handle<T> {
 
     /// As [`Handle::pop_up_to`], but it sleeps until there is a value, and then takes what is there: an error is
     /// `Finished` or `Worn` alone.
+    ///
+    /// Cost: as [`Handle::pop_up_to`] where it need not sleep.
     ///
     /// ```
     /// let queue = kfifo::Queue::new(1, 8, 2)?;
@@ -237,6 +250,8 @@ impl<T> Handle<T> {
 
     /// As [`Handle::pop_up_to_wait`], for so long at most: then the error is `TimedOut`. With no time it does not
     /// sleep.
+    ///
+    /// Cost: as [`Handle::pop_up_to_wait`].
     ///
     /// ```
     /// use kfifo::PopError;
