@@ -62,7 +62,8 @@ typedef enum kfifo_status {
 /* The name of a status, as "KFIFO_EMPTY".
    Cost: a look into a table.
 
-       puts(kfifo_status_name(kfifo_get(&passes[1], &item))); // KFIFO_EMPTY
+       kfifo_status none = kfifo_get(&passes[1], &item);
+       if (none != KFIFO_DONE) puts(kfifo_status_name(none)); // KFIFO_EMPTY
 */
 static inline const char *kfifo_status_name(kfifo_status status) {
     static const char *const names[] = {
@@ -81,7 +82,7 @@ static inline const char *kfifo_status_name(kfifo_status status) {
 /* A line of text for a status, as "the queue was empty". kfifo_bad_call_text says which cause a BAD_CALL had.
    Cost: a few comparisons.
 
-       puts(kfifo_status_text(kfifo_get(&passes[1], &item))); // the queue was empty
+       if (none != KFIFO_DONE) puts(kfifo_status_text(none)); // the queue was empty
 */
 static inline const char *kfifo_status_text(kfifo_status status) {
     switch (status) {

@@ -81,7 +81,8 @@ enum class Miss {
 // A line of text, as "the ring was full".
 // Cost: a few comparisons.
 //
-//     std::puts(kfifo::text(taker.take().why)); // the queue was empty
+//     kfifo::TakenValue<std::string> none = taker.take();
+//     if (!none.value) std::puts(kfifo::text(none.why)); // the queue was empty
 [[nodiscard]] inline const char *text(Put put) noexcept { return kfifo_status_text(static_cast<kfifo_status>(put)); }
 [[nodiscard]] inline const char *text(Miss miss) noexcept { return kfifo_status_text(static_cast<kfifo_status>(miss)); }
 
@@ -179,7 +180,8 @@ class Pass {
     // Cost: as theirs.
     //
     //     if (pass.enqueue_once(8) == kfifo::Put::busy) std::puts("not put, and a later call may do better");
-    //     if (pass.dequeue_once().why == kfifo::Miss::busy) std::puts("none is taken, and a later call may do better");
+    //     kfifo::Taken once = pass.dequeue_once();
+    //     if (!once.item && once.why == kfifo::Miss::busy) std::puts("a later call may do better");
     Put enqueue_once(std::uint32_t item) const { return put(kfifo_put_once(handle, item), item, 0, 1); }
 
     Taken dequeue_once() const {
@@ -754,9 +756,10 @@ template <typename T> class ValueQueue {
         // busy. That comes only where another thread changed the queue in the meantime.
         // Cost: as theirs.
         //
-        //     if (giver.give_once("once") == kfifo::Put::busy) std::puts("a later give may do better");
-        //     if (giver.emplace_once(2, 'o') == kfifo::Put::busy) std::puts("a later emplace may do better");
-        //     if (taker.take_once().why == kfifo::Miss::busy) std::puts("a later call may do better");
+        //     if (giver.give_once("once") != kfifo::Put::done) std::puts("it is busy, or refused as by give");
+        //     if (giver.emplace_once(2, 'o') != kfifo::Put::done) std::puts("it is busy, or refused as by give");
+        //     kfifo::TakenValue<std::string> once = taker.take_once();
+        //     if (!once.value && once.why == kfifo::Miss::busy) std::puts("a later call may do better");
         Put give_once(T &&value) { return give_by(detail::Once(), std::move(value)); }
 
         template <typename... Arguments> Put emplace_once(Arguments &&...arguments) {

@@ -10,8 +10,9 @@ static int of_statuses(void) {
     if (kfifo_open(1, 4, 1, KFIFO_LAST, passes, 2) != KFIFO_DONE) return 1;
     uint32_t item = 0;
     kfifo_status put = KFIFO_DONE;
-    puts(kfifo_status_name(kfifo_get(&passes[1], &item))); // KFIFO_EMPTY
-    puts(kfifo_status_text(kfifo_get(&passes[1], &item))); // the queue was empty
+    kfifo_status none = kfifo_get(&passes[1], &item);
+    if (none != KFIFO_DONE) puts(kfifo_status_name(none)); // KFIFO_EMPTY
+    if (none != KFIFO_DONE) puts(kfifo_status_text(none)); // the queue was empty
     while (kfifo_may_retry(put = kfifo_put(&passes[0], 7))) sched_yield();
     if (kfifo_put(&passes[0], 0) == KFIFO_BAD_CALL) puts(kfifo_bad_call_text(&passes[0], 0, 0, 1));
     if (put != KFIFO_DONE || kfifo_get(&passes[1], &item) != KFIFO_DONE || item != 7) return 1;

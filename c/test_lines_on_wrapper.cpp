@@ -19,7 +19,8 @@ int of_items() {
     if (pass.enqueue_once(8) == kfifo::Put::busy) std::puts("not put, and a later call may do better");
     kfifo::Put put_at = pass.enqueue_once(9, 0, 100);
     if (put_at != kfifo::Put::done) return 1;
-    if (pass.dequeue_once().why == kfifo::Miss::busy) std::puts("none is taken, and a later call may do better");
+    kfifo::Taken once = pass.dequeue_once();
+    if (!once.item && once.why == kfifo::Miss::busy) std::puts("a later call may do better");
     kfifo::Taken taken_at = pass.dequeue_once(0, 100);
     if (taken_at.item != 9U) return 1;
     for (std::uint32_t item : {3U, 4U, 5U, 6U})
@@ -40,15 +41,17 @@ int of_other_calls() {
     kfifo::ValueQueue<std::string> queue(1, 1024, 2); // k, segments, threads
     kfifo::ValueQueue<std::string> changing(1, 8, 2, 24, kfifo::Versions{64, 32}); // it changes all the time
     auto giver = queue.handle(), taker = queue.handle();
-    std::puts(kfifo::text(taker.take().why)); // the queue was empty
+    kfifo::TakenValue<std::string> none = taker.take();
+    if (!none.value) std::puts(kfifo::text(none.why)); // the queue was empty
     auto gave = kfifo::Put::done;
     while (kfifo::may_retry(gave = giver.give("a word"))) std::this_thread::yield();
     const std::string copied("copied");
     if (giver.give(copied) != kfifo::Put::done) return 1;
     if (giver.emplace(3, 'x') != kfifo::Put::done) return 1;
-    if (giver.give_once("once") == kfifo::Put::busy) std::puts("a later give may do better");
-    if (giver.emplace_once(2, 'o') == kfifo::Put::busy) std::puts("a later emplace may do better");
-    if (taker.take_once().why == kfifo::Miss::busy) std::puts("a later call may do better");
+    if (giver.give_once("once") != kfifo::Put::done) std::puts("it is busy, or refused as by give");
+    if (giver.emplace_once(2, 'o') != kfifo::Put::done) std::puts("it is busy, or refused as by give");
+    kfifo::TakenValue<std::string> once = taker.take_once();
+    if (!once.value && once.why == kfifo::Miss::busy) std::puts("a later call may do better");
     if (giver.give_wait(copied) != kfifo::Put::done) return 1;
     if (giver.emplace_wait(3, 'y') != kfifo::Put::done) return 1;
     if (giver.give_for("soon", std::chrono::seconds(1)) != kfifo::Put::done) return 1;
@@ -71,7 +74,6 @@ int of_values() {
     if (!taken.value) std::puts(kfifo::text(taken.why));
     if (taken.value != "first" || !taker.take_once().value) return 1;
     if (!taker.take().value || !taker.take().value) return 1;
-    if (taker.take_once().why == kfifo::Miss::busy) std::puts("a later call may do better");
     auto late = taker.take_for(std::chrono::milliseconds(1));
     auto soon = std::chrono::steady_clock::now() + std::chrono::milliseconds(1);
     auto later = taker.take_until(soon);
