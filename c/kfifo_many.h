@@ -35,54 +35,55 @@ static inline void kfifo_after_takes(kfifo_waits *waits, size_t taken) {
     for (size_t wakes = taken < givers ? taken : givers; wakes; wakes--) (void)kfifo_after_take(waits, KFIFO_DONE);
 }
 
+/* The calls below are handed what the threads of the handle's queue wait by, so that a call of many reads it once. */
+
 /* Returns what a give comes to of an open handle. Where it is done it wakes nobody: that comes after the last one. */
-#define KFIFO_ONE_GIVE(pass, call)                                                                                     \
-    kfifo_waits *waits = KFIFO_WAITS(pass);                                                                            \
+#define KFIFO_ONE_GIVE(waits, call)                                                                                    \
     if (__builtin_expect(kfifo_is_finished(waits), 0)) return KFIFO_FINISHED;                                          \
     kfifo_status status = (call);                                                                                      \
-    return __builtin_expect(status == KFIFO_DONE, 1) ? status : kfifo_after_give(waits, status)
+    return __builtin_expect(status == KFIFO_DONE, 1) ? status : kfifo_after_give((waits), status)
 
 /* The same of a take. One that found nothing is made as a single one. */
-#define KFIFO_ONE_TAKE(pass, bare, single)                                                                             \
+#define KFIFO_ONE_TAKE(waits, bare, single)                                                                            \
     kfifo_status status = (bare);                                                                                      \
     if (__builtin_expect(status == KFIFO_DONE, 1)) return status;                                                      \
-    (void)kfifo_after_take(KFIFO_WAITS(pass), status);                                                                 \
-    return status == KFIFO_EMPTY && kfifo_is_finished(KFIFO_WAITS(pass)) ? (single) : status
+    (void)kfifo_after_take((waits), status);                                                                           \
+    return status == KFIFO_EMPTY && kfifo_is_finished(waits) ? (single) : status
 
-static inline kfifo_status kfifo_one_give_once(kfifo_value_pass *pass, uint64_t value) {
-    KFIFO_ONE_GIVE(pass, kfifo_bare_give(pass, value));
+static inline kfifo_status kfifo_one_give_once(kfifo_waits *waits, kfifo_value_pass *pass, uint64_t value) {
+    KFIFO_ONE_GIVE(waits, kfifo_bare_give(pass, value));
 }
 
-static inline kfifo_status kfifo_one_take_once(kfifo_value_pass *pass, uint64_t *value) {
-    KFIFO_ONE_TAKE(pass, kfifo_bare_take(pass, value), kfifo_take_once(pass, value));
+static inline kfifo_status kfifo_one_take_once(kfifo_waits *waits, kfifo_value_pass *pass, uint64_t *value) {
+    KFIFO_ONE_TAKE(waits, kfifo_bare_take(pass, value), kfifo_take_once(pass, value));
 }
 
 static inline kfifo_status kfifo_one_publish_once(kfifo_cell_pass *pass) {
-    KFIFO_ONE_GIVE(pass, kfifo_bare_publish(pass));
+    KFIFO_ONE_GIVE(KFIFO_WAITS(pass), kfifo_bare_publish(pass));
 }
 
-static inline kfifo_status kfifo_one_put_once(kfifo_pass *pass, uint32_t item) {
-    KFIFO_ONE_GIVE(pass, kfifo_bare_put(pass, item));
+static inline kfifo_status kfifo_one_put_once(kfifo_waits *waits, kfifo_pass *pass, uint32_t item) {
+    KFIFO_ONE_GIVE(waits, kfifo_bare_put(pass, item));
 }
 
-static inline kfifo_status kfifo_one_get_once(kfifo_pass *pass, uint32_t *item) {
-    KFIFO_ONE_TAKE(pass, kfifo_bare_get(pass, item), kfifo_get_once(pass, item));
+static inline kfifo_status kfifo_one_get_once(kfifo_waits *waits, kfifo_pass *pass, uint32_t *item) {
+    KFIFO_ONE_TAKE(waits, kfifo_bare_get(pass, item), kfifo_get_once(pass, item));
 }
 
-static inline kfifo_status kfifo_one_give(kfifo_value_pass *pass, uint64_t value) {
-    KFIFO_UNLESS_BUSY(pass, kfifo_one_give_once(pass, value));
+static inline kfifo_status kfifo_one_give(kfifo_waits *waits, kfifo_value_pass *pass, uint64_t value) {
+    KFIFO_UNLESS_BUSY(pass, kfifo_one_give_once(waits, pass, value));
 }
 
-static inline kfifo_status kfifo_one_take(kfifo_value_pass *pass, uint64_t *value) {
-    KFIFO_UNLESS_BUSY(pass, kfifo_one_take_once(pass, value));
+static inline kfifo_status kfifo_one_take(kfifo_waits *waits, kfifo_value_pass *pass, uint64_t *value) {
+    KFIFO_UNLESS_BUSY(pass, kfifo_one_take_once(waits, pass, value));
 }
 
-static inline kfifo_status kfifo_one_put(kfifo_pass *pass, uint32_t item) {
-    KFIFO_UNLESS_BUSY(pass, kfifo_one_put_once(pass, item));
+static inline kfifo_status kfifo_one_put(kfifo_waits *waits, kfifo_pass *pass, uint32_t item) {
+    KFIFO_UNLESS_BUSY(pass, kfifo_one_put_once(waits, pass, item));
 }
 
-static inline kfifo_status kfifo_one_get(kfifo_pass *pass, uint32_t *item) {
-    KFIFO_UNLESS_BUSY(pass, kfifo_one_get_once(pass, item));
+static inline kfifo_status kfifo_one_get(kfifo_waits *waits, kfifo_pass *pass, uint32_t *item) {
+    KFIFO_UNLESS_BUSY(pass, kfifo_one_get_once(waits, pass, item));
 }
 
 /* Writes the pointer where a take of its value was done. */
@@ -91,15 +92,15 @@ static inline kfifo_status kfifo_written(kfifo_status status, uint64_t value, vo
     return status;
 }
 
-static inline kfifo_status kfifo_one_take_pointer_once(kfifo_value_pass *pass, void **pointer) {
+static inline kfifo_status kfifo_one_take_pointer_once(kfifo_waits *waits, kfifo_value_pass *pass, void **pointer) {
     uint64_t value = 0;
-    kfifo_status status = kfifo_one_take_once(pass, &value);
+    kfifo_status status = kfifo_one_take_once(waits, pass, &value);
     return kfifo_written(status, value, pointer);
 }
 
-static inline kfifo_status kfifo_one_take_pointer(kfifo_value_pass *pass, void **pointer) {
+static inline kfifo_status kfifo_one_take_pointer(kfifo_waits *waits, kfifo_value_pass *pass, void **pointer) {
     uint64_t value = 0;
-    kfifo_status status = kfifo_one_take(pass, &value);
+    kfifo_status status = kfifo_one_take(waits, pass, &value);
     return kfifo_written(status, value, pointer);
 }
 
@@ -120,46 +121,50 @@ static inline int kfifo_are_items(const uint32_t *items, size_t count) {
 /* Makes a call for each i from 0 on while it is done, and wakes who waits for that. Returns what the last one came to.
  */
 #define KFIFO_GIVE_EACH(pass, count, given, call)                                                                      \
+    kfifo_waits *waits = KFIFO_WAITS(pass);                                                                            \
     kfifo_status status = KFIFO_DONE;                                                                                  \
     size_t i = 0;                                                                                                      \
     while (i < (count) && (status = (call)) == KFIFO_DONE) i++;                                                        \
-    kfifo_after_gives(KFIFO_WAITS(pass), i);                                                                           \
+    kfifo_after_gives(waits, i);                                                                                       \
     *(given) = i;                                                                                                      \
     return status
 
 /* The same. Returns DONE also where the last call was not, but one before. */
 #define KFIFO_TAKE_EACH(pass, most, taken, call)                                                                       \
+    kfifo_waits *waits = KFIFO_WAITS(pass);                                                                            \
     kfifo_status status = KFIFO_DONE;                                                                                  \
     size_t i = 0;                                                                                                      \
     while (i < (most) && (status = (call)) == KFIFO_DONE) i++;                                                         \
-    kfifo_after_takes(KFIFO_WAITS(pass), i);                                                                           \
+    kfifo_after_takes(waits, i);                                                                                       \
     *(taken) = i;                                                                                                      \
     return i ? KFIFO_DONE : status
 
 /* Makes a call for each i from 0 on, and waits while there is no room. Who waits for those that were done is woken
    before each wait, and at the end. Returns what the last one came to. */
 #define KFIFO_GIVE_EACH_WAIT(pass, count, given, call)                                                                 \
-    kfifo_waiter waiter = kfifo_waiter_of(KFIFO_WAITS(pass), KFIFO_WAITS_GIVER, nanoseconds);                          \
+    kfifo_waits *waits = KFIFO_WAITS(pass);                                                                            \
+    kfifo_waiter waiter = kfifo_waiter_of(waits, KFIFO_WAITS_GIVER, nanoseconds);                                      \
     kfifo_status status = KFIFO_DONE;                                                                                  \
     size_t i = 0, told = 0; /* so many are given, and who waits for so many of them was woken */                       \
     while (i < (count)) {                                                                                              \
         status = (call);                                                                                               \
         if (__builtin_expect(kfifo_may_retry(status), 0)) {                                                            \
-            kfifo_after_gives(waiter.waits, i - told);                                                                 \
+            kfifo_after_gives(waits, i - told);                                                                        \
             told = i;                                                                                                  \
             KFIFO_WAIT_FOR(pass, waiter, status, call)                                                                 \
         }                                                                                                              \
         if (status != KFIFO_DONE) break;                                                                               \
         i++;                                                                                                           \
     }                                                                                                                  \
-    kfifo_after_gives(waiter.waits, i - told);                                                                         \
+    kfifo_after_gives(waits, i - told);                                                                                \
     *(given) = i;                                                                                                      \
     return status
 
 /* Makes the bounded call for i = 0, and waits while there is nothing. Then it makes the other call for each further i
    while it is done. Returns what the first one came to. */
 #define KFIFO_TAKE_EACH_WAIT(pass, most, taken, bounded, call)                                                         \
-    kfifo_waiter waiter = kfifo_waiter_of(KFIFO_WAITS(pass), KFIFO_WAITS_TAKER, nanoseconds);                          \
+    kfifo_waits *waits = KFIFO_WAITS(pass);                                                                            \
+    kfifo_waiter waiter = kfifo_waiter_of(waits, KFIFO_WAITS_TAKER, nanoseconds);                                      \
     kfifo_status status = KFIFO_DONE;                                                                                  \
     size_t i = 0;                                                                                                      \
     if ((most) > 0) {                                                                                                  \
@@ -168,7 +173,7 @@ static inline int kfifo_are_items(const uint32_t *items, size_t count) {
         if (status == KFIFO_DONE)                                                                                      \
             for (i = 1; i < (most) && (call) == KFIFO_DONE;) i++;                                                      \
     }                                                                                                                  \
-    kfifo_after_takes(waiter.waits, i);                                                                                \
+    kfifo_after_takes(waits, i);                                                                                       \
     *(taken) = i;                                                                                                      \
     return status
 
@@ -190,7 +195,7 @@ static inline int kfifo_are_items(const uint32_t *items, size_t count) {
 KFIFO_MUST_USE static inline kfifo_status kfifo_give_all(kfifo_value_pass *pass, const uint64_t *values, size_t count,
                                                          size_t *given) {
     KFIFO_BEGIN_MANY(pass, values, count, given);
-    KFIFO_GIVE_EACH(pass, count, given, kfifo_one_give(pass, values[i]));
+    KFIFO_GIVE_EACH(pass, count, given, kfifo_one_give(waits, pass, values[i]));
 }
 
 /* Takes values until there are `most` or the queue has no more, and writes them from values[0] on: DONE, and writes at
@@ -205,7 +210,7 @@ KFIFO_MUST_USE static inline kfifo_status kfifo_give_all(kfifo_value_pass *pass,
 KFIFO_MUST_USE static inline kfifo_status kfifo_take_up_to(kfifo_value_pass *pass, uint64_t *values, size_t most,
                                                            size_t *taken) {
     KFIFO_BEGIN_MANY(pass, values, most, taken);
-    KFIFO_TAKE_EACH(pass, most, taken, kfifo_one_take(pass, &values[i]));
+    KFIFO_TAKE_EACH(pass, most, taken, kfifo_one_take(waits, pass, &values[i]));
 }
 
 /* The same two with pointers for values.
@@ -217,13 +222,13 @@ KFIFO_MUST_USE static inline kfifo_status kfifo_take_up_to(kfifo_value_pass *pas
 KFIFO_MUST_USE static inline kfifo_status kfifo_give_all_pointers(kfifo_value_pass *pass, void *const *pointers,
                                                                   size_t count, size_t *given) {
     KFIFO_BEGIN_MANY(pass, pointers, count, given);
-    KFIFO_GIVE_EACH(pass, count, given, kfifo_one_give(pass, KFIFO_CAST_POINTER(uintptr_t, pointers[i])));
+    KFIFO_GIVE_EACH(pass, count, given, kfifo_one_give(waits, pass, KFIFO_CAST_POINTER(uintptr_t, pointers[i])));
 }
 
 KFIFO_MUST_USE static inline kfifo_status kfifo_take_pointers_up_to(kfifo_value_pass *pass, void **pointers,
                                                                     size_t most, size_t *taken) {
     KFIFO_BEGIN_MANY(pass, pointers, most, taken);
-    KFIFO_TAKE_EACH(pass, most, taken, kfifo_one_take_pointer(pass, &pointers[i]));
+    KFIFO_TAKE_EACH(pass, most, taken, kfifo_one_take_pointer(waits, pass, &pointers[i]));
 }
 
 /* Puts the items of an array in their order, until the queue takes no more: DONE, and all are in the queue; else FULL,
@@ -238,7 +243,7 @@ KFIFO_MUST_USE static inline kfifo_status kfifo_put_all(kfifo_pass *pass, const 
                                                         size_t *put) {
     KFIFO_BEGIN_MANY(pass, items, count, put);
     if (!kfifo_are_items(items, count)) return KFIFO_BAD_CALL;
-    KFIFO_GIVE_EACH(pass, count, put, kfifo_one_put(pass, items[i]));
+    KFIFO_GIVE_EACH(pass, count, put, kfifo_one_put(waits, pass, items[i]));
 }
 
 /* Takes items until there are `most` or the queue has no more, as kfifo_take_up_to does.
@@ -250,7 +255,7 @@ KFIFO_MUST_USE static inline kfifo_status kfifo_put_all(kfifo_pass *pass, const 
 */
 KFIFO_MUST_USE static inline kfifo_status kfifo_get_up_to(kfifo_pass *pass, uint32_t *items, size_t most, size_t *got) {
     KFIFO_BEGIN_MANY(pass, items, most, got);
-    KFIFO_TAKE_EACH(pass, most, got, kfifo_one_get(pass, &items[i]));
+    KFIFO_TAKE_EACH(pass, most, got, kfifo_one_get(waits, pass, &items[i]));
 }
 
 /* ---- The same, but they wait ----
@@ -269,7 +274,7 @@ KFIFO_MUST_USE static inline kfifo_status kfifo_get_up_to(kfifo_pass *pass, uint
 KFIFO_MUST_USE static inline kfifo_status kfifo_give_all_wait(kfifo_value_pass *pass, const uint64_t *values,
                                                               size_t count, size_t *given, uint64_t nanoseconds) {
     KFIFO_BEGIN_MANY(pass, values, count, given);
-    KFIFO_GIVE_EACH_WAIT(pass, count, given, kfifo_one_give_once(pass, values[i]));
+    KFIFO_GIVE_EACH_WAIT(pass, count, given, kfifo_one_give_once(waits, pass, values[i]));
 }
 
 /* Waits for a value, and then takes what is there, `most` values at most: DONE, and writes at least one, unless `most`
@@ -282,7 +287,8 @@ KFIFO_MUST_USE static inline kfifo_status kfifo_give_all_wait(kfifo_value_pass *
 KFIFO_MUST_USE static inline kfifo_status kfifo_take_up_to_wait(kfifo_value_pass *pass, uint64_t *values, size_t most,
                                                                 size_t *taken, uint64_t nanoseconds) {
     KFIFO_BEGIN_MANY(pass, values, most, taken);
-    KFIFO_TAKE_EACH_WAIT(pass, most, taken, kfifo_one_take_once(pass, &values[i]), kfifo_one_take(pass, &values[i]));
+    KFIFO_TAKE_EACH_WAIT(pass, most, taken, kfifo_one_take_once(waits, pass, &values[i]),
+                         kfifo_one_take(waits, pass, &values[i]));
 }
 
 /* The same two with pointers for values.
@@ -295,15 +301,16 @@ KFIFO_MUST_USE static inline kfifo_status kfifo_give_all_pointers_wait(kfifo_val
                                                                        size_t count, size_t *given,
                                                                        uint64_t nanoseconds) {
     KFIFO_BEGIN_MANY(pass, pointers, count, given);
-    KFIFO_GIVE_EACH_WAIT(pass, count, given, kfifo_one_give_once(pass, KFIFO_CAST_POINTER(uintptr_t, pointers[i])));
+    KFIFO_GIVE_EACH_WAIT(pass, count, given,
+                         kfifo_one_give_once(waits, pass, KFIFO_CAST_POINTER(uintptr_t, pointers[i])));
 }
 
 KFIFO_MUST_USE static inline kfifo_status kfifo_take_pointers_up_to_wait(kfifo_value_pass *pass, void **pointers,
                                                                          size_t most, size_t *taken,
                                                                          uint64_t nanoseconds) {
     KFIFO_BEGIN_MANY(pass, pointers, most, taken);
-    KFIFO_TAKE_EACH_WAIT(pass, most, taken, kfifo_one_take_pointer_once(pass, &pointers[i]),
-                         kfifo_one_take_pointer(pass, &pointers[i]));
+    KFIFO_TAKE_EACH_WAIT(pass, most, taken, kfifo_one_take_pointer_once(waits, pass, &pointers[i]),
+                         kfifo_one_take_pointer(waits, pass, &pointers[i]));
 }
 
 /* Puts the items of an array, and waits while there is no room for the next one, as kfifo_give_all_wait does. BAD_CALL,
@@ -316,7 +323,7 @@ KFIFO_MUST_USE static inline kfifo_status kfifo_put_all_wait(kfifo_pass *pass, c
                                                              size_t *put, uint64_t nanoseconds) {
     KFIFO_BEGIN_MANY(pass, items, count, put);
     if (!kfifo_are_items(items, count)) return KFIFO_BAD_CALL;
-    KFIFO_GIVE_EACH_WAIT(pass, count, put, kfifo_one_put_once(pass, items[i]));
+    KFIFO_GIVE_EACH_WAIT(pass, count, put, kfifo_one_put_once(waits, pass, items[i]));
 }
 
 /* Waits for an item, and then takes what is there, as kfifo_take_up_to_wait does.
@@ -328,7 +335,8 @@ KFIFO_MUST_USE static inline kfifo_status kfifo_put_all_wait(kfifo_pass *pass, c
 KFIFO_MUST_USE static inline kfifo_status kfifo_get_up_to_wait(kfifo_pass *pass, uint32_t *items, size_t most,
                                                                size_t *got, uint64_t nanoseconds) {
     KFIFO_BEGIN_MANY(pass, items, most, got);
-    KFIFO_TAKE_EACH_WAIT(pass, most, got, kfifo_one_get_once(pass, &items[i]), kfifo_one_get(pass, &items[i]));
+    KFIFO_TAKE_EACH_WAIT(pass, most, got, kfifo_one_get_once(waits, pass, &items[i]),
+                         kfifo_one_get(waits, pass, &items[i]));
 }
 
 #ifdef __cplusplus

@@ -131,7 +131,8 @@ template <typename Iterator, typename End> GaveAll<Iterator> Pass::enqueue_all(I
             if (std::uint32_t item = *it; !kfifo_are_items(&item, 1)) refuse(item, 0, 1, "");
     }
     return detail::GivesMany(KFIFO_WAITS(handle)).each(std::move(first), end, [this](std::uint32_t item) {
-        return put(kfifo_are_items(&item, 1) ? kfifo_one_put(handle, item) : KFIFO_BAD_CALL, item, 0, 1);
+        return put(kfifo_are_items(&item, 1) ? kfifo_one_put(KFIFO_WAITS(handle), handle, item) : KFIFO_BAD_CALL, item,
+                   0, 1);
     });
 }
 
@@ -147,7 +148,7 @@ template <typename Container> TookUpTo Pass::dequeue_up_to(std::size_t most, Con
         // There is a place before there is an item.
         out.push_back(0);
         std::uint32_t item = 0;
-        kfifo_status status = kfifo_one_get(handle, &item);
+        kfifo_status status = kfifo_one_get(takes.waits, handle, &item);
         if (status != KFIFO_DONE) {
             out.pop_back();
             takes.all.why = taken(status, item, 0, 1).why;
