@@ -213,6 +213,28 @@ void sleepers_are_woken() {
     }
 }
 
+// The values of one queue go to the next, which is shorter, by one call that waits for both.
+void from_queue_to_queue() {
+    for (int round = 0; round < ROUNDS; round++) {
+        kfifo::ValueQueue<std::size_t> queue(1, 8, 2), next(1, 2, 2);
+        auto giver = queue.handle();
+        std::thread passes([&, taker = queue.handle(), passer = next.handle()]() mutable {
+            expect(passer.give_all_wait(taker.values()).given == 20, "all are passed on");
+            passer.finish();
+        });
+        std::size_t sum = 0;
+        std::thread takes([&, last = next.handle()]() mutable {
+            for (std::size_t value : last.values()) sum += value;
+        });
+        auto all = numbers(20);
+        expect(giver.give_all_wait(all).given == 20, "all are given");
+        queue.finish();
+        passes.join();
+        takes.join();
+        expect(sum == 210, "each came through");
+    }
+}
+
 // Two threads give batches of all sizes, and two take such: each value comes out once.
 void batches() {
     kfifo::ValueQueue<std::size_t> queue(2, 8, 4);
@@ -262,6 +284,7 @@ int main() {
     one_give_goes_through(false);
     one_give_goes_through(true);
     sleepers_are_woken();
+    from_queue_to_queue();
     batches();
     std::puts(failures ? "many at once that wait fail in C++"
                        : "many at once that wait in C++: all go through, and no thread sleeps on");
