@@ -113,7 +113,8 @@ static int is_late(kfifo_waiter *waiter, uint64_t *time) {
     if (waiter->deadline == 0)
         waiter->deadline = waiter->nanoseconds < KFIFO_FOREVER - *time ? *time + waiter->nanoseconds : KFIFO_FOREVER;
     if (!waiter->has_begun) {
-        waiter->has_begun = waiter->pauses = 1;
+        waiter->has_begun = 1;
+        waiter->pauses = 1;
         waiter->spins_until = *time + KFIFO_SPIN_NANOSECONDS;
     }
     return *time >= waiter->deadline;
