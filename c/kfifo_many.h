@@ -106,9 +106,9 @@ static inline kfifo_status kfifo_one_take_pointer(kfifo_waits *waits, kfifo_valu
 
 /* Whether each of these is an item. */
 static inline int kfifo_are_items(const uint32_t *items, size_t count) {
-    uint32_t wrong = 0;
-    for (size_t i = 0; i < count; i++) wrong |= KFIFO_CAST(uint32_t, items[i] - 1 >= KFIFO_MAX_ITEM);
-    return !wrong;
+    uint32_t bits = 0; /* 0 has all bits with the number below it, and an item that is too large has one above the 24 */
+    for (size_t i = 0; i < count; i++) bits |= items[i] | (items[i] - 1);
+    return bits <= KFIFO_MAX_ITEM;
 }
 
 /* Writes 0 where a call says how many there were. Returns BAD_CALL unless it has a place for that, an open handle, and
