@@ -4,17 +4,29 @@ of this repository's queues there, the median over the rounds of the ratio of th
 geometric means. Each round runs both, the first one first in every other round.
 
     bench/compare.py LIBRARY OTHER [--rounds N] [--milliseconds M] [--only WORD] [--out FILE]
+    bench/compare.py --looking [LIBRARY] ..     compares calls of one library: those that look for threads that wait
+                                                with the exports, which do not
+    bench/compare.py --many [LIBRARY] ..        compares 64 values or items at once with as many single calls
 
-LIBRARY and OTHER are files as c/out/libkfifo.a. The programs are built as bench/run.py builds them, and need the same.
+LIBRARY and OTHER are files as c/out/libkfifo.a. The programs are built as bench/run.py builds them, and need the same;
+those of --many need nothing but a compiler. A comparison within one library is of its own calls: a row that misses its
+goal has a mark, and the status is 1 then.
 """
 import argparse
 import math
 import os
 import statistics
+import subprocess
+import sys
 
 import run
 
 FOLDERS = [f"{run.OUT}/first", f"{run.OUT}/second"]
+# What calls that look have to keep of the rate of those that do not, and 64 at once of that of single calls: on one
+# thread the second, and elsewhere as much as single calls, within the noise.
+LOOKING_GOAL, MANY_GOAL, LEAST = 0.97, 1.25, 0.97
+MANY = ["values in C", "items in C", "values in C++", "items in C++"]
+SHAPES = [(1, 1024), (4, 256), (16, 64)]
 
 
 def build(libraries):
@@ -59,15 +71,79 @@ def table(rows):
     return "\n".join(lines) + "\n"
 
 
+def in_turn(words, others, rounds):
+    """Returns the ratio of the rate that a command prints to that of another one, one for each round."""
+    found = []
+    for turn in range(rounds):
+        rates = {}
+        for one in (words, others) if turn % 2 == 0 else (others, words):
+            ran = subprocess.run([str(it) for it in one], capture_output=True, text=True, timeout=120)
+            if ran.returncode:
+                sys.exit(f"{one}: {ran.stdout or ran.stderr}")
+            rates[tuple(one)] = float(ran.stdout)
+        found.append(rates[tuple(words)] / rates[tuple(others)])
+    return found
+
+
+def looking(words):
+    """Yields a title and a label of each workload with calls that look, its ratios, and its goal."""
+    run.build(words.library and os.path.abspath(words.library))
+    for workload in run.workloads(words.milliseconds):
+        if not workload.title.startswith("looking") or words.only not in workload.title:
+            continue
+        rates = run.measure(workload, words.rounds)
+        (_, looks), = list(run.ratios(rates).items())[1:]
+        yield workload.title, run.label(workload.queues[1]), looks, LOOKING_GOAL
+
+
+def many(words):
+    """The same of 64 at once, by one thread and by two that give and take."""
+    library = os.path.abspath(words.library or f"{run.HERE}/../c/out/libkfifo.a")
+    os.makedirs(run.OUT, exist_ok=True)
+    program = f"{run.OUT}/many"
+    build = [os.environ.get("CXX", "g++"), "-std=c++17", "-O2", f"-I{run.HERE}/../c", f"{run.HERE}/many.cpp"]
+    subprocess.run([*build, library, "-o", program, "-pthread"], check=True)
+    for threads in (1, 2):
+        for what in MANY:
+            for k, segments in SHAPES:
+                title = f"64 at once, {what}, " + ("one thread" if threads == 1 else "1 producer, 1 consumer")
+                if words.only not in title:
+                    continue
+                shape = [k, segments, threads, words.milliseconds]
+                found = in_turn([program, what, 64, *shape], [program, what, 1, *shape], words.rounds)
+                yield title, f"k = {k}", found, MANY_GOAL if threads == 1 else LEAST
+
+
+def within(words, of):
+    """Prints the table of a comparison within one library, and returns whether a row misses its goal."""
+    rows, missed = [], 0
+    for title, label, found, goal in of(words):
+        median = statistics.median(found)
+        missed += median < goal
+        rows.append((title, label + f" (goal: {goal})" * (median < goal), found))
+        print(f"{title}, {label}: {median:.2f}" + f", and the goal is {goal}" * (median < goal), flush=True)
+    print(table(rows))
+    if words.out:
+        with open(words.out, "w") as written:
+            written.write(table(rows))
+    return missed > 0
+
+
 def main():
     given = argparse.ArgumentParser(description=__doc__, formatter_class=argparse.RawDescriptionHelpFormatter)
-    given.add_argument("library", metavar="LIBRARY")
-    given.add_argument("other", metavar="OTHER")
+    given.add_argument("library", metavar="LIBRARY", nargs="?")
+    given.add_argument("other", metavar="OTHER", nargs="?")
+    given.add_argument("--looking", action="store_true")
+    given.add_argument("--many", action="store_true")
     given.add_argument("--rounds", type=int, default=15)
     given.add_argument("--milliseconds", type=int, default=50, help="of each run")
     given.add_argument("--only", default="", metavar="WORD", help="the workloads whose title has this word")
     given.add_argument("--out", metavar="FILE", help="where the table goes too")
     words = given.parse_args()
+    if words.looking or words.many:
+        sys.exit(within(words, looking if words.looking else many))
+    if not words.other:
+        given.error("it compares two libraries")
     build([words.library, words.other])
     rows = []
     for workload, queue in pairs(words.milliseconds, words.only):

@@ -46,6 +46,12 @@ int main() {
     std::vector<std::string> words{"f"};
     is_done = is_done && handle.give_all(words).given == 1 && handle.take_up_to(2, words).taken == 1;
     is_done = is_done && handle.give_all(kfifo::moving(words)).given == 2 && handle.take_up_to(2).values.size() == 2;
+    is_done = is_done && handle.give_all_wait(words).given == 1 && handle.take_up_to_wait(1, words).taken == 1;
+    is_done = is_done && handle.give_all_for(kfifo::moving(words), std::chrono::milliseconds(1)).given == 2;
+    is_done = is_done && handle.take_up_to_for(1, words, std::chrono::milliseconds(1)).taken == 1;
+    is_done = is_done && handle.take_up_to_for(1, std::chrono::milliseconds(1)).values.size() == 1;
+    is_done = is_done && handle.give_all_until(words.begin(), words.begin() + 1, soon).given == 1;
+    is_done = is_done && handle.take_up_to_until(1, soon).values.size() == 1 && !handle.take_up_to_wait(0).why;
     auto opened = kfifo::ValueQueue<Request>::try_open(1, 2, 1);
     is_done = is_done && opened.queue && kfifo::Queue::try_open(0, 2, 1).status == KFIFO_BAD_K;
     is_done = is_done && opened.queue->handle().emplace(Request{1, std::nullopt}) == kfifo::Put::done;

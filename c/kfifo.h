@@ -59,7 +59,12 @@ typedef enum kfifo_status {
     KFIFO_BAD_RESERVE = 18   /* the reserve is not below the greatest version */
 } kfifo_status;
 
-/* The name of a status, as "KFIFO_EMPTY". */
+/* The name of a status, as "KFIFO_EMPTY".
+   Cost: a look into a table.
+
+       kfifo_status none = kfifo_get(&passes[1], &item);
+       if (none != KFIFO_DONE) puts(kfifo_status_name(none)); // KFIFO_EMPTY
+*/
 static inline const char *kfifo_status_name(kfifo_status status) {
     static const char *const names[] = {
         "KFIFO_DONE",         "KFIFO_FULL",      NULL,
@@ -74,7 +79,11 @@ static inline const char *kfifo_status_name(kfifo_status status) {
     return name ? name : "no status of this library";
 }
 
-/* A line of text for a status, as "the queue was empty". kfifo_bad_call_text says which cause a BAD_CALL had. */
+/* A line of text for a status, as "the queue was empty". kfifo_bad_call_text says which cause a BAD_CALL had.
+   Cost: a few comparisons.
+
+       if (none != KFIFO_DONE) puts(kfifo_status_text(none)); // the queue was empty
+*/
 static inline const char *kfifo_status_text(kfifo_status status) {
     switch (status) {
     case KFIFO_DONE: return "done";
@@ -101,7 +110,11 @@ static inline const char *kfifo_status_text(kfifo_status status) {
 }
 
 /* Whether a later call may do better: true of FULL, EMPTY, BUSY and NO_TOKEN. A loop that retries another status never
-   ends. */
+   ends.
+   Cost: four comparisons.
+
+       while (kfifo_may_retry(put = kfifo_put(&passes[0], 7))) sched_yield();
+*/
 KFIFO_MUST_USE static inline int kfifo_may_retry(kfifo_status status) {
     return status == KFIFO_FULL || status == KFIFO_EMPTY || status == KFIFO_BUSY || status == KFIFO_NO_TOKEN;
 }
@@ -454,6 +467,7 @@ static inline void kfifo_zero(void *passes, size_t size, size_t threads) {
 /* Opens a queue of `segments` segments of k slots, and writes a handle for each thread into the array `passes`, whose
    old contents are lost. DONE; BAD_CALL of a null pointer; BAD_K, BAD_SEGMENTS, BAD_LAST, BAD_PROBES, BAD_THREADS,
    NO_MEMORY, and all handles are then closed, at most the first 64.
+   Cost: it asks for all memory of the queue, and writes to each word.
 
        kfifo_pass passes[2];
        if (kfifo_open(1, 4, 1, KFIFO_LAST, passes, 2) != KFIFO_DONE) return 1;
@@ -466,7 +480,11 @@ KFIFO_MUST_USE static inline kfifo_status kfifo_open(uint32_t k, uint32_t segmen
 }
 
 /* Why a put, get, enqueue or dequeue with these arguments returns BAD_CALL: the first cause that holds, or NULL where
-   none does. Of a call without an item hand over item 1, of one without a start and turns 0 and 1. */
+   none does. Of a call without an item hand over item 1, of one without a start and turns 0 and 1.
+   Cost: a few comparisons.
+
+       if (kfifo_put(&passes[0], 0) == KFIFO_BAD_CALL) puts(kfifo_bad_call_text(&passes[0], 0, 0, 1));
+*/
 static inline const char *kfifo_bad_call_text(const kfifo_pass *pass, uint32_t item, uint32_t start, uint16_t turns) {
     if (!pass) return "the pointer to the handle is null";
     if (pass->starts == 0) return "the handle is closed";
@@ -510,6 +528,7 @@ static inline kfifo_status kfifo_bare_dequeue(kfifo_pass *pass, uint32_t *item, 
 
 /* As kfifo_put, but bounded: at most 65,535 rounds, after which it returns BUSY. That comes only where another thread
    changed the queue in the meantime.
+   Cost: as kfifo_put.
 
        if (kfifo_put_once(&passes[0], 8) == KFIFO_BUSY) puts("the item is not put, and a later call may do better");
 */
@@ -521,6 +540,8 @@ KFIFO_MUST_USE static inline kfifo_status kfifo_put_once(kfifo_pass *pass, uint3
 
 /* Puts an item, 1 to KFIFO_MAX_ITEM, and wakes a thread that waits for it: DONE; else FULL, FINISHED, WORN or BAD_CALL,
    and the item is not in the queue. It does not wait.
+   Cost: some 100 instructions, of which a few are atomic steps. It asks for no memory, and calls the system only to
+   wake a thread.
 
        kfifo_status put = kfifo_put(&passes[0], 7);
 */
@@ -529,6 +550,7 @@ KFIFO_MUST_USE static inline kfifo_status kfifo_put(kfifo_pass *pass, uint32_t i
 }
 
 /* As kfifo_get, but bounded, as kfifo_put_once is: also BUSY.
+   Cost: as kfifo_get.
 
        if (kfifo_get_once(&passes[1], &item) == KFIFO_BUSY) puts("no item is got, and a later call may do better");
 */
@@ -539,6 +561,7 @@ KFIFO_MUST_USE static inline kfifo_status kfifo_get_once(kfifo_pass *pass, uint3
 
 /* Takes one of the k oldest items, and wakes a thread that waits for room: DONE, and writes it; else EMPTY, FINISHED,
    WORN or BAD_CALL, and *item stays. It does not wait.
+   Cost: as kfifo_put. A get that returns EMPTY has looked at all k slots of a segment.
 
        kfifo_status took = kfifo_get(&passes[1], &item);
 */
@@ -549,6 +572,7 @@ KFIFO_MUST_USE static inline kfifo_status kfifo_get(kfifo_pass *pass, uint32_t *
 /* As kfifo_put_once, with a start and turns of your own: the scan begins at slot `start`, below k, and the call makes
    at most `turns` rounds, at least 1. With fewer than segments + 2 a thread may get BUSY by moves of its own, without
    any other.
+   Cost: as kfifo_put.
 
        kfifo_status enqueued = kfifo_enqueue(&passes[0], 9, 0, 100);
 */
@@ -560,6 +584,7 @@ KFIFO_MUST_USE static inline kfifo_status kfifo_enqueue(kfifo_pass *pass, uint32
 }
 
 /* As kfifo_get_once, with a start and turns of your own.
+   Cost: as kfifo_get.
 
        kfifo_status dequeued = kfifo_dequeue(&passes[1], &item, 0, 100);
 */
@@ -573,6 +598,7 @@ KFIFO_MUST_USE static inline kfifo_status kfifo_dequeue(kfifo_pass *pass, uint32
    Any thread may call it by any open handle, also while that one is in a call, and again. A put that begins after it
    returns FINISHED; a get does so once the queue is empty. A put that it meets halfway may still put its item in, so
    call it when the producers have ended, or close the queue to have what is left.
+   Cost: an atomic step and two calls of the system.
 
        if (kfifo_finish(&passes[0]) != KFIFO_DONE) abort();
 */
@@ -583,6 +609,7 @@ KFIFO_MUST_USE static inline kfifo_status kfifo_finish(kfifo_pass *pass) {
 
 /* Reads a word of the queue: 0 is the ends word, then come the slots, segment by segment, and last the clock. DONE, and
    writes it; else BAD_CALL, and *word stays.
+   Cost: one atomic load.
 
        uint64_t ends = 0;
        if (kfifo_word(&passes[0], 0, &ends) != KFIFO_DONE) return 1;
@@ -599,6 +626,7 @@ KFIFO_MUST_USE static inline kfifo_status kfifo_word(kfifo_pass *pass, size_t in
    an item of each slot, k * segments. BAD_CALL, also where they are of several queues or one is missing or there twice,
    BAD_THREADS of more than 64, or NO_MEMORY: nothing was done. LOST: an allocation failed; the queue is closed, and the
    items are lost. To be sure of them, take them all before.
+   Cost: a look at each slot, and it asks for memory.
 
        uint32_t left[1 * 4];
        size_t count = 0;
@@ -621,6 +649,7 @@ KFIFO_MUST_USE static inline kfifo_status kfifo_close(kfifo_pass *passes, size_t
 /* Closes these handles, at most 64: DONE; BAD_CALL of a null pointer or of a handle that is there twice, or
    BAD_THREADS, and nothing was done. With the last open handle of a queue the queue goes, and the items that are left
    in it.
+   Cost: little, and the last one frees the memory of the queue.
 
        return kfifo_abandon(passes, 2) != KFIFO_DONE;
 */
@@ -655,7 +684,11 @@ KFIFO_MUST_USE static inline kfifo_status kfifo_abandon(kfifo_pass *passes, size
 /* How many tokens a thread it takes that a full ring returns FULL, not NO_TOKEN, whatever the other threads keep
    between their calls: k * segments + 1 + 15 * (threads - 1), but KFIFO_MAX_TOKENS at most. A thread can always have
    tokens - 15 * (threads - 1) values in the queue, and may find NO_TOKEN with more. Of cells those are missing besides
-   that others have reserved or received. */
+   that others have reserved or received.
+   Cost: a multiplication.
+
+       uint32_t tokens = kfifo_enough_tokens(1, 4, 2);
+*/
 KFIFO_MUST_USE static inline uint32_t kfifo_enough_tokens(uint32_t k, uint32_t segments, size_t threads) {
     uint64_t others = threads > 1 ? kfifo_at_most_one_over(threads) - 1 : 0;
     uint64_t enough = KFIFO_CAST(uint64_t, k) * segments + 1 + 15 * others;
@@ -670,6 +703,7 @@ KFIFO_MUST_USE static inline uint32_t kfifo_enough_tokens(uint32_t k, uint32_t s
    thread that has a batch more than it began with, 16 or tokens / threads at most, returns a batch to the pool, where
    others find it. DONE; BAD_CALL of a null pointer; BAD_K, BAD_SEGMENTS, BAD_LAST, BAD_RESERVE of one that is not below
    `last`, BAD_THREADS, BAD_TOKENS, NO_MEMORY, and all handles are then closed, at most the first 64.
+   Cost: it asks for the memory of the queue and of its tokens, and writes to each word.
 
        if (kfifo_open_values_with(1, 4, 8, 64, 32, passes, 2) != KFIFO_DONE) return 1; // it changes all the time
 */
@@ -683,6 +717,7 @@ KFIFO_MUST_USE static inline kfifo_status kfifo_open_values_with(uint32_t k, uin
 }
 
 /* Opens a queue of values that does not wear out. Returns what kfifo_open_values_with does.
+   Cost: as kfifo_open_values_with.
 
        kfifo_value_pass passes[2];
        if (kfifo_open_values(1, 4, kfifo_enough_tokens(1, 4, 2), passes, 2) != KFIFO_DONE) return 1;
@@ -714,6 +749,7 @@ static inline kfifo_status kfifo_bare_take(kfifo_value_pass *pass, uint64_t *val
 
 /* As kfifo_give, but bounded: at most 65,535 rounds in a generation, after which it returns BUSY. That comes only where
    another thread changed the queue in the meantime.
+   Cost: as kfifo_give.
 
        if (kfifo_give_once(&passes[0], 8) == KFIFO_BUSY) puts("the value is not given, and a later call may do better");
 */
@@ -726,6 +762,7 @@ KFIFO_MUST_USE static inline kfifo_status kfifo_give_once(kfifo_value_pass *pass
    BAD_CALL, and the value stays the caller's. It does not wait. Where there is no memory for the next generation until
    the reserve is used up, also a value whose give returned DONE may be one that no take reaches any more: they return
    WORN, and a close gives it back.
+   Cost: some 40 instructions more than a kfifo_put. It asks for memory only where it opens a generation.
 
        if (kfifo_give(&passes[0], 7) != KFIFO_DONE) return 1;
 */
@@ -734,6 +771,7 @@ KFIFO_MUST_USE static inline kfifo_status kfifo_give(kfifo_value_pass *pass, uin
 }
 
 /* As kfifo_take, but bounded, as kfifo_give_once is: also BUSY.
+   Cost: as kfifo_take.
 
        if (kfifo_take_once(&passes[1], &value) == KFIFO_BUSY) puts("no value is taken, and a later call may do better");
 */
@@ -744,6 +782,7 @@ KFIFO_MUST_USE static inline kfifo_status kfifo_take_once(kfifo_value_pass *pass
 
 /* Takes one of the k oldest values, and wakes a thread that waits for room: DONE, and writes it; else EMPTY, FINISHED,
    WORN or BAD_CALL, and *value stays. It does not wait.
+   Cost: some 40 instructions more than a kfifo_get, and a look into each older generation.
 
        while (kfifo_take(&passes[1], &value) == KFIFO_DONE) sum += value;
 */
@@ -755,6 +794,7 @@ KFIFO_MUST_USE static inline kfifo_status kfifo_take(kfifo_value_pass *pass, uin
    Any thread may call it by any open handle, also while that one is in a call, and again. A give that begins after it
    returns FINISHED; a take does so once the queue is empty. A give that it meets halfway may still put its value in, so
    call it when the producers have ended, or close the queue to have what is left.
+   Cost: as kfifo_finish.
 
        if (kfifo_finish_values(&passes[0]) != KFIFO_DONE) abort();
 */
@@ -764,6 +804,7 @@ KFIFO_MUST_USE static inline kfifo_status kfifo_finish_values(kfifo_value_pass *
 }
 
 /* kfifo_give and kfifo_take with a pointer for a value.
+   Cost: as theirs.
 
        if (kfifo_give_pointer(&passes[0], order) != KFIFO_DONE) free(order); // it is still ours
        void *taken = NULL;
@@ -783,7 +824,11 @@ KFIFO_MUST_USE static inline kfifo_status kfifo_take_pointer(kfifo_value_pass *p
 
 /* Room for how many values kfifo_close_values needs: k * segments for each generation that may have some. That is one
    mostly, and more near a change, or where a handle made no calls since. 0 where these are not all handles of one
-   queue, each open and there but once. */
+   queue, each open and there but once.
+   Cost: a look at each generation, mostly one.
+
+       size_t room = kfifo_values_room(passes, 2);
+*/
 KFIFO_MUST_USE static inline size_t kfifo_values_room(kfifo_value_pass *passes, size_t threads) {
     if (!passes || threads > KFIFO_MAX_THREADS) return 0;
     KFIFO_BEGIN_ALL(passes, threads);
@@ -796,6 +841,7 @@ KFIFO_MUST_USE static inline size_t kfifo_values_room(kfifo_value_pass *passes, 
 
 /* Closes a queue of values, as kfifo_close does, and writes those of the oldest generation first. There has to be room
    for kfifo_values_room values. With less it returns BAD_CALL, and nothing was done.
+   Cost: as kfifo_close, for each generation.
 
        size_t room = kfifo_values_room(passes, THREADS), count = 0;
        uint64_t *left = malloc(room * sizeof *left);
@@ -818,6 +864,7 @@ KFIFO_MUST_USE static inline kfifo_status kfifo_close_values(kfifo_value_pass *p
 }
 
 /* Closes these handles, as kfifo_abandon does. Values that are pointers are not freed.
+   Cost: as kfifo_abandon.
 
        return kfifo_abandon_values(passes, 2) != KFIFO_DONE;
 */
@@ -867,7 +914,11 @@ KFIFO_MUST_USE static inline kfifo_status kfifo_abandon_values(kfifo_value_pass 
 /* Opens a queue of cells with versions up to `last` and a reserve, as kfifo_open_values_with. Each thread begins with
    `tokens` tokens, 1 to KFIFO_MAX_TOKENS. Each token has a cell, so the cells are numbers from 0 to
    threads * tokens - 1, in all generations. How many are enough says kfifo_enough_tokens. Returns what
-   kfifo_open_values_with returns. */
+   kfifo_open_values_with returns.
+   Cost: as kfifo_open_values_with. The cells are the caller's.
+
+       if (kfifo_open_cells_with(1, 4, 8, 64, 32, passes, 2) != KFIFO_DONE) return 1; // it changes all the time
+*/
 KFIFO_MUST_USE static inline kfifo_status kfifo_open_cells_with(uint32_t k, uint32_t segments, uint32_t tokens,
                                                                 uint64_t last, uint64_t reserve,
                                                                 kfifo_cell_pass *passes, size_t threads) {
@@ -877,7 +928,11 @@ KFIFO_MUST_USE static inline kfifo_status kfifo_open_cells_with(uint32_t k, uint
                kfifo_c_open_cells(k, segments, k, last, tokens, reserve, passes, kfifo_at_most_one_over(threads)));
 }
 
-/* Opens a queue of cells that does not wear out. Returns what kfifo_open_values_with does. */
+/* Opens a queue of cells that does not wear out. Returns what kfifo_open_values_with does.
+   Cost: as kfifo_open_cells_with.
+
+       if (kfifo_open_cells(1, 4, 8, passes, 2) != KFIFO_DONE) return 1; // the cells are 0 to 15
+*/
 KFIFO_MUST_USE static inline kfifo_status kfifo_open_cells(uint32_t k, uint32_t segments, uint32_t tokens,
                                                            kfifo_cell_pass *passes, size_t threads) {
     return kfifo_open_cells_with(k, segments, tokens, KFIFO_LAST, KFIFO_RESERVE, passes, threads);
@@ -885,7 +940,12 @@ KFIFO_MUST_USE static inline kfifo_status kfifo_open_cells(uint32_t k, uint32_t 
 
 /* Reserves a cell: DONE, and writes its number. Until kfifo_publish puts it into the queue, the cell is the handle's
    alone, and a further call writes the same number. Else NO_TOKEN, where the handle has no cell and found none that
-   another one released, FINISHED or BAD_CALL, and *cell stays. */
+   another one released, FINISHED or BAD_CALL, and *cell stays.
+   Cost: a few dozen instructions, without an atomic step unless it fetches tokens from the pool.
+
+       if (kfifo_reserve(&passes[0], &cell) != KFIFO_DONE) return 1;
+       frames[cell].width = 64; // until the publish the cell is ours
+*/
 KFIFO_MUST_USE static inline kfifo_status kfifo_reserve(kfifo_cell_pass *pass, uint64_t *cell) {
     if (!pass || !cell || !KFIFO_WAITS(pass)) return KFIFO_BAD_CALL;
     if (__builtin_expect(kfifo_is_finished(KFIFO_WAITS(pass)), 0)) return KFIFO_FINISHED;
@@ -917,7 +977,11 @@ static inline kfifo_status kfifo_bare_receive(kfifo_cell_pass *pass, uint64_t *c
     return status;
 }
 
-/* As kfifo_publish, but bounded, as kfifo_give_once is: also BUSY. */
+/* As kfifo_publish, but bounded, as kfifo_give_once is: also BUSY.
+   Cost: as kfifo_publish.
+
+       if (kfifo_publish_once(&passes[0]) == KFIFO_BUSY) puts("the cell is still reserved");
+*/
 KFIFO_MUST_USE static inline kfifo_status kfifo_publish_once(kfifo_cell_pass *pass) {
     if (!pass || !KFIFO_WAITS(pass)) return KFIFO_BAD_CALL;
     KFIFO_LOOKING_GIVE(pass, KFIFO_FINISHED, kfifo_bare_publish(pass));
@@ -925,13 +989,21 @@ KFIFO_MUST_USE static inline kfifo_status kfifo_publish_once(kfifo_cell_pass *pa
 
 /* Puts the reserved cell into the queue, and wakes a thread that waits for it: DONE, and the cell is no longer the
    handle's. Else FULL, FINISHED, NO_TOKEN or WORN, and the cell is still reserved. BAD_CALL, also where none is
-   reserved. After DONE too, takes may no longer reach the cell where kfifo_give says so of a value. */
+   reserved. After DONE too, takes may no longer reach the cell where kfifo_give says so of a value.
+   Cost: as kfifo_give, which has a token to find and a payload to write besides.
+
+       if (kfifo_publish(&passes[0]) != KFIFO_DONE) puts("the cell is still reserved");
+*/
 KFIFO_MUST_USE static inline kfifo_status kfifo_publish(kfifo_cell_pass *pass) {
     KFIFO_UNLESS_BUSY(pass, kfifo_publish_once(pass));
 }
 
 /* Gives the reserved cell back: DONE, and any handle may reserve it. BAD_CALL, also where none is reserved. A cell that
-   stays reserved is one that no other handle can have. */
+   stays reserved is one that no other handle can have.
+   Cost: as kfifo_reserve.
+
+       if (kfifo_cancel(&passes[0]) != KFIFO_DONE) return 1;
+*/
 KFIFO_MUST_USE static inline kfifo_status kfifo_cancel(kfifo_cell_pass *pass) {
     if (!pass || !KFIFO_WAITS(pass)) return KFIFO_BAD_CALL;
     KFIFO_BEGIN(pass, __func__);
@@ -941,7 +1013,11 @@ KFIFO_MUST_USE static inline kfifo_status kfifo_cancel(kfifo_cell_pass *pass) {
     return kfifo_after_take(KFIFO_WAITS(pass), status);
 }
 
-/* As kfifo_receive, but bounded, as kfifo_give_once is: also BUSY. */
+/* As kfifo_receive, but bounded, as kfifo_give_once is: also BUSY.
+   Cost: as kfifo_receive.
+
+       if (kfifo_receive_once(&passes[1], &cell) == KFIFO_BUSY) puts("no cell is received");
+*/
 KFIFO_MUST_USE static inline kfifo_status kfifo_receive_once(kfifo_cell_pass *pass, uint64_t *cell) {
     if (!pass || !cell || !KFIFO_WAITS(pass)) return KFIFO_BAD_CALL;
     KFIFO_LOOKING_TAKE(pass, kfifo_bare_receive(pass, cell));
@@ -950,13 +1026,21 @@ KFIFO_MUST_USE static inline kfifo_status kfifo_receive_once(kfifo_cell_pass *pa
 /* Takes one of the k oldest cells, and wakes a thread that waits for room: DONE, and writes its number. Until the
    handle's next kfifo_receive or kfifo_release the cell is the handle's alone. Else EMPTY, FINISHED, WORN or BAD_CALL,
    and *cell stays. The call first releases the cell that the handle received before, also where it then takes none. A
-   handle may have a received and a reserved cell at once. */
+   handle may have a received and a reserved cell at once.
+   Cost: as a kfifo_get, a kfifo_release, and a look into each older generation.
+
+       while (kfifo_receive(&passes[1], &cell) == KFIFO_DONE) show(&frames[cell]);
+*/
 KFIFO_MUST_USE static inline kfifo_status kfifo_receive(kfifo_cell_pass *pass, uint64_t *cell) {
     KFIFO_UNLESS_BUSY(pass, kfifo_receive_once(pass, cell));
 }
 
 /* Releases the cell that the handle received: DONE, and any handle may reserve it. BAD_CALL, also where none was
-   received, or it is released already. */
+   received, or it is released already.
+   Cost: as kfifo_reserve.
+
+       if (kfifo_release(&passes[1]) != KFIFO_DONE) return 1;
+*/
 KFIFO_MUST_USE static inline kfifo_status kfifo_release(kfifo_cell_pass *pass) {
     if (!pass || !KFIFO_WAITS(pass)) return KFIFO_BAD_CALL;
     KFIFO_BEGIN(pass, __func__);
@@ -970,6 +1054,7 @@ KFIFO_MUST_USE static inline kfifo_status kfifo_release(kfifo_cell_pass *pass) {
    Any thread may call it by any open handle, also while that one is in a call, and again. A publish that begins after
    it returns FINISHED; a receive does so once the queue is empty. A publish that it meets halfway may still put its
    cell in, so call it when the producers have ended, or close the queue to have what is left.
+   Cost: as kfifo_finish.
 
        if (kfifo_finish_cells(&passes[0]) != KFIFO_DONE) abort();
 */
@@ -980,7 +1065,13 @@ KFIFO_MUST_USE static inline kfifo_status kfifo_finish_cells(kfifo_cell_pass *pa
 
 /* Closes a queue of cells, as kfifo_close does, and writes the numbers of the cells that are in it, in the queue's
    order. A cell that a handle had reserved or received is not among them. There has to be room for each cell,
-   threads * tokens: with less the call returns BAD_CALL, and nothing was done. */
+   threads * tokens: with less the call returns BAD_CALL, and nothing was done.
+   Cost: as kfifo_close_values.
+
+       uint64_t left[2 * 8]; // threads * tokens
+       size_t count = 0;
+       if (kfifo_close_cells(passes, 2, left, 2 * 8, &count) != KFIFO_DONE) return 1;
+*/
 KFIFO_MUST_USE static inline kfifo_status kfifo_close_cells(kfifo_cell_pass *passes, size_t threads, uint64_t *cells,
                                                             size_t room, size_t *count) {
     if (!passes || !cells || !count) return KFIFO_BAD_CALL;
@@ -997,7 +1088,11 @@ KFIFO_MUST_USE static inline kfifo_status kfifo_close_cells(kfifo_cell_pass *pas
     return status;
 }
 
-/* Closes these handles, as kfifo_abandon does. The array of the cells stays as it is. */
+/* Closes these handles, as kfifo_abandon does. The array of the cells stays as it is.
+   Cost: as kfifo_abandon.
+
+       return kfifo_abandon_cells(passes, 2) != KFIFO_DONE;
+*/
 KFIFO_MUST_USE static inline kfifo_status kfifo_abandon_cells(kfifo_cell_pass *passes, size_t threads) {
     if (!passes) return KFIFO_BAD_CALL;
     if (threads > KFIFO_MAX_THREADS) return KFIFO_BAD_THREADS;

@@ -79,10 +79,17 @@ enum class Miss {
 };
 
 // A line of text, as "the ring was full".
+// Cost: a few comparisons.
+//
+//     kfifo::TakenValue<std::string> none = taker.take();
+//     if (!none.value) std::puts(kfifo::text(none.why)); // the queue was empty
 [[nodiscard]] inline const char *text(Put put) noexcept { return kfifo_status_text(static_cast<kfifo_status>(put)); }
 [[nodiscard]] inline const char *text(Miss miss) noexcept { return kfifo_status_text(static_cast<kfifo_status>(miss)); }
 
 // Whether a later call may do better: a loop that retries another answer, as Put::worn, never ends.
+// Cost: four comparisons.
+//
+//     while (kfifo::may_retry(gave = giver.give("a word"))) std::this_thread::yield();
 [[nodiscard]] inline bool may_retry(Put put) noexcept { return kfifo_may_retry(static_cast<kfifo_status>(put)); }
 [[nodiscard]] inline bool may_retry(Miss miss) noexcept { return kfifo_may_retry(static_cast<kfifo_status>(miss)); }
 
@@ -153,11 +160,13 @@ struct [[nodiscard]] TakenItems {
 class Pass {
   public:
     // Puts an item, 1 to KFIFO_MAX_ITEM: done, full, finished or worn. It does not wait.
+    // Cost: as kfifo_put, some 100 instructions without memory or a call of the system.
     //
     //     if (pass.enqueue(7) != kfifo::Put::done) return 1;
     Put enqueue(std::uint32_t item) const { return put(kfifo_put(handle, item), item, 0, 1); }
 
     // Takes one of the k oldest items: the item, or empty, finished or worn. It does not wait.
+    // Cost: as enqueue. One that answers empty has looked at all k slots of a segment.
     //
     //     kfifo::Taken taken = pass.dequeue();
     //     if (taken.item) std::printf("item %u came out\n", static_cast<unsigned>(*taken.item));
@@ -168,8 +177,11 @@ class Pass {
 
     // The same, but bounded: at most 65,535 rounds, after which the answer is busy. That comes only where another
     // thread changed the queue in the meantime.
+    // Cost: as theirs.
     //
     //     if (pass.enqueue_once(8) == kfifo::Put::busy) std::puts("not put, and a later call may do better");
+    //     kfifo::Taken once = pass.dequeue_once();
+    //     if (!once.item && once.why == kfifo::Miss::busy) std::puts("a later call may do better");
     Put enqueue_once(std::uint32_t item) const { return put(kfifo_put_once(handle, item), item, 0, 1); }
 
     Taken dequeue_once() const {
@@ -179,8 +191,10 @@ class Pass {
 
     // The same, with a start and turns of your own: the scan begins at slot `start`, below k, and makes at most `turns`
     // rounds, at least 1.
+    // Cost: as theirs.
     //
     //     kfifo::Put put_at = pass.enqueue_once(9, 0, 100);
+    //     kfifo::Taken taken_at = pass.dequeue_once(0, 100);
     Put enqueue_once(std::uint32_t item, std::uint32_t start, std::uint16_t turns) const {
         return put(kfifo_enqueue(handle, item, start, turns), item, start, turns);
     }
@@ -192,7 +206,9 @@ class Pass {
 
     // Puts each item of a range, until the queue takes no more. It does not wait, and wakes a thread for each when it
     // ends. The items are std::uint32_t or a type that it has room for. Where one is out of range the call throws
-    // Error: of a range that can be read twice none is in the queue then, and else those before it are.
+    // Error: of a range that can be read twice none is in the queue then, and else those before it are. `why` of the
+    // result is done, full, finished or worn.
+    // Cost: as an enqueue for each item, but for all but one of the looks for threads that wait.
     //
     //     auto put = pass.enqueue_all(numbers);
     //     numbers.erase(numbers.begin(), put.rest); // what is not put is still here
@@ -201,11 +217,17 @@ class Pass {
 
     // Takes items until there are `most` or the queue has no more, and puts them at the end of a container, or returns
     // them. It does not wait, and wakes a thread for each when it ends. Where the container throws, its item is still
-    // in the queue.
+    // in the queue. `why` of the result is empty, finished or worn, or nothing where it took `most`.
+    // Cost: as a dequeue for each item, and one more that finds none, but for all but one of the looks for threads that
+    // wait.
+    //
+    //     auto some = pass.dequeue_up_to(3);
+    //     auto more = pass.dequeue_up_to(64, some.items);
     template <typename Container> TookUpTo dequeue_up_to(std::size_t most, Container &out) const;
     TakenItems dequeue_up_to(std::size_t most) const;
 
     // One word of the queue, as kfifo_word reads it. Throws Error where it has none with this index.
+    // Cost: one atomic load.
     //
     //     std::uint64_t ends = pass.word(0);
     [[nodiscard]] std::uint64_t word(std::size_t index) const {
@@ -243,7 +265,8 @@ class Pass {
 class Queue {
   public:
     // k slots in each of these segments, for `threads` threads. Throws Error where there is no such queue, and
-    // std::bad_alloc. All memory is asked for here.
+    // std::bad_alloc.
+    // Cost: all memory of the queue is asked for here, and each word is written.
     //
     //     kfifo::Queue queue(1, 8, 2);
     //     kfifo::Pass pass = queue.pass(0);
@@ -256,6 +279,7 @@ class Queue {
 
     // The same two, but they say why there is no such queue, and throw nothing: for builds without exceptions too. In
     // those a program that has no memory for the handles ends.
+    // Cost: as that of the constructor.
     //
     //     auto opened = kfifo::Queue::try_open(1, 8, 1);
     //     if (!opened.queue) return opened.status;
@@ -288,6 +312,9 @@ class Queue {
     }
 
     // The pass of a thread, from 0. Throws Error where the queue has no such thread.
+    // Cost: an atomic step, since passes share the handles.
+    //
+    //     kfifo::Pass pass = queue.pass(0);
     [[nodiscard]] Pass pass(std::size_t thread) {
         std::vector<kfifo_pass> &all = usable();
         if (thread >= all.size())
@@ -295,7 +322,9 @@ class Queue {
         return Pass(handles, thread);
     }
 
-    // Closes the queue and gives back the items that are left. Nothing else may be called after.
+    // Closes the queue and gives back the items that are left. Nothing else may be called after. Throws Error where it
+    // is closed already, and std::bad_alloc.
+    // Cost: a look at each slot, and it asks for memory.
     //
     //     std::vector<std::uint32_t> left = queue.close();
     [[nodiscard]] std::vector<std::uint32_t> close() {
@@ -678,6 +707,8 @@ template <typename T> class ValueQueue {
 
         // Gives a value to the queue: done, full, no_token, finished or worn. On any answer but done the value is what
         // it was. It does not wait.
+        // Cost: as kfifo_reserve and kfifo_publish, and a move of T. It asks for memory only where it opens a
+        // generation.
         //
         //     if (giver.give(std::move(word)) != kfifo::Put::done) std::puts(word.c_str()); // it is still ours
         //
@@ -690,14 +721,21 @@ template <typename T> class ValueQueue {
         // move makes of it.
         Put give(T &&value) { return give_by(detail::UnlessBusy(), std::move(value)); }
 
-        // Gives a copy, which is made in its cell. If that throws, nothing was done.
+        // Gives a copy, which is made in its cell: the same answers. If the copy throws, nothing was done.
+        // Cost: the same, with a copy of T.
+        //
+        //     const std::string copied("copied");
+        //     if (giver.give(copied) != kfifo::Put::done) return 1;
         Put give(const T &value) {
             return put(
                 detail::UnlessBusy(), [&](Reserved &cell) { cell.make(value); }, [](T &) {});
         }
 
         // Makes a value of these arguments in its cell, and gives it. If the constructor throws, nothing was given. On
-        // any answer but done the value is destroyed, or none was made. It does not wait.
+        // any answer but done, which are those of give, the value is destroyed, or none was made. It does not wait.
+        // Cost: as give, with that constructor of T.
+        //
+        //     if (giver.emplace(3, 'x') != kfifo::Put::done) return 1;
         template <typename... Arguments> Put emplace(Arguments &&...arguments) {
             return put(
                 detail::UnlessBusy(), [&](Reserved &cell) { cell.make(std::forward<Arguments>(arguments)...); },
@@ -705,6 +743,7 @@ template <typename T> class ValueQueue {
         }
 
         // Takes one of the k oldest values: the value, or empty, finished or worn. It does not wait.
+        // Cost: as kfifo_receive and kfifo_release, and a move of T.
         //
         //     kfifo::TakenValue<std::string> taken = taker.take();
         //     if (!taken.value) std::puts(kfifo::text(taken.why));
@@ -715,8 +754,12 @@ template <typename T> class ValueQueue {
 
         // The same three, but bounded: each look at the queue makes at most 65,535 rounds, after which the answer is
         // busy. That comes only where another thread changed the queue in the meantime.
+        // Cost: as theirs.
         //
-        //     if (taker.take_once().why == kfifo::Miss::busy) std::puts("a later call may do better");
+        //     if (giver.give_once("once") != kfifo::Put::done) std::puts("it is busy, or refused as by give");
+        //     if (giver.emplace_once(2, 'o') != kfifo::Put::done) std::puts("it is busy, or refused as by give");
+        //     kfifo::TakenValue<std::string> once = taker.take_once();
+        //     if (!once.value && once.why == kfifo::Miss::busy) std::puts("a later call may do better");
         Put give_once(T &&value) { return give_by(detail::Once(), std::move(value)); }
 
         template <typename... Arguments> Put emplace_once(Arguments &&...arguments) {
@@ -726,15 +769,17 @@ template <typename T> class ValueQueue {
 
         TakenValue<T> take_once() { return take_by(detail::Once()); }
 
-        // Gives a value, and sleeps while there is no room for it: Put::done, Put::finished or Put::worn. Where it need
-        // not sleep it costs as much as give.
+        // Gives a value, and sleeps while there is no room for it: Put::done, Put::finished or Put::worn.
+        // Cost: as give where it need not sleep.
         //
         //     if (giver.give_wait("second") != kfifo::Put::done) return 1;
         Put give_wait(T &&value) { return give_by(within(KFIFO_WAITS_GIVER, KFIFO_FOREVER), std::move(value)); }
 
         // The same with a copy, which is made in its cell, and with a value that is made there of these arguments. Each
         // is made when a cell is free, and destroyed where the queue then refuses it.
+        // Cost: as give and emplace where it need not sleep.
         //
+        //     if (giver.give_wait(copied) != kfifo::Put::done) return 1;
         //     if (giver.emplace_wait(3, 'y') != kfifo::Put::done) return 1;
         Put give_wait(const T &value) {
             return put(
@@ -748,6 +793,7 @@ template <typename T> class ValueQueue {
         }
 
         // As emplace_wait, for so long at most: also timed_out.
+        // Cost: as emplace where it need not sleep.
         //
         //     if (giver.emplace_for(std::chrono::seconds(1), 3, 'z') != kfifo::Put::done) return 1;
         template <typename Rep, typename Period, typename... Arguments>
@@ -758,12 +804,15 @@ template <typename T> class ValueQueue {
         }
 
         // Takes a value, and sleeps while there is none: a value, Miss::finished or Miss::worn.
+        // Cost: as take where it need not sleep.
         //
         //     while (auto value = taker.take_wait().value) all += *value;
         TakenValue<T> take_wait() { return take_by(within(KFIFO_WAITS_TAKER, KFIFO_FOREVER)); }
 
         // The same for so long at most: also timed_out. A negative time is 0, with which the call does not sleep.
+        // Cost: as give and take where it need not sleep.
         //
+        //     if (giver.give_for("soon", std::chrono::seconds(1)) != kfifo::Put::done) return 1;
         //     auto late = taker.take_for(std::chrono::milliseconds(1));
         template <typename Rep, typename Period>
         Put give_for(T &&value, const std::chrono::duration<Rep, Period> &time) {
@@ -777,21 +826,25 @@ template <typename T> class ValueQueue {
 
         // The same until a time of some clock. That the clock is set meanwhile is seen when the time was up by the
         // clock as it was.
+        // Cost: as give and take where it need not sleep, and a look at the clock.
         //
         //     auto soon = std::chrono::steady_clock::now() + std::chrono::milliseconds(1);
+        //     if (giver.give_until("by then", soon) != kfifo::Put::done) return 1;
         //     auto later = taker.take_until(soon);
         template <typename Clock, typename Duration>
         Put give_until(T &&value, const std::chrono::time_point<Clock, Duration> &end) {
-            return give_by(detail::Until<Clock, Duration>(usable(), KFIFO_WAITS_GIVER, end), std::move(value));
+            return give_by(until(KFIFO_WAITS_GIVER, end), std::move(value));
         }
 
         template <typename Clock, typename Duration>
         TakenValue<T> take_until(const std::chrono::time_point<Clock, Duration> &end) {
-            return take_by(detail::Until<Clock, Duration>(usable(), KFIFO_WAITS_TAKER, end));
+            return take_by(until(KFIFO_WAITS_TAKER, end));
         }
 
         // Gives each value of a range, until the queue takes no more. It does not wait, and wakes a thread for each
-        // when it ends. What is not given stays as it was, from `rest` of the result on.
+        // when it ends. What is not given stays as it was, from `rest` of the result on, and `why` is done, full,
+        // no_token, finished or worn.
+        // Cost: as a give for each value, but for all but one of the looks for threads that wait.
         //
         //     auto gave = giver.give_all(kfifo::moving(words));
         //     words.erase(words.begin(), gave.rest.base()); // what is not given is still here
@@ -804,10 +857,32 @@ template <typename T> class ValueQueue {
         template <typename Range> auto give_all(Range &&range);
         template <typename Iterator, typename End> GaveAll<Iterator> give_all(Iterator first, End end);
 
+        // The same, but they sleep while there is no room for the next value: done, finished or worn. give_all_for and
+        // give_all_until do so for a time at most, that of all their waits: also timed_out. Before each wait they wake
+        // who waits for the values that are given.
+        // Cost: as give_all where they need not sleep.
+        //
+        //     auto all_gave = giver.give_all_wait(kfifo::moving(words));
+        //     if (all_gave.why != kfifo::Put::done) std::puts(kfifo::text(all_gave.why));
+        //     auto in_time = giver.give_all_for(words, std::chrono::seconds(1));
+        //     auto by_then = giver.give_all_until(words.begin(), words.end(), soon);
+        template <typename Range> auto give_all_wait(Range &&range);
+        template <typename Iterator, typename End> GaveAll<Iterator> give_all_wait(Iterator first, End end);
+        template <typename Range, typename Rep, typename Period>
+        auto give_all_for(Range &&range, const std::chrono::duration<Rep, Period> &time);
+        template <typename Iterator, typename End, typename Rep, typename Period>
+        GaveAll<Iterator> give_all_for(Iterator first, End end, const std::chrono::duration<Rep, Period> &time);
+        template <typename Range, typename Clock, typename Duration>
+        auto give_all_until(Range &&range, const std::chrono::time_point<Clock, Duration> &time);
+        template <typename Iterator, typename End, typename Clock, typename Duration>
+        GaveAll<Iterator> give_all_until(Iterator first, End end, const std::chrono::time_point<Clock, Duration> &time);
+
         // Takes values until there are `most` or the queue has no more, and puts them at the end of a container. It
         // does not wait, and wakes a thread for each when it ends. What T or the container throws comes out of the
         // call, and nothing is lost: the values before are in the container, and the next take of the handle begins
-        // with that one.
+        // with that one. `why` of the result is empty, finished or worn, or nothing where it took `most`.
+        // Cost: as a take for each value and one more that finds none, but for all but one of the looks for threads
+        // that wait and all but one release.
         //
         //     auto took = taker.take_up_to(64, read);
         //     if (took.why == kfifo::Miss::finished) is_over = true;
@@ -815,10 +890,33 @@ template <typename T> class ValueQueue {
 
         // The same, but returns the values, at most as many as the queue has cells: threads * tokens. Where T throws
         // after the first one, the call ends with those before, and the next take of the handle throws.
+        // Cost: the same, and memory for the vector.
+        //
+        //     auto few = taker.take_up_to(2).values;
         TakenValues<T> take_up_to(std::size_t most);
+
+        // The same two, but they sleep until there is a value, and then take what is there: one at least, else
+        // finished or worn. take_up_to_for and take_up_to_until do so for a time at most: also timed_out.
+        // Cost: as take_up_to where they need not sleep.
+        //
+        //     auto batch = taker.take_up_to_for(64, std::chrono::milliseconds(1));
+        //     auto last_batch = taker.take_up_to_until(64, soon);
+        //     while (taker.take_up_to_wait(64, read).taken != 0) std::printf("%zu are read\n", read.size());
+        template <typename Container> TookUpTo take_up_to_wait(std::size_t most, Container &out);
+        TakenValues<T> take_up_to_wait(std::size_t most);
+        template <typename Container, typename Rep, typename Period>
+        TookUpTo take_up_to_for(std::size_t most, Container &out, const std::chrono::duration<Rep, Period> &time);
+        template <typename Rep, typename Period>
+        TakenValues<T> take_up_to_for(std::size_t most, const std::chrono::duration<Rep, Period> &time);
+        template <typename Container, typename Clock, typename Duration>
+        TookUpTo take_up_to_until(std::size_t most, Container &out,
+                                  const std::chrono::time_point<Clock, Duration> &time);
+        template <typename Clock, typename Duration>
+        TakenValues<T> take_up_to_until(std::size_t most, const std::chrono::time_point<Clock, Duration> &time);
 
         // The values that come, until the queue is finished and empty: for (T value : handle.values()). It sleeps while
         // there is none, and throws Error with KFIFO_WORN where take answers Miss::worn.
+        // Cost: a take_wait for each value.
         //
         //     for (std::string value : taker.values()) all += value;
         [[nodiscard]] Values values() {
@@ -827,7 +925,8 @@ template <typename T> class ValueQueue {
         }
 
         // Finishes the queue when the guard goes, also by an exception, so that no thread sleeps on. Keep the guard as
-        // long as the thread gives:
+        // long as the thread gives.
+        // Cost: two atomic steps, since the guard shares the queue, and a finish at its end.
         //
         //     auto end = giver.finish_at_end();
         FinishGuard finish_at_end() const {
@@ -836,6 +935,7 @@ template <typename T> class ValueQueue {
         }
 
         // Says that no more values will come, as ValueQueue::finish.
+        // Cost: an atomic step and two calls of the system.
         //
         //     giver.finish();
         void finish() { (void)kfifo_finish_by(usable()); }
@@ -857,6 +957,12 @@ template <typename T> class ValueQueue {
 
         detail::Within within(std::uint32_t kind, std::uint64_t nanoseconds) const {
             return detail::Within(usable(), kind, nanoseconds);
+        }
+
+        template <typename Clock, typename Duration>
+        detail::Until<Clock, Duration> until(std::uint32_t kind,
+                                             const std::chrono::time_point<Clock, Duration> &end) const {
+            return detail::Until<Clock, Duration>(usable(), kind, end);
         }
 
         // Ends a give that came to nothing, also by an exception: destroys what is left of the value, and gives the
@@ -974,8 +1080,13 @@ template <typename T> class ValueQueue {
                 });
         }
 
-        template <typename Reference> Put give_one(Reference &&value);
+        template <typename Calls, typename Reference> Put give_one(Calls calls, Reference &&value);
+        template <typename Calls, typename Iterator, typename End>
+        GaveAll<Iterator> give_all_by(Calls calls, Iterator first, End end);
         struct LastCell;
+        template <typename Calls, typename Container>
+        TookUpTo take_up_to_by(Calls calls, std::size_t most, Container &out);
+        template <typename Calls> TakenValues<T> take_up_to_by(Calls calls, std::size_t most);
 
         std::shared_ptr<State> state;
         kfifo_cell_pass *pass; // of the state
@@ -1053,6 +1164,9 @@ template <typename T> class ValueQueue {
     // kfifo_enough_tokens: with it a give finds a token until the queue is full, whatever the others keep between their
     // calls, but where that would be more than KFIFO_MAX_TOKENS. The queue has room for threads * tokens values of T
     // from the beginning. Throws Error where there is no such queue, and std::bad_alloc.
+    // Cost: all this memory is asked for here, and the words of the queue are written.
+    //
+    //     kfifo::ValueQueue<std::string> queue(1, 1024, 2); // k, segments, threads
     ValueQueue(std::uint32_t k, std::uint32_t segments, std::size_t threads)
         : ValueQueue(k, segments, threads, kfifo_enough_tokens(k, segments, threads)) {}
 
@@ -1060,11 +1174,15 @@ template <typename T> class ValueQueue {
         : ValueQueue(k, segments, threads, tokens, Versions()) {}
 
     // The same with versions of your own. Throws Error also where there are no such ones.
+    // Cost: the same.
+    //
+    //     kfifo::ValueQueue<std::string> changing(1, 8, 2, 24, kfifo::Versions{64, 32}); // it changes all the time
     ValueQueue(std::uint32_t k, std::uint32_t segments, std::size_t threads, std::uint32_t tokens, Versions versions)
         : ValueQueue(open(k, segments, threads, tokens, versions)) {}
 
     // The same, but they say why there is no such queue, and throw nothing: for builds without exceptions too. In those
     // a program that has no memory for the cells ends.
+    // Cost: the same.
     //
     //     auto opened = kfifo::ValueQueue<std::string>::try_open(1, 8, 2); // k, segments, threads
     //     if (!opened.queue) {
@@ -1103,6 +1221,9 @@ template <typename T> class ValueQueue {
 
     // A handle that nobody has. Throws Error where each was out at one moment: never where there are as many handles as
     // threads, and no thread has two.
+    // Cost: a few atomic steps, and at its end as many.
+    //
+    //     auto giver = queue.handle(), taker = queue.handle();
     [[nodiscard]] Handle handle() {
         if (usable().is_closed) detail::raise(Error(KFIFO_BAD_CALL, "the queue is closed"));
         std::optional<std::size_t> number = state->borrow_pass();
@@ -1113,6 +1234,7 @@ template <typename T> class ValueQueue {
     // Says that no more values will come, and wakes all that wait. Any thread may call it, and again. A give that
     // begins after it answers finished; a take does so once the queue is empty. A give that it meets halfway may still
     // put its value in: call it when the producers have ended, or close the queue to have what is left.
+    // Cost: an atomic step and two calls of the system.
     //
     //     queue.finish();
     void finish() {
@@ -1123,6 +1245,7 @@ template <typename T> class ValueQueue {
     // Closes the queue and gives back the values that are left, in its order. Throws Error, and nothing changes, where
     // a handle is still out, and std::bad_alloc, and no value is lost, where there is no memory for them. Where the
     // library alone has no memory to tell the order, the values come in another one.
+    // Cost: a look at each slot and each cell, and it asks for memory.
     //
     //     std::vector<std::string> left = queue.close();
     //

@@ -64,12 +64,36 @@ class GivesMany {
         return all;
     }
 
-  private:
     void wake() { kfifo_after_gives(waits, std::exchange(asleep, 0)); }
 
+  private:
     kfifo_waits *waits;
     std::size_t asleep = 0; // so many were given, and who waits for them was not woken yet
 };
+
+// How a call of many is made again that waits by these: before a wait it wakes who waits for what it has given, since
+// it may be they who make room.
+template <typename Calls> struct WakingFirst {
+    template <typename Call> kfifo_status operator()(const kfifo_cell_pass *pass, Call call) const {
+        kfifo_status status = call();
+        if (!kfifo_may_retry(status)) return status;
+        gives.wake();
+        return calls(pass, call);
+    }
+
+    GivesMany &gives;
+    Calls &calls;
+};
+
+// A call that does not wait need not wake anybody before its end.
+inline UnlessBusy waking_first(GivesMany &, UnlessBusy calls) { return calls; }
+template <typename Calls> WakingFirst<Calls> waking_first(GivesMany &gives, Calls &calls) { return {gives, calls}; }
+
+// Refuses a range that is gone after the call, unless it is one of the values of a queue, which stay there.
+template <typename Range, typename Values> constexpr void check_outlived() {
+    static_assert(is_outlived<Range> || std::is_same_v<Range, Values>,
+                  "what was not given would go with the range: give it a name");
+}
 
 // The takes of a call, which wakes who waits for room when it ends, also by an exception.
 struct TakesMany {
@@ -84,8 +108,11 @@ struct TakesMany {
 
 } // namespace detail
 
-// The values of a range, to be moved from: giver.give_all(kfifo::moving(words)). Those that are not given stay as they
-// are. `rest` of the result is a std::move_iterator, whose base() is the place in the range.
+// The values of a range, to be moved from. Those that are not given stay as they are. `rest` of the result is a
+// std::move_iterator, whose base() is the place in the range.
+// Cost: nothing.
+//
+//     auto all_gave = giver.give_all_wait(kfifo::moving(words));
 template <typename Range> [[nodiscard]] auto moving(Range &range) {
     auto first = std::make_move_iterator(detail::begin_of(range));
     auto last = std::make_move_iterator(detail::end_of(range));
@@ -104,7 +131,8 @@ template <typename Iterator, typename End> GaveAll<Iterator> Pass::enqueue_all(I
             if (std::uint32_t item = *it; !kfifo_are_items(&item, 1)) refuse(item, 0, 1, "");
     }
     return detail::GivesMany(KFIFO_WAITS(handle)).each(std::move(first), end, [this](std::uint32_t item) {
-        return put(kfifo_are_items(&item, 1) ? kfifo_one_put(handle, item) : KFIFO_BAD_CALL, item, 0, 1);
+        return put(kfifo_are_items(&item, 1) ? kfifo_one_put(KFIFO_WAITS(handle), handle, item) : KFIFO_BAD_CALL, item,
+                   0, 1);
     });
 }
 
@@ -120,7 +148,7 @@ template <typename Container> TookUpTo Pass::dequeue_up_to(std::size_t most, Con
         // There is a place before there is an item.
         out.push_back(0);
         std::uint32_t item = 0;
-        kfifo_status status = kfifo_one_get(handle, &item);
+        kfifo_status status = kfifo_one_get(takes.waits, handle, &item);
         if (status != KFIFO_DONE) {
             out.pop_back();
             takes.all.why = taken(status, item, 0, 1).why;
@@ -144,28 +172,77 @@ inline TakenItems Pass::dequeue_up_to(std::size_t most) const {
 // ---- Values ----
 
 // Gives what an iterator reads, and wakes nobody where that is done.
-template <typename T> template <typename Reference> Put ValueQueue<T>::Handle::give_one(Reference &&value) {
+template <typename T>
+template <typename Calls, typename Reference>
+Put ValueQueue<T>::Handle::give_one(Calls calls, Reference &&value) {
     static_assert(std::is_convertible_v<Reference &&, T>,
                   "a value of the range cannot be copied or converted to one of the queue: see kfifo::moving");
     if constexpr (std::is_same_v<Reference &&, T &&>) {
-        return give_by<kfifo_one_publish_once>(detail::UnlessBusy(), std::move(value));
+        return give_by<kfifo_one_publish_once>(calls, std::move(value));
     } else {
         return put<kfifo_one_publish_once>(
-            detail::UnlessBusy(), [&](Reserved &cell) { cell.make(std::forward<Reference>(value)); }, [](T &) {});
+            calls, [&](Reserved &cell) { cell.make(std::forward<Reference>(value)); }, [](T &) {});
     }
+}
+
+template <typename T>
+template <typename Calls, typename Iterator, typename End>
+GaveAll<Iterator> ValueQueue<T>::Handle::give_all_by(Calls calls, Iterator first, End end) {
+    detail::GivesMany gives(usable());
+    auto each = detail::waking_first(gives, calls);
+    return gives.each(std::move(first), end, [this, each](auto &&value) {
+        return this->give_one(each, std::forward<decltype(value)>(value));
+    });
 }
 
 template <typename T>
 template <typename Iterator, typename End>
 GaveAll<Iterator> ValueQueue<T>::Handle::give_all(Iterator first, End end) {
-    return detail::GivesMany(usable()).each(
-        std::move(first), end, [this](auto &&value) { return this->give_one(std::forward<decltype(value)>(value)); });
+    return give_all_by(detail::UnlessBusy(), std::move(first), end);
 }
 
 template <typename T> template <typename Range> auto ValueQueue<T>::Handle::give_all(Range &&range) {
-    static_assert(detail::is_outlived<Range> || std::is_same_v<Range, Values>,
-                  "what was not given would go with the range: give it a name");
+    detail::check_outlived<Range, Values>();
     return give_all(detail::begin_of(range), detail::end_of(range));
+}
+
+template <typename T>
+template <typename Iterator, typename End>
+GaveAll<Iterator> ValueQueue<T>::Handle::give_all_wait(Iterator first, End end) {
+    return give_all_by(within(KFIFO_WAITS_GIVER, KFIFO_FOREVER), std::move(first), end);
+}
+
+template <typename T> template <typename Range> auto ValueQueue<T>::Handle::give_all_wait(Range &&range) {
+    detail::check_outlived<Range, Values>();
+    return give_all_wait(detail::begin_of(range), detail::end_of(range));
+}
+
+template <typename T>
+template <typename Iterator, typename End, typename Rep, typename Period>
+GaveAll<Iterator> ValueQueue<T>::Handle::give_all_for(Iterator first, End end,
+                                                      const std::chrono::duration<Rep, Period> &time) {
+    return give_all_by(within(KFIFO_WAITS_GIVER, detail::nanoseconds_of(time)), std::move(first), end);
+}
+
+template <typename T>
+template <typename Range, typename Rep, typename Period>
+auto ValueQueue<T>::Handle::give_all_for(Range &&range, const std::chrono::duration<Rep, Period> &time) {
+    detail::check_outlived<Range, Values>();
+    return give_all_for(detail::begin_of(range), detail::end_of(range), time);
+}
+
+template <typename T>
+template <typename Iterator, typename End, typename Clock, typename Duration>
+GaveAll<Iterator> ValueQueue<T>::Handle::give_all_until(Iterator first, End end,
+                                                        const std::chrono::time_point<Clock, Duration> &time) {
+    return give_all_by(until(KFIFO_WAITS_GIVER, time), std::move(first), end);
+}
+
+template <typename T>
+template <typename Range, typename Clock, typename Duration>
+auto ValueQueue<T>::Handle::give_all_until(Range &&range, const std::chrono::time_point<Clock, Duration> &time) {
+    detail::check_outlived<Range, Values>();
+    return give_all_until(detail::begin_of(range), detail::end_of(range), time);
 }
 
 // The cell of the latest take of a call. The next one releases it, so that the last cell alone is released at the end.
@@ -184,11 +261,10 @@ template <typename T> struct ValueQueue<T>::Handle::LastCell {
     }
 
     // Takes a value, if there is one: that of the cell that was kept, or one of the queue.
-    kfifo_status take(kfifo_waits *waits) {
+    template <typename Calls> kfifo_status take(Calls &&calls, kfifo_waits *waits) {
         number = std::exchange(handle.kept, detail::no_cell);
         kfifo_status status = KFIFO_DONE;
-        if (number == detail::no_cell)
-            status = detail::UnlessBusy()(handle.pass, [&] { return handle.look(waits, &number); });
+        if (number == detail::no_cell) status = calls(handle.pass, [&] { return handle.look(waits, &number); });
         is_received = has_value = status == KFIFO_DONE;
         return status;
     }
@@ -204,14 +280,16 @@ template <typename T> struct ValueQueue<T>::Handle::LastCell {
     bool is_received = false, has_value = false;
 };
 
+// The first look for a value is by these calls, which may wait; then it takes what is there.
 template <typename T>
-template <typename Container>
-TookUpTo ValueQueue<T>::Handle::take_up_to(std::size_t most, Container &out) {
+template <typename Calls, typename Container>
+TookUpTo ValueQueue<T>::Handle::take_up_to_by(Calls calls, std::size_t most, Container &out) {
     detail::TakesMany takes(usable());
     detail::InCall in_call(pass, "a take of kfifo::ValueQueue");
     LastCell last(*this);
     for (; takes.all.taken < most; takes.all.taken++) {
-        kfifo_status status = last.take(takes.waits);
+        kfifo_status status =
+            takes.all.taken == 0 ? last.take(calls, takes.waits) : last.take(detail::UnlessBusy(), takes.waits);
         if (status != KFIFO_DONE) {
             takes.all.why = static_cast<Miss>(detail::checked(status));
             break;
@@ -222,16 +300,65 @@ TookUpTo ValueQueue<T>::Handle::take_up_to(std::size_t most, Container &out) {
     return takes.all;
 }
 
-template <typename T> TakenValues<T> ValueQueue<T>::Handle::take_up_to(std::size_t most) {
+template <typename T>
+template <typename Calls>
+TakenValues<T> ValueQueue<T>::Handle::take_up_to_by(Calls calls, std::size_t most) {
     (void)usable();
     TakenValues<T> taken;
     most = most < state->cells.size() ? most : state->cells.size();
     taken.values.reserve(most);
-    KFIFO_TRY { taken.why = take_up_to(most, taken.values).why; }
+    KFIFO_TRY { taken.why = take_up_to_by(std::move(calls), most, taken.values).why; }
     KFIFO_CATCH {
         if (taken.values.empty()) KFIFO_THROW_AGAIN;
     }
     return taken;
+}
+
+template <typename T>
+template <typename Container>
+TookUpTo ValueQueue<T>::Handle::take_up_to(std::size_t most, Container &out) {
+    return take_up_to_by(detail::UnlessBusy(), most, out);
+}
+
+template <typename T> TakenValues<T> ValueQueue<T>::Handle::take_up_to(std::size_t most) {
+    return take_up_to_by(detail::UnlessBusy(), most);
+}
+
+template <typename T>
+template <typename Container>
+TookUpTo ValueQueue<T>::Handle::take_up_to_wait(std::size_t most, Container &out) {
+    return take_up_to_by(within(KFIFO_WAITS_TAKER, KFIFO_FOREVER), most, out);
+}
+
+template <typename T> TakenValues<T> ValueQueue<T>::Handle::take_up_to_wait(std::size_t most) {
+    return take_up_to_by(within(KFIFO_WAITS_TAKER, KFIFO_FOREVER), most);
+}
+
+template <typename T>
+template <typename Container, typename Rep, typename Period>
+TookUpTo ValueQueue<T>::Handle::take_up_to_for(std::size_t most, Container &out,
+                                               const std::chrono::duration<Rep, Period> &time) {
+    return take_up_to_by(within(KFIFO_WAITS_TAKER, detail::nanoseconds_of(time)), most, out);
+}
+
+template <typename T>
+template <typename Rep, typename Period>
+TakenValues<T> ValueQueue<T>::Handle::take_up_to_for(std::size_t most, const std::chrono::duration<Rep, Period> &time) {
+    return take_up_to_by(within(KFIFO_WAITS_TAKER, detail::nanoseconds_of(time)), most);
+}
+
+template <typename T>
+template <typename Container, typename Clock, typename Duration>
+TookUpTo ValueQueue<T>::Handle::take_up_to_until(std::size_t most, Container &out,
+                                                 const std::chrono::time_point<Clock, Duration> &time) {
+    return take_up_to_by(until(KFIFO_WAITS_TAKER, time), most, out);
+}
+
+template <typename T>
+template <typename Clock, typename Duration>
+TakenValues<T> ValueQueue<T>::Handle::take_up_to_until(std::size_t most,
+                                                       const std::chrono::time_point<Clock, Duration> &time) {
+    return take_up_to_by(until(KFIFO_WAITS_TAKER, time), most);
 }
 
 } // namespace kfifo

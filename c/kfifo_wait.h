@@ -44,11 +44,11 @@ extern "C" {
 /* A time that never ends. Times are in nanoseconds; one that reaches beyond the clock is for ever too. */
 #define KFIFO_FOREVER UINT64_MAX
 
-/* A call that waits, between two looks at the queue. */
+/* A call that waits, between two looks at the queue. One that gives many waits once for each value without room. */
 typedef struct kfifo_waiter {
     kfifo_waits *waits;
     uint64_t nanoseconds;
-    uint64_t deadline;
+    uint64_t deadline; /* 0 until the first wait begins */
     uint64_t spins_until;
     uint32_t kind; /* KFIFO_WAITS_TAKER or KFIFO_WAITS_GIVER */
     uint32_t seen; /* the word that the thread would sleep on, as it was before the latest look */
@@ -85,20 +85,25 @@ static inline int kfifo_may_be_over(kfifo_waits *waits, kfifo_status status) {
     return kfifo_may_retry(status) && status != KFIFO_BUSY && kfifo_is_alone(waits);
 }
 
-/* Returns what a call comes to that is made again while it may do better: FINISHED where nobody else is left. */
-#define KFIFO_WAITING(pass, kind, call)                                                                                \
-    kfifo_status status = (call);                                                                                      \
-    if (__builtin_expect(!kfifo_may_retry(status), 1)) return status;                                                  \
-    kfifo_waits *waits = KFIFO_WAITS(pass);                                                                            \
-    kfifo_waiter waiter = kfifo_waiter_of(waits, (kind), nanoseconds);                                                 \
-    for (;;) {                                                                                                         \
-        if (kfifo_may_be_over(waits, status)) {                                                                        \
+/* Waits while a call that came to `status` may do better, and makes it again: `status` is then what it came to last,
+   FINISHED where nobody else is left. One waiter may be used for several waits, whose time is one. */
+#define KFIFO_WAIT_FOR(pass, waiter, status, call)                                                                     \
+    for (int again = 1; again;) {                                                                                      \
+        if (kfifo_may_be_over((waiter).waits, status)) {                                                               \
             status = (call);                                                                                           \
             if (kfifo_may_retry(status) && status != KFIFO_BUSY) status = KFIFO_FINISHED;                              \
         }                                                                                                              \
-        if (!KFIFO_WAIT_AGAIN(pass, &waiter, &status)) return status;                                                  \
-        status = (call);                                                                                               \
+        again = KFIFO_WAIT_AGAIN(pass, &(waiter), &status);                                                            \
+        if (again) status = (call);                                                                                    \
     }
+
+/* Returns what a call comes to that is made again while it may do better. */
+#define KFIFO_WAITING(pass, kind, call)                                                                                \
+    kfifo_status status = (call);                                                                                      \
+    if (__builtin_expect(!kfifo_may_retry(status), 1)) return status;                                                  \
+    kfifo_waiter waiter = kfifo_waiter_of(KFIFO_WAITS(pass), (kind), nanoseconds);                                     \
+    KFIFO_WAIT_FOR(pass, waiter, status, call)                                                                         \
+    return status
 
 /* ---- Values ----
 
@@ -109,6 +114,7 @@ static inline int kfifo_may_be_over(kfifo_waits *waits, kfifo_status status) {
    others end too, and then closes the queue. */
 
 /* Gives a value, and waits at most `nanoseconds` while there is no room for it.
+   Cost: as kfifo_give where it need not wait.
 
        if (kfifo_give_wait(&passes[0], 7, KFIFO_FOREVER) != KFIFO_DONE) return 1;
 */
@@ -119,6 +125,7 @@ KFIFO_MUST_USE static inline kfifo_status kfifo_give_wait(kfifo_value_pass *pass
 
 /* Takes a value, and waits at most `nanoseconds` while there is none. FINISHED comes exactly where the queue was
    finished, and then found empty.
+   Cost: as kfifo_take where it need not wait.
 
        while (kfifo_take_wait(&passes[1], &value, KFIFO_FOREVER) == KFIFO_DONE) sum += value;
 */
@@ -128,6 +135,7 @@ KFIFO_MUST_USE static inline kfifo_status kfifo_take_wait(kfifo_value_pass *pass
 }
 
 /* The same with a pointer for a value.
+   Cost: as that of the calls for values.
 
        if (kfifo_give_pointer_wait(&passes[0], order, 1000000) == KFIFO_TIMED_OUT) free(order); // it is still ours
        if (kfifo_take_pointer_wait(&passes[1], &taken, 1000000) == KFIFO_DONE) free(taken);
@@ -150,6 +158,7 @@ KFIFO_MUST_USE static inline kfifo_status kfifo_take_pointer_wait(kfifo_value_pa
    reserved still is ---- */
 
 /* Reserves a cell, and waits at most `nanoseconds` while there is none.
+   Cost: as kfifo_reserve where it need not wait.
 
        if (kfifo_reserve_wait(&passes[0], &cell, KFIFO_FOREVER) != KFIFO_DONE) return 1;
 */
@@ -159,6 +168,7 @@ KFIFO_MUST_USE static inline kfifo_status kfifo_reserve_wait(kfifo_cell_pass *pa
 }
 
 /* Puts the reserved cell into the queue, and waits at most `nanoseconds` while there is no room for it.
+   Cost: as kfifo_publish where it need not wait.
 
        if (kfifo_publish_wait(&passes[0], KFIFO_FOREVER) != KFIFO_DONE) return 1;
 */
@@ -168,6 +178,7 @@ KFIFO_MUST_USE static inline kfifo_status kfifo_publish_wait(kfifo_cell_pass *pa
 
 /* Takes a cell, and waits at most `nanoseconds` while there is none. The call first releases the cell that the
    handle received before. FINISHED comes exactly where the queue was finished, and then found empty.
+   Cost: as kfifo_receive where it need not wait.
 
        if (kfifo_receive_wait(&passes[1], &cell, KFIFO_FOREVER) != KFIFO_DONE) return 1;
 */
@@ -179,6 +190,7 @@ KFIFO_MUST_USE static inline kfifo_status kfifo_receive_wait(kfifo_cell_pass *pa
 /* ---- Items: the same ---- */
 
 /* Puts an item, and takes one, and waits at most `nanoseconds` while there is no room or no item.
+   Cost: as kfifo_put and kfifo_get where they need not wait.
 
        if (kfifo_put_wait(&passes[0], 7, KFIFO_FOREVER) != KFIFO_DONE) return 1;
        if (kfifo_get_wait(&passes[1], &item, KFIFO_FOREVER) != KFIFO_DONE) return 1;

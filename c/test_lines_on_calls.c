@@ -1,9 +1,24 @@
 /* The lines of kfifo.h, kfifo_wait.h and kfifo_many.h on their calls. */
 #include "kfifo_many.h"
 #include "kfifo_wait.h"
+#include <sched.h>
 #include <stdio.h>
 
 /* clang-format off */
+static int of_statuses(void) {
+    kfifo_pass passes[2];
+    if (kfifo_open(1, 4, 1, KFIFO_LAST, passes, 2) != KFIFO_DONE) return 1;
+    uint32_t item = 0;
+    kfifo_status put = KFIFO_DONE;
+    kfifo_status none = kfifo_get(&passes[1], &item);
+    if (none != KFIFO_DONE) puts(kfifo_status_name(none)); // KFIFO_EMPTY
+    if (none != KFIFO_DONE) puts(kfifo_status_text(none)); // the queue was empty
+    while (kfifo_may_retry(put = kfifo_put(&passes[0], 7))) sched_yield();
+    if (kfifo_put(&passes[0], 0) == KFIFO_BAD_CALL) puts(kfifo_bad_call_text(&passes[0], 0, 0, 1));
+    if (put != KFIFO_DONE || kfifo_get(&passes[1], &item) != KFIFO_DONE || item != 7) return 1;
+    return kfifo_abandon(passes, 2) != KFIFO_DONE;
+}
+
 static int of_items(void) {
     kfifo_pass passes[2];
     if (kfifo_open(1, 4, 1, KFIFO_LAST, passes, 2) != KFIFO_DONE) return 1;
@@ -41,6 +56,9 @@ static int of_values(void) {
     if (value != 8) return 1;
     if (kfifo_finish_values(&passes[0]) != KFIFO_DONE) abort();
     if (kfifo_give(&passes[0], 8) != KFIFO_FINISHED) return 1;
+    size_t room = kfifo_values_room(passes, 2);
+    uint32_t tokens = kfifo_enough_tokens(1, 4, 2);
+    if (room != 4 || tokens != 20) return 1;
     return kfifo_abandon_values(passes, 2) != KFIFO_DONE;
 }
 
@@ -68,10 +86,38 @@ static int of_pointers(void) {
     return kfifo_abandon_values(passes, 2) != KFIFO_DONE;
 }
 
+struct frame { int width, height; };
+
+static int shown;
+
+static void show(const struct frame *frame) { shown += frame->width == 64; }
+
 static int of_cells(void) {
+    struct frame frames[2 * 8];
     kfifo_cell_pass passes[2];
     uint64_t cell = 0;
-    if (kfifo_open_cells(1, 4, 8, passes, 2) != KFIFO_DONE) return 1;
+    if (kfifo_open_cells(1, 4, 8, passes, 2) != KFIFO_DONE) return 1; // the cells are 0 to 15
+    if (kfifo_reserve(&passes[0], &cell) != KFIFO_DONE) return 1;
+    frames[cell].width = 64; // until the publish the cell is ours
+    if (kfifo_publish(&passes[0]) != KFIFO_DONE) puts("the cell is still reserved");
+    while (kfifo_receive(&passes[1], &cell) == KFIFO_DONE) show(&frames[cell]);
+    if (shown != 1 || kfifo_reserve(&passes[0], &cell) != KFIFO_DONE) return 1;
+    if (kfifo_cancel(&passes[0]) != KFIFO_DONE) return 1;
+    if (kfifo_publish(&passes[0]) != KFIFO_BAD_CALL) return 1;
+    if (kfifo_reserve(&passes[0], &cell) != KFIFO_DONE) return 1;
+    if (kfifo_publish_once(&passes[0]) == KFIFO_BUSY) puts("the cell is still reserved");
+    if (kfifo_receive_once(&passes[1], &cell) == KFIFO_BUSY) puts("no cell is received");
+    if (kfifo_release(&passes[1]) != KFIFO_DONE) return 1;
+    uint64_t left[2 * 8]; // threads * tokens
+    size_t count = 0;
+    if (kfifo_close_cells(passes, 2, left, 2 * 8, &count) != KFIFO_DONE) return 1;
+    return count != 0;
+}
+
+static int of_cells_that_wait(void) {
+    kfifo_cell_pass passes[2];
+    uint64_t cell = 0;
+    if (kfifo_open_cells_with(1, 4, 8, 64, 32, passes, 2) != KFIFO_DONE) return 1; // it changes all the time
     if (kfifo_reserve_wait(&passes[0], &cell, KFIFO_FOREVER) != KFIFO_DONE) return 1;
     if (kfifo_publish_wait(&passes[0], KFIFO_FOREVER) != KFIFO_DONE) return 1;
     if (kfifo_receive_wait(&passes[1], &cell, KFIFO_FOREVER) != KFIFO_DONE) return 1;
@@ -101,6 +147,25 @@ static int of_many_values(void) {
     return kfifo_abandon_values(passes, 2) != KFIFO_DONE;
 }
 
+static int of_many_values_that_wait(void) {
+    kfifo_value_pass passes[2];
+    uint64_t values[64], sum = 0;
+    size_t given = 0, taken = 0;
+    for (uint64_t i = 0; i < 64; i++) values[i] = i;
+    if (kfifo_open_values(1, 64, kfifo_enough_tokens(1, 64, 2), passes, 2) != KFIFO_DONE) return 1;
+    void *orders[2] = {values, &values[1]};
+    if (kfifo_give_all_pointers_wait(&passes[0], orders, 2, &given, 1000000) != KFIFO_DONE) return 1;
+    if (kfifo_take_pointers_up_to_wait(&passes[1], orders, 2, &taken, 1000000) != KFIFO_DONE) return 1;
+    if (taken != 2 || orders[0] != values) return 1;
+    kfifo_status all = kfifo_give_all_wait(&passes[0], values, 64, &given, KFIFO_FOREVER);
+    if (all != KFIFO_DONE) printf("%zu of 64 are given: %s\n", given, kfifo_status_text(all));
+    if (kfifo_finish_values(&passes[0]) != KFIFO_DONE) abort();
+    while (kfifo_take_up_to_wait(&passes[1], values, 64, &taken, KFIFO_FOREVER) == KFIFO_DONE)
+        for (size_t i = 0; i < taken; i++) sum += values[i];
+    if (sum != 63 * 64 / 2) return 1;
+    return kfifo_abandon_values(passes, 2) != KFIFO_DONE;
+}
+
 static int of_many_items(void) {
     kfifo_pass passes[2];
     uint32_t items[64], sum = 0;
@@ -116,9 +181,24 @@ static int of_many_items(void) {
     return kfifo_abandon(passes, 2) != KFIFO_DONE;
 }
 
+static int of_many_items_that_wait(void) {
+    kfifo_pass passes[2];
+    uint32_t items[64], sum = 0;
+    size_t put = 0, got = 0;
+    for (uint32_t i = 0; i < 64; i++) items[i] = i + 1;
+    if (kfifo_open(1, 64, 1, KFIFO_LAST, passes, 2) != KFIFO_DONE) return 1;
+    if (kfifo_put_all_wait(&passes[0], items, 64, &put, KFIFO_FOREVER) != KFIFO_DONE) return 1;
+    if (kfifo_finish(&passes[0]) != KFIFO_DONE) abort();
+    while (kfifo_get_up_to_wait(&passes[1], items, 64, &got, KFIFO_FOREVER) == KFIFO_DONE)
+        for (size_t i = 0; i < got; i++) sum += items[i];
+    if (sum != 64 * 65 / 2) return 1;
+    return kfifo_abandon(passes, 2) != KFIFO_DONE;
+}
+
 int main(void) {
-    int failed = of_items() || of_values() || of_values_that_wait() || of_pointers() || of_cells() ||
-                 of_many_values() || of_many_items();
+    int failed = of_statuses() || of_items() || of_values() || of_values_that_wait() || of_pointers() || of_cells() ||
+                 of_cells_that_wait() || of_many_values() || of_many_values_that_wait() || of_many_items() ||
+                 of_many_items_that_wait();
     puts(failed ? "lines of the headers fail" : "the lines of the headers on their calls do what they say");
     return failed;
 }

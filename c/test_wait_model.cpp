@@ -19,6 +19,9 @@ enum class Fault {
     end_wakes_one,
     one_woken_for_many,
     others_seen_after_first,
+    asleep_before_it_wakes,
+    only_wakes_before_sleep,
+    first_take_not_counted,
     count
 };
 
@@ -49,22 +52,25 @@ enum Step : std::uint64_t {
 struct Thread {
     Step step;
     bool gives;               // it gives values, else it takes them
-    std::uint64_t left;       // how many calls it still makes, at most 3
+    std::uint64_t left;       // how many values it still gives or takes, at most 7
     bool finishes;            // it finishes the queue behind its calls
     bool until_end;           // it takes until the queue is finished
     bool is_announced;        // it is among those that wait
     bool is_current;          // the word that it would sleep on is what it read
     bool of_many = false;     // it gives or takes all that is left in one call, or as much as there is room or values
+    bool gives_all = false;   // the same, but the call waits for room, and ends when all are given
+    bool has_slept = false;   // that call announced itself before
     bool sees_takers = false; // what it saw of the others
     bool sees_givers = false;
-    std::uint64_t done = 0;  // how many values of this call were given or taken
+    std::uint64_t done = 0;  // how many values of this call were given or taken, and woke nobody yet
     std::uint64_t wakes = 0; // how many threads of a kind it still wakes
 
+    // What changes of it, in 19 bits.
     std::uint64_t packed() const {
         std::uint64_t bits = step;
-        for (bool bit : {gives, finishes, until_end, is_announced, is_current, of_many, sees_takers, sees_givers})
+        for (bool bit : {until_end, is_announced, is_current, has_slept, sees_takers, sees_givers})
             bits = bits << 1 | bit;
-        return ((bits << 2 | left) << 2 | done) << 2 | wakes;
+        return ((bits << 3 | left) << 3 | done) << 2 | wakes;
     }
 };
 
@@ -133,7 +139,7 @@ class Search {
 
     // The next call, or what comes behind the last one.
     static void begin(Thread &thread) {
-        thread.sees_takers = thread.sees_givers = false;
+        thread.sees_takers = thread.sees_givers = thread.has_slept = false;
         thread.done = 0;
         if (thread.until_end || thread.left > 0)
             thread.step = thread.gives ? see_end : look;
@@ -159,11 +165,19 @@ class Search {
             thread.step = see_others;
         } else {
             thread.wakes = 0;
-            if (fault == Fault::others_seen_after_first && thread.of_many && thread.done == 1 && thread.left > 0)
+            if (thread.gives_all && thread.left > 0)
+                wait_on(thread);
+            else if (fault == Fault::others_seen_after_first && thread.of_many && thread.done == 1 && thread.left > 0)
                 go_on(thread);
             else
                 begin(thread);
         }
+    }
+
+    // A call that gives all has woken those who wait for what it has given, and waits for room.
+    static void wait_on(Thread &thread) {
+        thread.done = 0;
+        go_on(thread);
     }
 
     // The next value of a call of many.
@@ -180,11 +194,14 @@ class Search {
     void looked(Thread &thread, bool is_done) const {
         if (is_done) {
             // It no longer waits a step before it looks at the others, which only makes it wake fewer.
+            bool waited = thread.is_announced;
             leave(thread);
             if (!thread.until_end) thread.left--;
             thread.done++;
+            if (fault == Fault::first_take_not_counted && thread.of_many && !thread.gives && waited) thread.done = 0;
+            if (fault == Fault::only_wakes_before_sleep && thread.gives_all && thread.has_slept) thread.done = 0;
             if (!thread.of_many || thread.left == 0)
-                thread.step = see_others;
+                thread.done > 0 ? void(thread.step = see_others) : begin(thread);
             else
                 go_on(thread);
             if (fault == Fault::others_seen_before_call) wake_others(thread);
@@ -194,8 +211,8 @@ class Search {
                 else if (thread.left == 0)
                     begin(thread);
             }
-        } else if (thread.done > 0) {
-            thread.step = see_others; // the call of many ends where the queue is full or empty
+        } else if (thread.done > 0 && !(fault == Fault::asleep_before_it_wakes && thread.gives_all)) {
+            thread.step = see_others; // the call of many ends where the queue is full or empty, or it waits then
         } else {
             thread.step = !thread.gives ? see_end_empty : thread.is_announced ? sleep : announce;
         }
@@ -244,6 +261,7 @@ class Search {
             return {state};
         case announce:
             thread.is_announced = true;
+            thread.has_slept = thread.gives_all;
             thread.step = read_word;
             return {state};
         case read_word:
@@ -306,6 +324,10 @@ Thread of_many(Thread thread) {
     thread.of_many = true;
     return thread;
 }
+Thread all_at_once(Thread thread) {
+    thread.of_many = thread.gives_all = true;
+    return thread;
+}
 Thread taker_until_end() { return {look, false, 0, false, true, false, false}; }
 Thread finisher() { return {set_end, true, 0, true, false, false, false}; }
 
@@ -331,6 +353,10 @@ std::vector<State> beginnings() {
         ring(1, 2, of_many(giver(2)), giver(1), of_many(taker(3))),
         ring(2, 0, of_many(giver(3)), of_many(taker(2)), taker(1)),
         ring(1, 2, of_many(giver(2, true)), taker_until_end(), of_many(taker(2))),
+        ring(1, 0, all_at_once(giver(3)), taker(1), taker(2)),
+        ring(1, 2, all_at_once(giver(3)), of_many(taker(2)), taker(3)),
+        ring(1, 0, all_at_once(giver(3)), all_at_once(giver(2)), of_many(taker(5))),
+        ring(2, 0, all_at_once(giver(3, true)), of_many(taker_until_end()), taker(1)),
     };
 }
 

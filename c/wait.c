@@ -106,23 +106,26 @@ static void pause_between_looks(kfifo_waiter *waiter, uint64_t time) {
     if (waiter->pauses < MOST_PAUSES) waiter->pauses *= 2;
 }
 
-/* Whether the time is up. The first call reads off when that will be. */
+/* Whether the time is up. The first wait of a call reads off when that will be, and each until when it looks. */
 static int is_late(kfifo_waiter *waiter, uint64_t *time) {
     if (waiter->nanoseconds == 0) return 1;
     *time = now();
+    if (waiter->deadline == 0)
+        waiter->deadline = waiter->nanoseconds < KFIFO_FOREVER - *time ? *time + waiter->nanoseconds : KFIFO_FOREVER;
     if (!waiter->has_begun) {
         waiter->has_begun = 1;
+        waiter->pauses = 1;
         waiter->spins_until = *time + KFIFO_SPIN_NANOSECONDS;
-        waiter->deadline = waiter->nanoseconds < KFIFO_FOREVER - *time ? *time + waiter->nanoseconds : KFIFO_FOREVER;
     }
     return *time >= waiter->deadline;
 }
 
-/* Ends a call that waited. One that leaves without having seen the queue full or empty hands on the wake-up that it may
-   have had. */
+/* Ends a wait. One that leaves without having seen the queue full or empty hands on the wake-up that it may have had.
+ */
 static int leave(kfifo_waiter *waiter, kfifo_status status) {
     retract(waiter);
     if (waiter->was_announced && (status == KFIFO_BUSY || status == KFIFO_WORN)) wake_one(waiter->waits, waiter->kind);
+    waiter->has_begun = waiter->was_announced = 0;
     return 0;
 }
 

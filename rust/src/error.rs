@@ -79,6 +79,8 @@ pub enum PushError<T> {
 impl<T> PushError<T> {
     /// The value that was not put.
     ///
+    /// Cost: a move of the value.
+    ///
     /// ```
     /// assert_eq!(kfifo::PushError::Full(7).into_inner(), 7);
     /// ```
@@ -95,6 +97,8 @@ impl<T> PushError<T> {
     }
 
     /// Whether a later call may do better. A loop that retries another refusal never ends.
+    ///
+    /// Cost: a comparison.
     ///
     /// ```
     /// use kfifo::PushError;
@@ -172,6 +176,8 @@ pub enum PopError {
 
 impl PopError {
     /// Whether a later call may do better. A loop that retries another answer never ends.
+    ///
+    /// Cost: a comparison.
     ///
     /// ```
     /// use kfifo::PopError;

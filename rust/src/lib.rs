@@ -148,6 +148,8 @@ impl<T> Queue<T> {
     /// has 1,024, and a push may be refused as [`PushError::NoToken`] with `1,024 - 15 * (handles - 1)` values of its
     /// handle in the queue.
     ///
+    /// Cost: it asks for all memory of the queue, also for its values, and writes to each word.
+    ///
     /// ```
     /// let queue = kfifo::Queue::<u64>::new(4, 256, 8)?;
     /// # Ok::<(), kfifo::OpenError>(())
@@ -164,6 +166,8 @@ impl<T> Queue<T> {
     /// [`PushError::NoToken`] with more.
     ///
     /// The queue takes memory for `handles * tokens` values when it is opened.
+    ///
+    /// Cost: as [`Queue::new`].
     ///
     /// ```
     /// use kfifo::{PushError, Queue};
@@ -184,6 +188,8 @@ impl<T> Queue<T> {
     }
 
     /// As [`Queue::with_tokens`], with versions of one's own.
+    ///
+    /// Cost: as [`Queue::new`].
     ///
     /// ```
     /// use kfifo::{Queue, Versions};
@@ -219,6 +225,8 @@ impl<T> Queue<T> {
     /// A handle that nobody has; none where each was in use at one moment. A handle that is dropped can be had again.
     /// So a thread always finds one where there are as many handles as threads and no thread has two.
     ///
+    /// Cost: a few atomic steps, and as many when it is dropped.
+    ///
     /// ```
     /// let queue = kfifo::Queue::<u64>::new(4, 64, 1)?;
     /// let handle = queue.handle();
@@ -243,6 +251,8 @@ impl<T> Queue<T> {
     /// that it meets halfway may still put its value in. So call it when the producers have ended, or have what is left
     /// by [`Queue::into_values`].
     ///
+    /// Cost: an atomic step and two calls of the system.
+    ///
     /// ```
     /// use kfifo::{PopError, PushError, Queue};
     ///
@@ -264,6 +274,8 @@ impl<T> Queue<T> {
     ///
     /// Where the versions of the queue are used up and there is no memory to close it, the values come in another
     /// order.
+    ///
+    /// Cost: a pop for each value, and memory for the vector.
     ///
     /// ```
     /// let queue = kfifo::Queue::new(1, 64, 1)?;
@@ -346,6 +358,8 @@ impl<T> Handle<T> {
     /// Where there was no memory for the next generation until the reserve was used up, pops may no longer reach a
     /// value that a push has put: they return [`PopError::Worn`], and [`Queue::into_values`] gives it back.
     ///
+    /// Cost: a few atomic steps and a copy of the value. It calls the system only to wake a thread.
+    ///
     /// ```
     /// let queue = kfifo::Queue::new(4, 64, 1)?;
     /// let handle = queue.handle().expect("a handle is free");
@@ -366,6 +380,8 @@ impl<T> Handle<T> {
     /// As [`Handle::push`], but bounded: it makes at most 65,535 rounds in a generation, after which it is refused as
     /// [`PushError::Busy`]. That comes only where another thread changed the queue in the meantime.
     ///
+    /// Cost: as [`Handle::push`].
+    ///
     /// ```
     /// let queue = kfifo::Queue::new(4, 64, 1)?;
     /// let handle = queue.handle().expect("a handle is free");
@@ -379,6 +395,8 @@ impl<T> Handle<T> {
 
     /// Puts a value, and sleeps while there is no room for it: refused is `Finished` or `Worn` alone. It is `Finished`
     /// too where neither the queue object nor another handle is left, since nobody makes room then.
+    ///
+    /// Cost: as [`Handle::push`] where it need not sleep, and a copy of the value more for each further look.
     ///
     /// ```
     /// let queue = kfifo::Queue::new(1, 2, 2)?;
@@ -410,6 +428,8 @@ impl<T> Handle<T> {
 
     /// As [`Handle::push_wait`], for so long at most: then it is refused as `TimedOut`. With no time it does not sleep.
     ///
+    /// Cost: as [`Handle::push_wait`].
+    ///
     /// ```
     /// use kfifo::PushError;
     /// use std::time::Duration;
@@ -432,6 +452,8 @@ impl<T> Handle<T> {
     /// Takes one of the k oldest values. It never waits or locks, and allocates only where more generations are opened
     /// during the call than the queue has places.
     ///
+    /// Cost: as [`Handle::push`]. One that returns `Empty` has looked at all k slots of a segment.
+    ///
     /// ```
     /// let queue = kfifo::Queue::new(4, 64, 1)?;
     /// let handle = queue.handle().expect("a handle is free");
@@ -446,6 +468,8 @@ impl<T> Handle<T> {
 
     /// As [`Handle::pop`], but bounded, as [`Handle::push_once`] is: also [`PopError::Busy`].
     ///
+    /// Cost: as [`Handle::pop`].
+    ///
     /// ```
     /// let queue = kfifo::Queue::<u64>::new(4, 64, 1)?;
     /// let handle = queue.handle().expect("a handle is free");
@@ -459,6 +483,8 @@ impl<T> Handle<T> {
 
     /// Takes a value, and sleeps while there is none: an error is `Finished` or `Worn` alone. It is `Finished` too
     /// where neither the queue object nor another handle is left, since nothing comes then.
+    ///
+    /// Cost: as [`Handle::pop`] where it need not sleep.
     ///
     /// ```
     /// let queue = kfifo::Queue::new(4, 64, 2)?;
@@ -479,6 +505,8 @@ impl<T> Handle<T> {
 
     /// As [`Handle::pop_wait`], for so long at most: then the error is `TimedOut`. With no time it does not sleep.
     ///
+    /// Cost: as [`Handle::pop_wait`].
+    ///
     /// ```
     /// use std::time::Duration;
     ///
@@ -497,6 +525,8 @@ impl<T> Handle<T> {
 
     /// A guard that finishes the queue when it is dropped, also by a panic, so that no thread sleeps on.
     ///
+    /// Cost: nothing, and a [`Handle::finish`] when it is dropped.
+    ///
     /// ```
     /// let queue = kfifo::Queue::<u64>::new(4, 64, 2)?;
     /// let producer = queue.handle().expect("a handle is free");
@@ -514,6 +544,8 @@ impl<T> Handle<T> {
     }
 
     /// As [`Queue::finish`].
+    ///
+    /// Cost: an atomic step and two calls of the system.
     ///
     /// ```
     /// let queue = kfifo::Queue::<u64>::new(4, 64, 1)?;

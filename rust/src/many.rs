@@ -1,9 +1,11 @@
 //! Many values at once.
-use crate::Handle;
 use crate::error::{PopError, PushError};
+use crate::shared::Looks;
+use crate::{Handle, ffi, nanoseconds_of};
 use std::error::Error;
 use std::fmt::{self, Debug, Display, Formatter};
 use std::iter::{Chain, Once, once};
+use std::time::{Duration, Instant};
 
 /// Why not all values were put: [`Handle::push_all`]. It holds those that were not.
 ///
@@ -28,6 +30,8 @@ pub struct PushAllError<I: Iterator> {
 
 impl<I: Iterator> PushAllError<I> {
     /// The values that were not put: the one that was refused, and those behind it.
+    ///
+    /// Cost: a move of the iterator.
     ///
     /// ```
     /// let queue = kfifo::Queue::new(1, 2, 1)?;
@@ -74,6 +78,8 @@ impl<T> Handle<T> {
     ///
     /// A handle does not implement [`Extend`], which could not say that the queue was full.
     ///
+    /// Cost: a [`Handle::push`] for each value.
+    ///
     /// ```
     /// let queue = kfifo::Queue::new(1, 8, 2)?;
     /// let producer = queue.handle().expect("a handle is free");
@@ -98,10 +104,87 @@ impl<T> Handle<T> {
     where
         I: IntoIterator<Item = T>,
     {
+        self.push_each(values, |value| self.push(value))
+    }
+
+    /// As [`Handle::push_all`], but it sleeps while there is no room for the next value: that is refused as `Finished`
+    /// or `Worn` alone.
+    ///
+    /// Cost: as [`Handle::push_all`] where it need not sleep.
+    ///
+    /// ```
+    /// let queue = kfifo::Queue::new(1, 8, 2)?;
+    /// let producer = queue.handle().expect("a handle is free");
+    /// let consumer = queue.handle().expect("a handle is free");
+    /// std::thread::scope(|scope| {
+    ///     scope.spawn(move || {
+    ///         let _end = producer.finish_on_drop();
+    ///         if let Err(stopped) = producer.push_all_wait(0..1000) {
+    ///             eprintln!("{stopped}");
+    ///         }
+    ///     });
+    ///     assert!(consumer.values().eq(0..1000));
+    /// });
+    /// # Ok::<(), kfifo::OpenError>(())
+    /// ```
+    pub fn push_all_wait<I>(&self, values: I) -> Result<usize, PushAllError<I::IntoIter>>
+    where
+        I: IntoIterator<Item = T>,
+    {
+        self.push_each(values, |value| self.push_wait(value))
+    }
+
+    /// As [`Handle::push_all_wait`], but all its waits take this time at most: then the next value is refused as
+    /// `TimedOut`. The time begins where the call first waits. With no time it does not sleep.
+    ///
+    /// Cost: as [`Handle::push_all`] where it need not sleep, and a look at the clock before each wait.
+    ///
+    /// ```
+    /// use kfifo::PushError;
+    /// use std::time::Duration;
+    ///
+    /// let queue = kfifo::Queue::new(1, 2, 2)?;
+    /// let handle = queue.handle().expect("a handle is free");
+    /// let stopped = handle
+    ///     .push_all_timeout(1..=4, Duration::from_millis(1))
+    ///     .expect_err("there are two slots");
+    /// assert_eq!((stopped.pushed, stopped.refused), (2, PushError::TimedOut(3)));
+    /// # Ok::<(), kfifo::OpenError>(())
+    /// ```
+    pub fn push_all_timeout<I>(
+        &self,
+        values: I,
+        time: Duration,
+    ) -> Result<usize, PushAllError<I::IntoIter>>
+    where
+        I: IntoIterator<Item = T>,
+    {
+        let mut end = None; // when the time is up, from the first wait on
+        self.push_each(values, |value| match self.push(value) {
+            Err(refused) if refused.may_retry() => {
+                let now = Instant::now();
+                // A time beyond the clock is for ever.
+                let end = *end.get_or_insert_with(|| now.checked_add(time));
+                let left = end.map_or(Duration::MAX, |it| it.saturating_duration_since(now));
+                self.push_timeout(refused.into_inner(), left)
+            }
+            done => done,
+        })
+    }
+
+    /// Pushes each value so, until one is refused.
+    fn push_each<I>(
+        &self,
+        values: I,
+        mut push: impl FnMut(T) -> Result<(), PushError<T>>,
+    ) -> Result<usize, PushAllError<I::IntoIter>>
+    where
+        I: IntoIterator<Item = T>,
+    {
         let mut rest = values.into_iter();
         let mut pushed = 0;
         while let Some(value) = rest.next() {
-            if let Err(refused) = self.push(value) {
+            if let Err(refused) = push(value) {
                 return Err(PushAllError {
                     pushed,
                     refused,
@@ -117,7 +200,10 @@ impl<T> Handle<T> {
     /// there were. An error says why there is none. It never waits.
     ///
     /// It wakes as many threads that wait for room as it took values, when it ends. It costs less than as many calls of
-    /// [`Handle::pop`]. To wait for the first value, take that one by [`Handle::pop_wait`].
+    /// [`Handle::pop`].
+    ///
+    /// Cost: as a [`Handle::pop`] for each value and one more that finds none, but for all but one of the looks for
+    /// threads that wait and all but one release of a cell.
     ///
     /// ```
     /// use kfifo::{PopError, Queue};
@@ -133,7 +219,67 @@ impl<T> Handle<T> {
     /// # Ok::<(), kfifo::OpenError>(())
     /// ```
     pub fn pop_up_to(&self, most: usize, values: &mut Vec<T>) -> Result<usize, PopError> {
+        self.pop_up_to_by(most, values, Looks::UnlessBusy)
+    }
+
+    /// As [`Handle::pop_up_to`], but it sleeps until there is a value, and then takes what is there: an error is
+    /// `Finished` or `Worn` alone.
+    ///
+    /// Cost: as [`Handle::pop_up_to`] where it need not sleep.
+    ///
+    /// ```
+    /// let queue = kfifo::Queue::new(1, 8, 2)?;
+    /// let producer = queue.handle().expect("a handle is free");
+    /// let consumer = queue.handle().expect("a handle is free");
+    /// std::thread::scope(|scope| {
+    ///     scope.spawn(move || {
+    ///         let _end = producer.finish_on_drop();
+    ///         if let Err(stopped) = producer.push_all_wait(0..1000) {
+    ///             eprintln!("{stopped}");
+    ///         }
+    ///     });
+    ///     let mut values = Vec::new();
+    ///     while consumer.pop_up_to_wait(64, &mut values).is_ok() {}
+    ///     assert!(values.into_iter().eq(0..1000));
+    /// });
+    /// # Ok::<(), kfifo::OpenError>(())
+    /// ```
+    pub fn pop_up_to_wait(&self, most: usize, values: &mut Vec<T>) -> Result<usize, PopError> {
+        self.pop_up_to_by(most, values, Looks::Within(ffi::FOREVER))
+    }
+
+    /// As [`Handle::pop_up_to_wait`], for so long at most: then the error is `TimedOut`. With no time it does not
+    /// sleep.
+    ///
+    /// Cost: as [`Handle::pop_up_to_wait`].
+    ///
+    /// ```
+    /// use kfifo::PopError;
+    /// use std::time::Duration;
+    ///
+    /// let queue = kfifo::Queue::<u64>::new(1, 8, 2)?;
+    /// let handle = queue.handle().expect("a handle is free");
+    /// let mut values = Vec::new();
+    /// let end = handle.pop_up_to_timeout(64, &mut values, Duration::from_millis(1));
+    /// assert_eq!(end, Err(PopError::TimedOut));
+    /// # Ok::<(), kfifo::OpenError>(())
+    /// ```
+    pub fn pop_up_to_timeout(
+        &self,
+        most: usize,
+        values: &mut Vec<T>,
+        time: Duration,
+    ) -> Result<usize, PopError> {
+        self.pop_up_to_by(most, values, Looks::Within(nanoseconds_of(time)))
+    }
+
+    fn pop_up_to_by(
+        &self,
+        most: usize,
+        values: &mut Vec<T>,
+        looks: Looks,
+    ) -> Result<usize, PopError> {
         // SAFETY: as in `push`.
-        unsafe { self.shared.pop_up_to(self.number, most, values) }
+        unsafe { self.shared.pop_up_to(self.number, most, values, looks) }
     }
 }

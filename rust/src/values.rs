@@ -97,6 +97,8 @@ impl<T> Handle<T> {
     ///
     /// It ends also where [`Handle::pop`] answers `Worn`: a further `pop` says which of the two it was.
     ///
+    /// Cost: a [`Handle::pop_wait`] for each value.
+    ///
     /// ```
     /// let queue = kfifo::Queue::new(1, 64, 1)?;
     /// let handle = queue.handle().expect("a handle is free");
@@ -112,6 +114,8 @@ impl<T> Handle<T> {
 
     /// The values that are there, until a [`Handle::pop`] takes none; it never sleeps. A further `pop` says why it
     /// ended.
+    ///
+    /// Cost: a [`Handle::pop`] for each value, and one that finds none.
     ///
     /// ```
     /// let queue = kfifo::Queue::new(1, 64, 1)?;

@@ -6,7 +6,7 @@ use std::rc::Rc;
 use std::sync::atomic::{AtomicUsize, Ordering};
 use std::sync::mpsc;
 use std::thread;
-use std::time::Duration;
+use std::time::{Duration, Instant};
 
 const ROUNDS: usize = 100;
 
@@ -174,6 +174,117 @@ fn one_pop_wakes_all_that_wait() {
     one_call_wakes_all(true);
 }
 
+#[test]
+fn calls_that_wait_say_what_ended_them() {
+    let none = Duration::ZERO;
+    let short = Duration::from_millis(2);
+    let queue = Queue::new(1, 4, 2).expect("the sizes are in range");
+    let handle = queue.handle().expect("a handle is free");
+    let mut values = Vec::new();
+    assert_eq!(handle.push_all_wait([]).expect("no value is refused"), 0);
+    assert_eq!(handle.pop_up_to_wait(0, &mut values), Ok(0));
+    for time in [none, short] {
+        let end = handle.pop_up_to_timeout(9, &mut values, time);
+        assert_eq!(end, Err(PopError::TimedOut));
+    }
+    let forever = Duration::MAX;
+    assert_eq!(handle.push_all_timeout(0..3, forever).expect("room"), 3);
+    for (time, pushed, refused) in [(none, 1, 4), (short, 0, 3)] {
+        let stopped = handle.push_all_timeout(3..9, time).expect_err("four slots");
+        assert_eq!(
+            (stopped.pushed, stopped.refused),
+            (pushed, PushError::TimedOut(refused))
+        );
+        assert!(stopped.rest.eq(refused + 1..9));
+    }
+    assert_eq!(handle.pop_up_to_wait(2, &mut values), Ok(2));
+    assert_eq!(handle.pop_up_to_timeout(9, &mut values, forever), Ok(2));
+    assert_eq!(values, [0, 1, 2, 3]);
+    assert_eq!(handle.push_all_wait(4..6).expect("there is room"), 2);
+    queue.finish();
+    let stopped = handle.push_all_wait(6..9).expect_err("it is finished");
+    assert_eq!(
+        (stopped.pushed, stopped.refused),
+        (0, PushError::Finished(6))
+    );
+    assert_eq!(handle.pop_up_to_wait(9, &mut values), Ok(2));
+    assert_eq!(
+        handle.pop_up_to_wait(9, &mut values),
+        Err(PopError::Finished)
+    );
+}
+
+#[test]
+fn calls_that_wait_end_where_nobody_is_left() {
+    let queue = Queue::new(1, 4, 1).expect("the sizes are in range");
+    let handle = queue.handle().expect("a handle is free");
+    drop(queue);
+    let stopped = handle
+        .push_all_wait(0..9)
+        .expect_err("there are four slots");
+    assert_eq!(
+        (stopped.pushed, stopped.refused),
+        (4, PushError::Finished(4))
+    );
+    let mut values = Vec::new();
+    assert_eq!(handle.pop_up_to_wait(4, &mut values), Ok(4));
+    assert_eq!(
+        handle.pop_up_to_wait(4, &mut values),
+        Err(PopError::Finished)
+    );
+}
+
+/// The time of a call is that of all its waits: each is shorter here, and all together would take much longer.
+#[test]
+fn the_time_is_of_all_waits() {
+    let queue = Queue::new(1, 2, 2).expect("the sizes are in range");
+    let handle = queue.handle().expect("a handle is free");
+    let slow = queue.handle().expect("a handle is free");
+    thread::scope(|scope| {
+        scope.spawn(move || {
+            while slow.pop_wait().is_ok() {
+                thread::sleep(Duration::from_millis(5));
+            }
+        });
+        let _end = handle.finish_on_drop();
+        let began = Instant::now();
+        let stopped = handle
+            .push_all_timeout(0..1000, Duration::from_millis(100))
+            .expect_err("its time is up");
+        assert!(matches!(stopped.refused, PushError::TimedOut(_)));
+        let spent = began.elapsed();
+        assert!(spent >= Duration::from_millis(99) && spent < Duration::from_millis(2500));
+    });
+}
+
+/// One push of many goes through a queue that is shorter, to threads that sleep until each value comes.
+#[test]
+fn one_push_goes_through_a_short_queue() {
+    const COUNT: usize = 60;
+    for _ in 0..ROUNDS {
+        let queue = Queue::new(1, 2, 4).expect("the sizes are in range");
+        let handle = queue.handle().expect("a handle is free");
+        let sum: usize = thread::scope(|scope| {
+            let all = [1, 1, 7].map(|most| {
+                let other = queue.handle().expect("a handle is free");
+                scope.spawn(move || {
+                    let mut values = Vec::new();
+                    while other.pop_up_to_wait(most, &mut values).is_ok() {}
+                    values.into_iter().sum::<usize>()
+                })
+            });
+            fall_asleep();
+            let pushed = handle.push_all_wait(1..=COUNT);
+            assert_eq!(pushed.expect("room comes"), COUNT);
+            handle.finish();
+            all.into_iter()
+                .map(|it| it.join().expect("no thread panics"))
+                .sum()
+        });
+        assert_eq!(sum, COUNT * (COUNT + 1) / 2);
+    }
+}
+
 /// Each question is asked when the one before was answered, which takes a thread that sleeps until it comes.
 #[test]
 fn an_iterator_may_wait_for_those_that_pop() {
@@ -224,9 +335,14 @@ fn each_value_comes_out_once() {
             let still_pushing = &still_pushing;
             scope.spawn(move || {
                 let mut numbers = producer * EACH..(producer + 1) * EACH;
-                while let Err(stopped) = handle.push_all(&mut numbers) {
-                    let refused = stopped.refused.into_inner();
-                    handle.push_wait(refused).expect("it is not finished");
+                if producer == 0 {
+                    let all = handle.push_all_wait(numbers);
+                    assert_eq!(all.expect("it is not finished"), EACH);
+                } else {
+                    while let Err(stopped) = handle.push_all(&mut numbers) {
+                        let refused = stopped.refused.into_inner();
+                        handle.push_wait(refused).expect("it is not finished");
+                    }
                 }
                 if still_pushing.fetch_sub(1, Ordering::AcqRel) == 1 {
                     handle.finish();
@@ -237,8 +353,10 @@ fn each_value_comes_out_once() {
             let handle = queue.handle().expect("a handle is free");
             scope.spawn(move || {
                 let mut values = Vec::new();
-                while let Ok(first) = handle.pop_wait() {
-                    values.push(first);
+                while handle
+                    .pop_up_to_wait(1 + values.len() % 20, &mut values)
+                    .is_ok()
+                {
                     // It is empty, or there are some.
                     let _ = handle.pop_up_to(values.len() % 20, &mut values);
                 }

@@ -33,8 +33,8 @@ impl<T> Shared<T> {
         }
     }
 
-    /// Takes values until there are `most` or the queue has no more, and returns how many. An error says why there is
-    /// none.
+    /// Takes values until there are `most` or the queue has no more, and returns how many. It looks for the first one
+    /// so often, and for each further one until it is not busy. An error says why there is none.
     ///
     /// # Safety
     ///
@@ -44,6 +44,7 @@ impl<T> Shared<T> {
         number: usize,
         most: usize,
         values: &mut Vec<T>,
+        mut looks: Looks,
     ) -> Result<usize, PopError> {
         let _call = self.enter(number, "a pop of many");
         let mut pops = Pops {
@@ -58,8 +59,9 @@ impl<T> Shared<T> {
             // It releases the cell of the value before.
             pops.has_cell = false;
             // SAFETY: as the caller says.
-            match unsafe { self.receive_by(number, Looks::UnlessBusy) } {
+            match unsafe { self.receive_by(number, looks) } {
                 Ok(cell) => {
+                    looks = Looks::UnlessBusy;
                     pops.has_cell = true;
                     // SAFETY: the cell has just been received, and is the pass's alone until the next one is.
                     values.push(unsafe { self.cells.move_out(number, cell) });
