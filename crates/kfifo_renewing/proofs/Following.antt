@@ -9,20 +9,21 @@ use Rattle.kfifo_live.specs.Handles.{PayHeld}
 use Rattle.kfifo_live.specs.declared.view.Opening.{Opening}
 use Rattle.kfifo_renewing.specs.declared.change.Change.{Change}
 use Rattle.kfifo_renewing.specs.declared.change.Change.TheVariants as C
+use Rattle.kfifo_renewing.specs.declared.change.Sight.{Sight}
 use Rattle.kfifo_renewing.specs.History.{Finds, HasRisen, IsMade, NewestWas, newest_of}
 use Rattle.kfifo_renewing.specs.Joining.{HasJoined, IsSamePart, PartView}
-use Rattle.kfifo_renewing.specs.Renewing.{Follows, Generations, IsAtNewest, IsBehind, IsLater, IsNumbered, IsPartOf, Numbered, all_of, with_newest, with_older, with_seen}
+use Rattle.kfifo_renewing.specs.Renewing.{Follows, Generations, IsAtNewest, IsBehind, IsLater, IsNumbered, IsPartOf, Numbered, all_of, sight, with_newest, with_older, with_seen}
 use Rattle.kfifo_renewing.proofs.Histories.{made-later, prefix-trans, risen-from}
 use Rattle.kfifo_renewing.proofs.Joining.{joined-later, joined-newest}
 use Rattle.kfifo_renewing.proofs.Parts.{part-append, part-first, part-refl, part-trans}
 
 -- what a look found between two beginnings was so between a shorter and a longer one
-pub was-before : (t n : ℕ) (a b c : List Change) → IsPrefix a b → NewestWas t n b c → NewestWas t n a c
+pub was-before : (t : Sight) (n : ℕ) (a b c : List Change) → IsPrefix a b → NewestWas t n b c → NewestWas t n a c
 was-before t n a b c p (others, more, is, newest) =
     let same : a ++ (p.0 ++ others) ≡ b ++ others = sym (append_assoc a p.0 others) ∙ ap (λ l. l ++ others) p.1 in
     (p.0 ++ others, more, is ∙ ap (λ l. l ++ C.Look t ∷ more) (sym same), ap newest_of same ∙ newest)
 
-pub was-after : (t n : ℕ) (a b c : List Change) → NewestWas t n a b → IsPrefix b c → NewestWas t n a c
+pub was-after : (t : Sight) (n : ℕ) (a b c : List Change) → NewestWas t n a b → IsPrefix b c → NewestWas t n a c
 was-after t n a b c (others, more, is, newest) p = (
   others,
   more ++ p.0,
@@ -30,12 +31,12 @@ was-after t n a b c (others, more, is, newest) p = (
   newest,
 )
 
-pub was-prefix : (t n : ℕ) (a b : List Change) → NewestWas t n a b → IsPrefix a b
+pub was-prefix : (t : Sight) (n : ℕ) (a b : List Change) → NewestWas t n a b → IsPrefix a b
 was-prefix t n a b (others, more, is, newest) =
     (others ++ C.Look t ∷ more, sym (append_assoc a others (C.Look t ∷ more)) ∙ sym is)
 
 -- A look at the word of the handle's newest generation found that there is a later one, or none
-pub found-or-newest : (found number t : ℕ) (old new : List Change) (table : TableId) → Finds t number found old new
+pub found-or-newest : (found number : ℕ) (t : Sight) (old new : List Change) (table : TableId) → Finds t number found old new
     → IsMade new number table → (b : Bool) → (found == 0) ≡ b
     → MatchBool (not b) ((n : ℕ) × NewestWas t n old new × (n ≢ number) × IsMade new number table)
     (NewestWas t number old new × IsMade new number table)
@@ -128,7 +129,7 @@ module _ {T : Type 0} where
 
   -- what holds of a handle holds after a look, and after a call in the newest generation
   pub joins-after : (o : Opening) (shared book then : Book) (old new : List Change) (g : Numbered) (h after : PartView T)
-      (older : List (PartView T)) (t found : ℕ) → HasJoined o shared book old g h older → Finds t g.number found old new → then ≡ book
+      (older : List (PartView T)) (t : Sight) (found : ℕ) → HasJoined o shared book old g h older → Finds t g.number found old new → then ≡ book
       → IsSamePart h after → HasJoined o shared then new g after older
   joins-after o shared book then old new g h after older t found j finds same part =
       joined-newest o shared then new g h after older
@@ -151,11 +152,11 @@ module _ {T : Type 0} where
 
   -- what a look of the handle at the word of its newest generation found
   abbrev pub Looked : ℕ → List Change → Generations T → Type 0
-  Looked found log g = Finds g.thread g.number found g.seen log × IsNumbered g
+  Looked found log g = Finds (sight g) g.number found g.seen log × IsNumbered g
 
   pub looked-later : (found : ℕ) (log : List Change) (g : Generations T) → Looked found log g → IsLater g (with_seen g log)
   looked-later found log g looked =
-      later-seen g (with_seen g log) log refl (was-prefix g.thread looked.0.number g.seen log looked.0.was) looked.0.risen
+      later-seen g (with_seen g log) log refl (was-prefix (sight g) looked.0.number g.seen log looked.0.was) looked.0.risen
 
   pub looked-follows : (found : ℕ) (log : List Change) (g : Generations T) → Looked found log g → Follows g (with_seen g log)
   looked-follows found log g looked = follows-seen g (with_seen g log) log refl (looked-later found log g looked)
@@ -164,8 +165,8 @@ module _ {T : Type 0} where
   pub looked-newest : (found : ℕ) (log : List Change) (g : Generations T) → Looked found log g → found ≡ 0
       → IsAtNewest g (with_seen g log)
   looked-newest found log g looked none = (
-    subst (λ n. NewestWas g.thread n g.seen log) (looked.0.same none) looked.0.was,
-    made-later g.seen log g.number g.newest.pass.pass.table (was-prefix g.thread looked.0.number g.seen log looked.0.was) looked.1,
+    subst (λ n. NewestWas (sight g) n g.seen log) (looked.0.same none) looked.0.was,
+    made-later g.seen log g.number g.newest.pass.pass.table (was-prefix (sight g) looked.0.number g.seen log looked.0.was) looked.1,
   )
 
   -- it found that there is one
@@ -175,19 +176,19 @@ module _ {T : Type 0} where
     looked.0.number,
     looked.0.was,
     looked.0.other some,
-    made-later g.seen log g.number g.newest.pass.pass.table (was-prefix g.thread looked.0.number g.seen log looked.0.was) looked.1,
+    made-later g.seen log g.number g.newest.pass.pass.table (was-prefix (sight g) looked.0.number g.seen log looked.0.was) looked.1,
   )
 
   pub seen-more : (mid new : Generations T) (b : Bool) → MatchBool b (IsAtNewest mid new) (IsBehind mid new) → IsPrefix mid.seen new.seen
-  seen-more mid new true at = was-prefix new.thread new.number mid.seen new.seen at.0
-  seen-more mid new false (n, was, other, made) = was-prefix new.thread n mid.seen new.seen was
+  seen-more mid new true at = was-prefix (sight new) new.number mid.seen new.seen at.0
+  seen-more mid new false (n, was, other, made) = was-prefix (sight new) n mid.seen new.seen was
 
   -- what a look found later was found later than before that
   pub both-before : (old mid new : Generations T) → IsPrefix old.seen mid.seen → (b : Bool)
       → MatchBool b (IsAtNewest mid new) (IsBehind mid new) → MatchBool b (IsAtNewest old new) (IsBehind old new)
-  both-before old mid new p true at = (was-before new.thread new.number old.seen mid.seen new.seen p at.0, at.1)
+  both-before old mid new p true at = (was-before (sight new) new.number old.seen mid.seen new.seen p at.0, at.1)
   both-before old mid new p false (n, was, other, made) =
-      (n, was-before new.thread n old.seen mid.seen new.seen p was, other, made)
+      (n, was-before (sight new) n old.seen mid.seen new.seen p was, other, made)
 
   pub follows-refl : (g : Generations T) → Follows g g
   follows-refl g = (later-refl g, ([], part-first (all_of g) []))

@@ -14,8 +14,9 @@ use Rattle.kfifo_live.specs.Payloads.{PayCloses, PayPassView, pay_opening}
 use Rattle.kfifo_live.specs.Promise.{KeepsPromise}
 use Rattle.kfifo_live.specs.Schedule.{count_up}
 use Rattle.kfifo_live.specs.declared.view.Opening.{Opening}
-use Rattle.kfifo_renewing.specs.History.{IsGone, IsMade, NewestWas, WasNewest, newest_of}
+use Rattle.kfifo_renewing.specs.History.{IsGone, IsMade, NewestWas, WasNewest, newest_of, sight_of}
 use Rattle.kfifo_renewing.specs.declared.change.Change.{Change}
+use Rattle.kfifo_renewing.specs.declared.change.Sight.{Sight}
 use Rattle.kfifo_renewing.specs.declared.generation.Sizes.{Sizes}
 use Rattle.kfifo_renewing.specs.declared.places.Lineage.{Lineage}
 
@@ -142,13 +143,18 @@ module _ {T : Type 0} where
   HasAll g = (n : ℕ) → WasNewest g.seen n → n ≤ g.number
       → IsGone g.seen n ⊎ ((h : PayHeld T) × Contains (all_of g) h × IsMade g.seen n h.pass.pass.table)
 
-  -- At a look of the handle from old to new, its newest generation was the newest of the queue
-  abbrev pub IsAtNewest : Generations T → Generations T → Type 0
-  IsAtNewest old new = NewestWas new.thread new.number old.seen new.seen × IsNumbered new
+  -- what a look of the handle tells, once its newest pass has seen what it has
+  abbrev pub sight : Generations T → Sight
+  sight g = sight_of g.newest.pass.pass
 
-  -- At a look of the handle from old to new, another generation was the newest of the queue
+  -- At a look of the handle from old to new, its newest generation was the newest of the queue. Its pass there had then
+  -- seen all that it has seen
+  abbrev pub IsAtNewest : Generations T → Generations T → Type 0
+  IsAtNewest old new = NewestWas (sight new) new.number old.seen new.seen × IsNumbered new
+
+  -- At such a look another generation was the newest of the queue
   abbrev pub IsBehind : Generations T → Generations T → Type 0
-  IsBehind old new = (number : ℕ) × NewestWas new.thread number old.seen new.seen × (number ≢ new.number)
+  IsBehind old new = (number : ℕ) × NewestWas (sight new) number old.seen new.seen × (number ≢ new.number)
       × IsNumbered new
 
   -- A handle follows others: it may leave some generations and join some later ones. Nothing is done in any of them
@@ -207,8 +213,8 @@ module _ {T : Type 0} where
       × ((TakesThere K.Empty h after × TakesFirst answer hs afters)
       ⊎ ((taken : Taken T) × (answer ≡ Some taken) × (taken ≢ K.Empty) × TakesThere taken h after × (afters ≡ hs)))
 
-  -- What is returned of a take. Empty: at a look after it the generation was still the newest of the queue. Where another
-  -- one was, Busy stands for Empty
+  -- What is returned of a take, after which the handle is `new`. Empty: at a look after it, by a pass that had seen it,
+  -- the generation was still the newest of the queue. Where another one was, Busy stands for Empty
   abbrev pub LooksAgain : Taken T → Taken T → Generations T → Generations T → Type 0
   LooksAgain taken answer old new = ((taken ≢ K.Empty) × (answer ≡ taken) × (new.seen ≡ old.seen))
       ⊎ ((taken ≡ K.Empty) × (((answer ≡ K.Empty) × IsAtNewest old new) ⊎ ((answer ≡ K.Busy) × IsBehind old new)))

@@ -125,7 +125,7 @@ impl<T: Drop> RenewingHandle<T> {
         ensures newest { MatchBool result (IsBehind self.old self.new) (IsAtNewest self.old self.new) }
         ensures all { HasAll self.new }
     {
-        let found = self.generation.next().look(self.thread, &mut self.history);
+        let found = self.generation.next().look(&self.newest, &mut self.history);
         found != 0
     }
 
@@ -283,7 +283,7 @@ impl<T: Drop> RenewingHandle<T> {
         ensures later { IsLater self.old self.new }
         ensures newest { WasNewest self.new.seen result }
     {
-        let found = self.generation.next().look(self.thread, &mut self.history);
+        let found = self.generation.next().look(&self.newest, &mut self.history);
         // The handle that made it the newest may not have said so yet, and nobody waits for that.
         self.shared
             .numbers()
@@ -390,7 +390,7 @@ impl<T: Drop> RenewingHandle<T> {
     /// Opens the generation after the newest one, unless another handle has done so, or memory or room is missing.
     fn renew(&self) {
         self.shared
-            .renew(&self.generation, self.thread, self.history.again());
+            .renew(&self.generation, &self.newest, self.history.again());
     }
 
     /// Looks at the versions that the newest generation has left, once the handle has made so many gives, and opens the
@@ -473,7 +473,7 @@ impl<T: Drop> RenewingHandle<T> {
         }
         // One reference for the look and the call: else the compiler loads the pointer again after the look.
         let generation: &Generation<T> = &self.generation;
-        if generation.next().look(self.thread, &mut self.history) != 0 {
+        if generation.next().look(&self.newest, &mut self.history) != 0 {
             return self.give_late(payload);
         }
         // The give below then makes no such test, and no call that comes back. Before the look the count of tokens
@@ -584,7 +584,7 @@ impl<T: Drop> RenewingHandle<T> {
         ensures { TakesFromOldest result self.old self.new }
     {
         let generation: &Generation<T> = &self.generation;
-        let later = generation.next().look(self.thread, &mut self.history);
+        let later = generation.next().look(&self.newest, &mut self.history);
         // One test for both.
         if later + self.older.len() as u64 != 0 {
             return self.take_late();

@@ -122,14 +122,19 @@ impl<T: Drop> Shared<T> {
         Some((generation, pen))
     }
 
-    /// Opens the generation after this one, which was the newest, by the handle of this thread. It does not where
+    /// Opens the generation after this one, which was the newest, by the handle with this part. It does not where
     /// another handle has opened that, memory or room is missing, or the queue opens none.
-    pub(crate) fn renew(&self, newest: &Generation<T>, thread: u32, mut history: History)
+    pub(crate) fn renew(
+        &self,
+        newest: &Generation<T>,
+        part: &Leaving<Joined<T>>,
+        mut history: History,
+    )
         requires books { (newest.now.book ≡ self.now.history.book) × (history.book ≡ self.now.history.book) }
         requires newest { WasNewest history.log newest.now.number }
     {
         let seen = history.again();
-        let is_newest = newest.next().look(thread, &mut history) == 0;
+        let is_newest = newest.next().look(part, &mut history) == 0;
         if !self.renews() || !is_newest || !self.places.has_room() {
             return;
         }
