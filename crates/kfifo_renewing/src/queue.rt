@@ -1,7 +1,7 @@
 //! What the handles of a renewing queue share, its opening and its end.
 ghost use Rattle.std.specs.Prelude.{◌≡◌, ◌<◌, ◌≤◌, ◌++◌, ◌⊎◌, ◌↔◌, All, IfOk, IfSome, IsErrOf, List, [], ◌∷◌};
 ghost use Rattle.std.specs.Prelude.{length, map};
-ghost use Rattle.kfifo_live.specs.Pass.{IsPassOf};
+ghost use Rattle.kfifo_live.specs.Pass.{HasNoEvent, IsPassOf};
 ghost use Rattle.kfifo_live.specs.Payloads.{pay_opening};
 ghost use Rattle.kfifo_live.specs.Schedule.{count_up};
 ghost use Rattle.kfifo_live.specs.declared.fault.OpenFault.TheVariants.{ThreadsOutOfRange, TokensOutOfRange};
@@ -62,7 +62,7 @@ fn open_queue<T: Drop>(
     sizes: &Sizes,
 ) -> Result<(PayQueue<T>, Vec<PayPass<T>>), OpenFault>
     ensures opened { IfOk result (λ r. r.0.opened ≡ opening_of sizes.now) }
-    ensures of { IfOk result (λ r. All (λ p. IsPassOf r.0 p.pass) r.1.items) }
+    ensures of { IfOk result (λ r. All (λ p. IsPassOf r.0 p.pass × HasNoEvent p.pass) r.1.items) }
 {
     let opened = PayQueue::open_with_pool(alloc, sizes.shape, sizes.threads, sizes.tokens)?;
     Ok(opened)
