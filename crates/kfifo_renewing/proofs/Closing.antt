@@ -1,12 +1,11 @@
 -- One generation more is closed.
 use Rattle.std.proofs.Common.{List, [], ◌∷◌, ◌++◌, append_assoc, ap, refl, sym, ◌∙◌}
 use Rattle.std.proofs.lemmas.List.{append-nil}
-use Rattle.kfifo_live.specs.Handles.{PayHeld}
-use Rattle.kfifo_renewing.specs.Renewing.{ClosesEach, WereLeft}
+use Rattle.kfifo_renewing.specs.Renewing.{ClosesEach, HeldIn, WereLeft}
 
 module _ {T : Type 0} where
-  pub closes-more : (done : List (PayHeld T)) (before : List T) (h : PayHeld T) (left : List T) → ClosesEach done before
-      → WereLeft h left → ClosesEach (done ++ h ∷ []) (before ++ left)
+  pub closes-more : (done : List (HeldIn T)) (before : List T) (h : HeldIn T) (left : List T) → ClosesEach done before
+      → WereLeft h.held left → ClosesEach (done ++ h ∷ []) (before ++ left)
   closes-more [] before h left none here = (left, [], ap (λ b. b ++ left) none ∙ sym (append-nil left), here, refl)
   closes-more (x ∷ done) before h left (first, rest, e, were, each) here = (
     first,

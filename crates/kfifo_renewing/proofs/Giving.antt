@@ -36,12 +36,12 @@ module _ {T : Type 0} where
   tries-after payload answer old mid new before (here, follows, inl gives) = (
     here,
     follows-trans old mid here before follows,
-    inl (both-before old mid here before.0.seen true gives.0, gives.1),
+    inl (both-before old mid here before.later.seen true gives.0, gives.1),
   )
   tries-after payload answer old mid new before (here, follows, inr busy) = (
     here,
     follows-trans old mid here before follows,
-    inr (both-before old mid here before.0.seen false busy.0, busy.1, busy.2),
+    inr (both-before old mid here before.later.seen false busy.0, busy.1, busy.2),
   )
 
   pub gives-after : (payload : T) (answer : Given T) (old mid new : Generations T) → Follows old mid → GivesToNewest payload answer mid new

@@ -17,11 +17,12 @@ use Rattle.kfifo_live.specs.declared.view.Opening.{Opening}
 use Rattle.kfifo_renewing.specs.declared.change.Change.{Change}
 use Rattle.kfifo_renewing.specs.declared.change.Change.TheVariants as C
 use Rattle.kfifo_renewing.specs.History.{FindsThere, HasLeft, HasRisen, IsGone, IsKept, IsMade, IsPlaced, WasNewest, place_count}
-use Rattle.kfifo_renewing.specs.Joining.{AreAmong, AreSameParts, HasJoined, HasNumber, HasOlder, IsPart, IsSamePart, PartView, held_by}
-use Rattle.kfifo_renewing.specs.Renewing.{Generations, HasAll, IsOpenedAs, IsPartOf, Numbered}
+use Rattle.kfifo_renewing.specs.Joining.{AreAmong, AreSameParts, HasJoined, HasNumber, HasOlder, IsPart, IsSamePart, PartView, held_by, held_in}
+use Rattle.kfifo_renewing.specs.Renewing.{Generations, HasAll, HeldIn, IsOpenedAs, LeavesGone, Numbered}
 use Rattle.kfifo_renewing.proofs.Histories.{contains-later, left-later, made-later, was-below, was-later, was_first}
 use Rattle.kfifo_renewing.proofs.Keeping.{kept-gone, kept-placed}
-use Rattle.kfifo_renewing.proofs.Parts.{all-next, all-without, part-without}
+use Rattle.kfifo_renewing.proofs.Departures.{leaves-refl}
+use Rattle.kfifo_renewing.proofs.Parts.{all-next, all-without}
 
 contains-cons : {A : Type 0} (y x : A) (xs : List A) → Contains xs x → Contains (y ∷ xs) x
 contains-cons y x xs (k, inside, is) = (suc k, omega (arith, inside), is)
@@ -278,21 +279,25 @@ module _ {T : Type 0} where
   -- the handle is in each generation that has not gone
   pub has-all : (o : Opening) (shared book : Book) (g : Numbered) (h : PartView T) (ps : List (PartView T)) (v : Generations T)
       → HasJoined o shared book v.seen g h ps → held_by ps ≡ v.older → h.held ≡ v.newest → g.number ≡ v.number → HasAll v
-  has-all o shared book g h ps v j older newest number n was up = ⊎_elim
+  has-all o shared book g h ps v j older newest number n was up =
+      let last : HeldIn T = record { held = v.newest; number = v.number } in
+      ⊎_elim
       (λ less. ⊎_elim
       inl
       (λ has. inr (
-        has.0.held,
-        subst (λ l. Contains (l ++ v.newest ∷ []) has.0.held) older
-            (Contains-append_left (held_by ps) (v.newest ∷ []) has.0.held (contains-map (λ (p : PartView T). p.held) ps has.0 has.1)),
+        held_in has.0,
+        subst (λ l. Contains (l ++ last ∷ []) (held_in has.0)) older
+            (Contains-append_left (held_by ps) (last ∷ []) (held_in has.0) (contains-map (λ (p : PartView T). held_in p) ps has.0 has.1)),
+        has.2,
         subst (λ k. IsMade v.seen k has.0.held.pass.pass.table) has.2 (made-of v.seen ps has.0 j.older_parts has.1),
       ))
       (j.all n was (let at = number in omega (arith, less, at))))
       (λ no-less.
       let same : n ≡ v.number = omega (arith, no-less, up) in
       inr (
-        v.newest,
-        Contains-push v.older v.newest,
+        last,
+        Contains-push v.older last,
+        sym same,
         subst (λ k. IsMade v.seen k v.newest.pass.pass.table) (number ∙ sym same)
             (subst (λ (x : PayHeld T). IsMade v.seen g.number x.pass.pass.table) newest (numbered-by o shared book v.seen g h ps j)),
       ))
@@ -369,14 +374,23 @@ module _ {T : Type 0} where
       subst (IsPart log) same (all-next (IsPart log) q ps (q ∷ ps) refl all).0
   part-at log (q ∷ ps) (suc i) p all at = part-at log ps i p (all-next (IsPart log) q ps (q ∷ ps) refl all).1 at
 
-  held-part : (xs ys : List (PartView T)) → IsPartOf xs ys → IsPartOf (held_by xs) (held_by ys)
-  held-part xs [] p = ap held_by p
-  held-part xs (y ∷ ys) (inl p) = inl (held-part xs ys p)
-  held-part xs (y ∷ ys) (inr (rest, e, p)) = inr (held_by rest, ap held_by e, held-part rest ys p)
+  less-at : (log : List Change) (ps : List (PartView T)) (i : ℕ) (p : PartView T) → slice_get ps i ≡ Some p → HasLeft log p.number
+      → LeavesGone log (held_by ps) (held_by (take i ps ++ drop (i + 1) ps))
+  less-at log [] i p at left = absurd cc
+  less-at log (q ∷ ps) zero p at left =
+      let same : q ≡ p = cc in
+      inr (subst (λ (x : PartView T). HasLeft log x.number) (sym same) left, leaves-refl log (held_by ps))
+  less-at log (q ∷ ps) (suc i) p at left = inl (
+    held_by (take i ps ++ drop (i + 1) ps),
+    ap (λ n. held_by (q ∷ (take i ps ++ drop n (q ∷ ps)))) (let e : suc i + 1 ≡ suc (i + 1) = omega arith in e),
+    less-at log ps i p at left,
+  )
 
-  -- the handles of parts but one
-  pub held-less : (ps qs : List (PartView T)) (i : ℕ) → qs ≡ take i ps ++ drop (i + 1) ps → IsPartOf (held_by qs) (held_by ps)
-  held-less ps qs i is = subst (λ l. IsPartOf (held_by l) (held_by ps)) (sym is) (held-part (take i ps ++ drop (i + 1) ps) ps (part-without ps i))
+  -- the handles of parts but one, whose generation has left its place
+  pub held-less : (log : List Change) (ps qs : List (PartView T)) (i : ℕ) (p : PartView T) → qs ≡ take i ps ++ drop (i + 1) ps
+      → slice_get ps i ≡ Some p → HasLeft log p.number → LeavesGone log (held_by ps) (held_by qs)
+  held-less log ps qs i p is at left =
+      subst (λ l. LeavesGone log (held_by ps) (held_by l)) (sym is) (less-at log ps i p at left)
 
   -- a generation that is not among these, though it comes before this one, has gone if it was the newest
   pub others-gone : (xs ys : List Change) (ps : List (PartView T)) (number n : ℕ) → IsPrefix xs ys → HasRisen ys → WasNewest xs number

@@ -14,6 +14,7 @@ use Rattle.logbook.specs.Pages.{Act, Away, Cell, Goes, Moves, Nib, Valid, View, 
 use Rattle.kfifo_renewing.specs.declared.change.Change.{Change}
 use Rattle.kfifo_renewing.specs.declared.change.Change.TheVariants as C
 use Rattle.kfifo_renewing.specs.declared.change.Made.{Made}
+use Rattle.kfifo_renewing.specs.declared.change.Sight.{Sight}
 use Rattle.kfifo_renewing.specs.History.{Finds, FindsThere, GivesNumber, HasLeft, HasRisen, Holds, IsGone, IsKept, IsPlaced, IsUndone, Empties, Looks}
 use Rattle.kfifo_renewing.specs.History.{LooksThere, Fills, Renews, TellsNext, TellsPlace, WasNewest, key_of, made, making_of, newest_of, place_count, label_of}
 use Rattle.kfifo_renewing.proofs.Histories.{contains-later, contains-more, get-last, left-later, made-append, newest-append, risen-from, risen-more, risen-none}
@@ -229,17 +230,17 @@ labelled-same : (g : ℕ) (labels nexts : List Cell) (log : List Change) (e : Ch
 labelled-same g labels nexts log e other h i inside =
     ((h.labelled i inside).0, place-same log e i (cell labels i).0 (λ n. other n i) (h.labelled i inside).1)
 
-pub thread-same : (n t : ℕ) → C.Look n ≡ C.Look t → n ≡ t
-thread-same n t e = cc
+pub sight-same : (n t : Sight) → C.Look n ≡ C.Look t → n ≡ t
+sight-same n t e = cc
 
 pub table-same : (t : TableId) (q : Made) → making_of t ≡ C.Made q → t ≡ q.table
 table-same t q e = cc
 
 -- what a word says is what a look finds
-found-next : (v log : List Change) (thread n w : ℕ) → IsPrefix v log → HasRisen log → TellsNext log n w
-    → Finds thread n w v (log ++ C.Look thread ∷ [])
-found-next v log thread n w pre risen t =
-    let e = C.Look thread in
+found-next : (v log : List Change) (sight : Sight) (n w : ℕ) → IsPrefix v log → HasRisen log → TellsNext log n w
+    → Finds sight n w v (log ++ C.Look sight ∷ [])
+found-next v log sight n w pre risen t =
+    let e = C.Look sight in
     let same : newest_of (log ++ e ∷ []) ≡ newest_of log = newest-append 0 log (e ∷ []) in
     record {
       number = newest_of log;
@@ -258,45 +259,45 @@ found-next v log thread n w pre risen t =
     }
 
 -- an entry for a look
-look-holds : (g : ℕ) (labels nexts : List Cell) (log : List Change) (thread : ℕ) → Holds log g labels nexts
-    → Holds (log ++ C.Look thread ∷ []) g labels nexts
-look-holds g labels nexts log thread h =
-    let e = C.Look thread in
+look-holds : (g : ℕ) (labels nexts : List Cell) (log : List Change) (sight : Sight) → Holds log g labels nexts
+    → Holds (log ++ C.Look sight ∷ []) g labels nexts
+look-holds g labels nexts log sight h =
+    let e = C.Look sight in
     holds-entry g labels nexts labels nexts log e refl (newest-append 0 log (e ∷ [])) h refl (λ n was. refl)
     (labelled-same g labels nexts log e (λ n i is. absurd cc) h)
     (gone-same g labels nexts log e (λ n is. absurd cc) h)
     (undone-same g labels nexts log e (λ n is. absurd cc) h)
 
-looks-goes : (v log : List Change) (thread n g : ℕ) (labels nexts : List Cell) → length labels ≡ place_count → IsPrefix v log → WasNewest log n
+looks-goes : (v log : List Change) (sight : Sight) (n g : ℕ) (labels nexts : List Cell) → length labels ≡ place_count → IsPrefix v log → WasNewest log n
     → Holds log g labels nexts → Goes IsKept shown moved (key_of n) (v, (no_nib, None)) (λ n. n)
-    (Looks (step (key_of n) 0 0 (C.Look thread)) (v, (no_nib, None))) (words-of g labels nexts) log
-looks-goes v log thread n g labels nexts all pre was h =
-    let e = C.Look thread in
+    (Looks (step (key_of n) 0 0 (C.Look sight)) (v, (no_nib, None))) (words-of g labels nexts) log
+looks-goes v log sight n g labels nexts all pre was h =
+    let e = C.Look sight in
     let told = h.told n was in
     goes-by (key_of n) v no_nib (λ n. n) (Looks (step (key_of n) 0 0 e) (v, (no_nib, None))) (words-of g labels nexts)
     (words-of g labels nexts) log (e ∷ []) (cell nexts n) keeps (next-at g labels nexts n all)
     (set-next g labels nexts n ((cell nexts n).0, true) all ∙ ap (words-of g labels) (load-same nexts n told.0)) tt
-    (kept-of g labels nexts (log ++ e ∷ []) all (look-holds g labels nexts log thread h))
+    (kept-of g labels nexts (log ++ e ∷ []) all (look-holds g labels nexts log sight h))
     (λ t m asked at.
-    let thread-is : thread ≡ t = thread-same thread t asked in
+    let sight-is : sight ≡ t = sight-same sight t asked in
     let number-is : n ≡ m = omega (arith, at) in
-    subst (λ k. Finds k m (cell nexts n).0 v (log ++ e ∷ [])) thread-is
-    (subst (λ k. Finds thread k (cell nexts n).0 v (log ++ e ∷ [])) number-is
-    (found-next v log thread n (cell nexts n).0 pre h.risen told.1)))
+    subst (λ k. Finds k m (cell nexts n).0 v (log ++ e ∷ [])) sight-is
+    (subst (λ k. Finds sight k (cell nexts n).0 v (log ++ e ∷ [])) number-is
+    (found-next v log sight n (cell nexts n).0 pre h.risen told.1)))
 
 -- a look at the word of a generation that was the newest
-pub looks-moves : (v : List Change) (thread n : ℕ) → WasNewest v n
+pub looks-moves : (v : List Change) (sight : Sight) (n : ℕ) → WasNewest v n
     → Moves IsKept shown moved (key_of n) (v, (no_nib, None)) (λ n. n)
-    (Looks (step (key_of n) 0 0 (C.Look thread)) (v, (no_nib, None)))
-looks-moves v thread n was cs log kept pre away =
+    (Looks (step (key_of n) 0 0 (C.Look sight)) (v, (no_nib, None)))
+looks-moves v sight n was cs log kept pre away =
     let g = kept.greatest in
     let P : List Cell → Type 0 = λ c. (key_of n < length c) × ((cell c (key_of n)).1 ≡ true)
-    × Goes IsKept shown moved (key_of n) (v, (no_nib, None)) (λ n. n) (Looks (step (key_of n) 0 0 (C.Look thread)) (v, (no_nib, None))) c log in
+    × Goes IsKept shown moved (key_of n) (v, (no_nib, None)) (λ n. n) (Looks (step (key_of n) 0 0 (C.Look sight)) (v, (no_nib, None))) c log in
     let then : WasNewest log n = was-later v log n pre was in
     subst P (sym kept.words) (
       next-within g kept.labels kept.nexts n kept.all (within g kept.labels kept.nexts log n kept.holds then),
       ap (λ c. c.1) (next-at g kept.labels kept.nexts n kept.all) ∙ (kept.holds.told n then).0,
-      looks-goes v log thread n g kept.labels kept.nexts kept.all pre then kept.holds,
+      looks-goes v log sight n g kept.labels kept.nexts kept.all pre then kept.holds,
     )
 
 there-goes : (v log : List Change) (i g : ℕ) (e : Change) (labels nexts : List Cell) → length labels ≡ place_count → i < place_count → IsPrefix v log

@@ -7,3 +7,4 @@ pub mod Following
 pub mod Looking
 pub mod Giving
 pub mod Closing
+pub mod Departures

@@ -15,12 +15,12 @@ module _ {T : Type 0} where
   takes-from-after answer old mid new before (here, follows, inl takes) = (
     here,
     follows-trans old mid here before follows,
-    inl (both-before old mid here before.0.seen true takes.0, takes.1, takes.2),
+    inl (both-before old mid here before.later.seen true takes.0, takes.1, takes.2),
   )
   takes-from-after answer old mid new before (here, follows, inr busy) = (
     here,
     follows-trans old mid here before follows,
-    inr (both-before old mid here before.0.seen false busy.0, busy.1, busy.2),
+    inr (both-before old mid here before.later.seen false busy.0, busy.1, busy.2),
   )
 
   -- a take by a handle with one generation, after a look that found no later one

@@ -6,7 +6,9 @@ use Rattle.atomic_table.specs.Seated.{TableId}
 use mathlib.Core.List.{IsPrefix}
 use Rattle.logbook.specs.Pages.{Book, Cell, Named, Step, View, cell, may_make, nib}
 use Rattle.kfifo_renewing.specs.declared.change.Change.{Change}
+use Rattle.kfifo_live.specs.Pass.{PassView}
 use Rattle.kfifo_renewing.specs.declared.change.Made.{Made}
+use Rattle.kfifo_renewing.specs.declared.change.Sight.{Sight}
 use Rattle.kfifo_renewing.specs.declared.change.Change.TheVariants as C
 
 -- the entry for a generation whose queue has this table
@@ -18,7 +20,7 @@ abbrev pub made : List Change → List TableId
 made [] = []
 made (C.Made q ∷ log) = q.table ∷ made log
 made (C.Newest n ∷ log) = made log
-made (C.Look thread ∷ log) = made log
+made (C.Look sight ∷ log) = made log
 made (C.Placed n i ∷ log) = made log
 made (C.Gone n ∷ log) = made log
 made (C.Undone n ∷ log) = made log
@@ -28,7 +30,7 @@ abbrev pub newest_after : ℕ → List Change → ℕ
 newest_after n [] = n
 newest_after n (C.Made q ∷ log) = newest_after n log
 newest_after n (C.Newest m ∷ log) = newest_after m log
-newest_after n (C.Look thread ∷ log) = newest_after n log
+newest_after n (C.Look sight ∷ log) = newest_after n log
 newest_after n (C.Placed m i ∷ log) = newest_after n log
 newest_after n (C.Gone m ∷ log) = newest_after n log
 newest_after n (C.Undone m ∷ log) = newest_after n log
@@ -133,16 +135,21 @@ abbrev pub AreLabels : Book → List LabelView → Type 0
 AreLabels book labels = (length labels ≡ place_count)
     × ((i : ℕ) → i < place_count → slice_get labels i ≡ Some (record { place = i; book = book }))
 
--- at a look of this thread, between these two beginnings of the history, the newest generation had this number
-abbrev pub NewestWas : ℕ → ℕ → List Change → List Change → Type 0
-NewestWas thread n old new = (others : List Change) × (more : List Change)
-    × (new ≡ (old ++ others) ++ C.Look thread ∷ more) × (newest_of (old ++ others) ≡ n)
+-- what a look by a pass tells of that
+abbrev pub sight_of : PassView → Sight
+sight_of p = record { thread = p.thread; seen = p.seen }
 
--- What a look of this thread at the word of generation n found, between these two beginnings of the history: 0 where
--- that was the newest, and else the number of a later one that was the newest
-pub record Finds (thread n found : ℕ) (old new : List Change) : Type 0 where
+-- at a look by a pass that had seen this, between these two beginnings of the history, the newest generation had this
+-- number
+abbrev pub NewestWas : Sight → ℕ → List Change → List Change → Type 0
+NewestWas sight n old new = (others : List Change) × (more : List Change)
+    × (new ≡ (old ++ others) ++ C.Look sight ∷ more) × (newest_of (old ++ others) ≡ n)
+
+-- What a look by a pass that had seen this found at the word of generation n, between these two beginnings of the
+-- history: 0 where that was the newest, and else the number of a later one that was the newest
+pub record Finds (sight : Sight) (n found : ℕ) (old new : List Change) : Type 0 where
   pub number : ℕ
-  pub was : NewestWas thread number old new
+  pub was : NewestWas sight number old new
   pub same : found ≡ 0 → number ≡ n
   pub other : 0 < found → number ≢ n
   pub next : 0 < found → WasNewest new found
@@ -157,7 +164,7 @@ pub record FindsThere (place : ℕ) (found : Option ℕ) (old new : List Change)
 
 -- what a look tells
 abbrev pub Looks : Step Change → View Change ℕ → ℕ → View Change ℕ → Type 0
-Looks s v found w = (thread n : ℕ) → s.ask ≡ C.Look thread → s.key ≡ key_of n → Finds thread n found v.0 w.0
+Looks s v found w = (sight : Sight) (n : ℕ) → s.ask ≡ C.Look sight → s.key ≡ key_of n → Finds sight n found v.0 w.0
 
 -- What a step tells that gives a generation a number: where it did, the history has that, and the pen may make the word
 -- of that generation

@@ -5,10 +5,10 @@ use Rattle.atomic_table.specs.Seated.{TableId}
 use Rattle.logbook.specs.Pages.{Book}
 use Rattle.kfifo_live.specs.declared.payload.Taken.TheVariants as K
 use Rattle.kfifo_live.specs.Handles.{PayHeld}
-use Rattle.kfifo_live.specs.Pass.{IsPassOf, IsSamePass}
+use Rattle.kfifo_live.specs.Pass.{HasNoEvent, IsPassOf, IsSamePass}
 use Rattle.kfifo_live.specs.declared.view.Opening.{Opening}
 use Rattle.kfifo_renewing.specs.History.{HasLeft, HasRisen, IsGone, IsMade, IsPlaced, WasNewest, place_count}
-use Rattle.kfifo_renewing.specs.Renewing.{IsOpenedAs, Numbered, TakesThere}
+use Rattle.kfifo_renewing.specs.Renewing.{HeldIn, IsOpenedAs, Numbered, TakesThere}
 use Rattle.kfifo_renewing.specs.declared.change.Change.{Change}
 
 -- a part in a generation: the handle there, and the number and the place of the generation
@@ -48,9 +48,16 @@ module _ {T : Type 0} where
   AreSameParts (p ∷ ps) new = (q : PartView T) × (qs : List (PartView T)) × (new ≡ q ∷ qs) × IsSamePart p q
       × AreSameParts ps qs
 
-  -- the handles of these parts
-  abbrev pub held_by : List (PartView T) → List (PayHeld T)
-  held_by = map (λ p. p.held)
+  -- the handle of a part in its generation, and those of some
+  abbrev pub held_in : PartView T → HeldIn T
+  held_in p = record { held = p.held; number = p.number }
+
+  abbrev pub held_by : List (PartView T) → List (HeldIn T)
+  held_by = map held_in
+
+  -- a part in which its thread has begun no call, in a generation that comes after this number
+  abbrev pub IsUnused : ℕ → PartView T → Type 0
+  IsUnused number p = (number < p.number) × HasNoEvent p.held.pass.pass
 
   -- one of these parts is in the generation with this number
   abbrev pub HasNumber : List (PartView T) → ℕ → Type 0

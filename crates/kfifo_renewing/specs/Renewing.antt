@@ -1,5 +1,5 @@
 -- The generations of a renewing queue, as a handle has joined them, and what its calls do to each.
-use Rattle.std.specs.Prelude.{◌≡◌, ◌≢◌, ◌⊎◌, ◌≤◌, ◌==◌, ℕ, not, true, List, [], ◌∷◌, ◌++◌, All, filter, map, Option, Some, None}
+use Rattle.std.specs.Prelude.{◌≡◌, ◌≢◌, ◌⊎◌, ◌<◌, ◌≤◌, ◌==◌, ℕ, not, true, List, [], ◌∷◌, ◌++◌, All, filter, map, Option, Some, None}
 use Rattle.std.specs.List.{Contains}
 use mathlib.Core.List.{IsPrefix}
 use Rattle.logbook.specs.Pages.{Book}
@@ -9,13 +9,14 @@ use Rattle.kfifo_live.specs.declared.payload.Given.TheVariants as G
 use Rattle.kfifo_live.specs.declared.payload.Taken.{Taken}
 use Rattle.kfifo_live.specs.declared.payload.Taken.TheVariants as K
 use Rattle.kfifo_live.specs.Handles.{PayHeld, PicksUpAndGives, TakesAndLaysDown}
-use Rattle.kfifo_live.specs.Pass.{IsPassOf, IsSamePass, OpenQueue}
+use Rattle.kfifo_live.specs.Pass.{HasNoEvent, IsPassOf, IsSamePass, OpenQueue}
 use Rattle.kfifo_live.specs.Payloads.{PayCloses, PayPassView, pay_opening}
 use Rattle.kfifo_live.specs.Promise.{KeepsPromise}
 use Rattle.kfifo_live.specs.Schedule.{count_up}
 use Rattle.kfifo_live.specs.declared.view.Opening.{Opening}
-use Rattle.kfifo_renewing.specs.History.{IsGone, IsMade, NewestWas, WasNewest, newest_of}
+use Rattle.kfifo_renewing.specs.History.{HasLeft, IsGone, IsMade, NewestWas, WasNewest, newest_of, sight_of}
 use Rattle.kfifo_renewing.specs.declared.change.Change.{Change}
+use Rattle.kfifo_renewing.specs.declared.change.Sight.{Sight}
 use Rattle.kfifo_renewing.specs.declared.generation.Sizes.{Sizes}
 use Rattle.kfifo_renewing.specs.declared.places.Lineage.{Lineage}
 
@@ -49,12 +50,6 @@ without own = filter (λ thread. not (thread == own))
 abbrev pub other_threads : ℕ → ℕ → List ℕ
 other_threads own threads = without own (count_up 0 threads)
 
-module _ {A : Type 0} where
-  -- a list with some of the elements of another, in its order
-  abbrev pub IsPartOf : List A → List A → Type 0
-  IsPartOf part [] = part ≡ []
-  IsPartOf part (x ∷ xs) = IsPartOf part xs ⊎ ((rest : List A) × (part ≡ x ∷ rest) × IsPartOf rest xs)
-
 -- A generation: its queue, and the number that it has in the history of a renewing queue, of which this beginning was
 -- seen
 pub record Numbered : Type 0 where
@@ -67,6 +62,11 @@ pub record Numbered : Type 0 where
 abbrev pub IsOfLineage : Lineage → Numbered → Type 0
 IsOfLineage l g = (g.queue.opened ≡ opening_of l.sizes) × (g.book ≡ l.history.book)
 
+-- the handle of a thread in a generation, and the number of that
+pub record HeldIn (T : Type 0) : Type 0 where
+  pub held : PayHeld T
+  pub number : ℕ
+
 -- The generations that the handle of a thread has joined: its handle in each. It gives to the newest, which has this
 -- number. The older ones, the oldest first, may still have payloads. Of the history of the queue, which is that of this
 -- book, it has seen this beginning
@@ -75,7 +75,7 @@ pub record Generations (T : Type 0) : Type 0 where
   pub thread : ℕ
   pub book : Book
   pub seen : List Change
-  pub older : List (PayHeld T)
+  pub older : List (HeldIn T)
   pub newest : PayHeld T
   pub number : ℕ
 
@@ -85,8 +85,8 @@ module _ {T : Type 0} where
   IsOpenedAs o h = h.pass.pass.opened ≡ o
 
   -- all of them, the oldest first
-  abbrev pub all_of : Generations T → List (PayHeld T)
-  all_of g = g.older ++ g.newest ∷ []
+  abbrev pub all_of : Generations T → List (HeldIn T)
+  all_of g = g.older ++ record { held = g.newest; number = g.number } ∷ []
 
   -- the handle, once it has seen this much of the history
   abbrev pub with_seen : Generations T → List Change → Generations T
@@ -101,7 +101,7 @@ module _ {T : Type 0} where
   }
 
   -- the handle, with these older generations
-  abbrev pub with_older : Generations T → List (PayHeld T) → Generations T
+  abbrev pub with_older : Generations T → List (HeldIn T) → Generations T
   with_older g hs = record {
     opened = g.opened;
     thread = g.thread;
@@ -140,20 +140,43 @@ module _ {T : Type 0} where
   -- Each generation of the queue that was the newest, up to that of the handle, has gone, or the handle has joined it
   abbrev pub HasAll : Generations T → Type 0
   HasAll g = (n : ℕ) → WasNewest g.seen n → n ≤ g.number
-      → IsGone g.seen n ⊎ ((h : PayHeld T) × Contains (all_of g) h × IsMade g.seen n h.pass.pass.table)
+      → IsGone g.seen n ⊎ ((h : HeldIn T) × Contains (all_of g) h × (h.number ≡ n) × IsMade g.seen n h.held.pass.pass.table)
 
-  -- At a look of the handle from old to new, its newest generation was the newest of the queue
+  -- what a look of the handle tells, once its newest pass has seen what it has
+  abbrev pub sight : Generations T → Sight
+  sight g = sight_of g.newest.pass.pass
+
+  -- At a look of the handle from old to new, its newest generation was the newest of the queue. Its pass there had then
+  -- seen all that it has seen
   abbrev pub IsAtNewest : Generations T → Generations T → Type 0
-  IsAtNewest old new = NewestWas new.thread new.number old.seen new.seen × IsNumbered new
+  IsAtNewest old new = NewestWas (sight new) new.number old.seen new.seen × IsNumbered new
 
-  -- At a look of the handle from old to new, another generation was the newest of the queue
+  -- At such a look another generation was the newest of the queue
   abbrev pub IsBehind : Generations T → Generations T → Type 0
-  IsBehind old new = (number : ℕ) × NewestWas new.thread number old.seen new.seen × (number ≢ new.number)
+  IsBehind old new = (number : ℕ) × NewestWas (sight new) number old.seen new.seen × (number ≢ new.number)
       × IsNumbered new
 
-  -- A handle follows others: it may leave some generations and join some later ones. Nothing is done in any of them
-  abbrev pub Follows : Generations T → Generations T → Type 0
-  Follows old new = IsLater old new × ((later : List (PayHeld T)) × IsPartOf (all_of new) (all_of old ++ later))
+  -- Of these handles in generations, some are kept as they were, in their order. The generations of the others have left
+  -- their places by this history
+  abbrev pub LeavesGone : List Change → List (HeldIn T) → List (HeldIn T) → Type 0
+  LeavesGone log [] kept = kept ≡ []
+  LeavesGone log (h ∷ hs) kept = ((rest : List (HeldIn T)) × (kept ≡ h ∷ rest) × LeavesGone log hs rest)
+      ⊎ (HasLeft log h.number × LeavesGone log hs kept)
+
+  -- a handle in a generation that comes after this number, in which its thread has begun no call
+  abbrev pub IsNew : ℕ → List Change → HeldIn T → Type 0
+  IsNew number log h = (number < h.number) × IsMade log h.number h.held.pass.pass.table × HasNoEvent h.held.pass.pass
+
+  -- A handle follows others. It keeps what it has joined as it is, but for generations that have left their places, and
+  -- joins some later ones. Nothing is done in any of them
+  pub record Follows (old new : Generations T) : Type 0 where
+    pub later : IsLater old new
+    pub up : old.number ≤ new.number
+    pub kept : List (HeldIn T)
+    pub joined : List (HeldIn T)
+    pub keeps : LeavesGone new.seen (all_of old) kept
+    pub all : all_of new ≡ kept ++ joined
+    pub all_new : All (IsNew old.number new.seen) joined
 
   -- a handle that has joined one generation alone, the first, of this queue, in this history
   abbrev pub HasOne : OpenQueue → Book → Generations T → Type 0
@@ -201,14 +224,16 @@ module _ {T : Type 0} where
 
   -- The takes from these generations, one after the other, up to the first that is not found empty, and what that one
   -- returned. The others stay as they are. None: each was found empty
-  abbrev pub TakesFirst : Option (Taken T) → List (PayHeld T) → List (PayHeld T) → Type 0
+  abbrev pub TakesFirst : Option (Taken T) → List (HeldIn T) → List (HeldIn T) → Type 0
   TakesFirst answer [] new = (answer ≡ None) × (new ≡ [])
-  TakesFirst answer (h ∷ hs) new = (after : PayHeld T) × (afters : List (PayHeld T)) × (new ≡ after ∷ afters)
-      × ((TakesThere K.Empty h after × TakesFirst answer hs afters)
-      ⊎ ((taken : Taken T) × (answer ≡ Some taken) × (taken ≢ K.Empty) × TakesThere taken h after × (afters ≡ hs)))
+  TakesFirst answer (h ∷ hs) new = (after : HeldIn T) × (afters : List (HeldIn T)) × (new ≡ after ∷ afters)
+      × (after.number ≡ h.number)
+      × ((TakesThere K.Empty h.held after.held × TakesFirst answer hs afters)
+      ⊎ ((taken : Taken T) × (answer ≡ Some taken) × (taken ≢ K.Empty) × TakesThere taken h.held after.held
+      × (afters ≡ hs)))
 
-  -- What is returned of a take. Empty: at a look after it the generation was still the newest of the queue. Where another
-  -- one was, Busy stands for Empty
+  -- What is returned of a take, after which the handle is `new`. Empty: at a look after it, by a pass that had seen it,
+  -- the generation was still the newest of the queue. Where another one was, Busy stands for Empty
   abbrev pub LooksAgain : Taken T → Taken T → Generations T → Generations T → Type 0
   LooksAgain taken answer old new = ((taken ≢ K.Empty) × (answer ≡ taken) × (new.seen ≡ old.seen))
       ⊎ ((taken ≡ K.Empty) × (((answer ≡ K.Empty) × IsAtNewest old new) ⊎ ((answer ≡ K.Busy) × IsBehind old new)))
@@ -220,14 +245,14 @@ module _ {T : Type 0} where
     pub then : LooksAgain taken answer old new
 
   -- A take from the oldest generation that has a payload: from the newest where each older one was found empty. The
-  -- handle may then leave some of those
+  -- handle then leaves some that have left their places
   pub record TakesOldest (answer : Taken T) (old new : Generations T) : Type 0 where
     pub later : IsLater old new
     pub number : new.number ≡ old.number
     pub found : Option (Taken T)
-    pub looked : List (PayHeld T)
+    pub looked : List (HeldIn T)
     pub older : TakesFirst found old.older looked
-    pub left : IsPartOf new.older looked
+    pub left : LeavesGone new.seen looked new.older
     pub newest : ((found ≡ Some answer) × (new.newest ≡ old.newest))
         ⊎ ((found ≡ None)
         × ((mid : Generations T) × IsLater old mid × (mid.newest ≡ old.newest) × TakesNewest answer mid new))
@@ -249,9 +274,9 @@ module _ {T : Type 0} where
     pub closes : PayCloses queue h.pass others payloads
 
   -- what such closes returned, one after the other
-  abbrev pub ClosesEach : List (PayHeld T) → List T → Type 0
+  abbrev pub ClosesEach : List (HeldIn T) → List T → Type 0
   ClosesEach [] payloads = payloads ≡ []
-  ClosesEach (h ∷ hs) payloads = (first : List T) × (rest : List T) × (payloads ≡ first ++ rest) × WereLeft h first
+  ClosesEach (h ∷ hs) payloads = (first : List T) × (rest : List T) × (payloads ≡ first ++ rest) × WereLeft h.held first
       × ClosesEach hs rest
 
   -- What a close returned by its last handle: the handle followed others to the generation that was the newest of the

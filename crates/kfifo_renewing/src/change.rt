@@ -2,6 +2,8 @@
 ghost use Rattle.atomic_table.specs.Seated.{TableId, table_id_coded};
 ghost use base.Fml.{ftrue};
 
+use kfifo_machine::Event;
+use std::collections::LinkedList;
 use std::marker::Model;
 
 /// The queue of a generation, by its table.
@@ -13,14 +15,22 @@ impl Model for Made {
     ghost also_owns = { λ m. ftrue };
 }
 
+/// What the pass of a handle had seen when the handle looked which generation is the newest.
+pub struct Sight {
+    /// The thread of the pass.
+    pub thread: u32,
+    /// The beginning of the schedule of its generation that it had seen.
+    pub seen: LinkedList<Event>,
+}
+
 /// An entry of the history of a queue's generations.
 pub enum Change {
     /// A generation was made.
     Made(Made),
     /// The generation with this number became the newest.
     Newest(u32),
-    /// The handle of this thread looked which generation is the newest.
-    Look(u32),
+    /// A handle looked which generation is the newest. Its pass had seen this.
+    Look(Sight),
     /// The generation with this number was put into this place.
     Placed(u32, u32),
     /// The generation with this number went from its place: a handle had found it empty, and it was the newest no more.

@@ -1,6 +1,6 @@
 //! A generation: a queue of payloads, with the passes that wait in it for their threads.
-ghost use Rattle.std.specs.Prelude.{◌≡◌, ◌<◌, ◌≤◌, ◌+◌, ◌++◌, [], ◌∷◌, All, IfOk, IfSome, length, map, vec_capacity};
-ghost use Rattle.kfifo_live.specs.Pass.{IsPassOf};
+ghost use Rattle.std.specs.Prelude.{◌≡◌, ◌<◌, ◌≤◌, ◌+◌, ◌++◌, [], ◌∷◌, All, IfOk, IfSome, length, map, true, vec_capacity};
+ghost use Rattle.kfifo_live.specs.Pass.{HasNoEvent, IsPassOf};
 ghost use Rattle.kfifo_renewing.specs.History.{IsMade};
 ghost use Rattle.kfifo_renewing.specs.Renewing.{Numbered, other_threads, without};
 
@@ -22,20 +22,23 @@ pub struct Sizes {
     pub tokens: u32,
 }
 
-/// A pass that waits for its thread.
+/// A pass that waits for its thread, or was given back by it.
 // Handles of all threads share the passes that wait. What is shared may be read by any thread unless nothing can be.
 #[derive(Drop)]
 pub(crate) struct Waiting<T: Drop> {
     pass: Exclusive<PayPass<T>>,
+    /// Whether its thread has begun no call with it.
+    is_unused: bool,
 }
 
 impl<T: Drop> Waiting<T> {
     /// This pass, which waits.
-    fn new(pass: PayPass<T>) -> Waiting<T>
-        ensures { result.pass.inner ≡ pass }
+    fn new(pass: PayPass<T>, is_unused: bool) -> Waiting<T>
+        ensures { (result.pass.inner ≡ pass) × (result.is_unused ≡ is_unused) }
     {
         Waiting {
             pass: Exclusive::new(pass),
+            is_unused,
         }
     }
 
@@ -43,7 +46,7 @@ impl<T: Drop> Waiting<T> {
     fn into_pass(self) -> PayPass<T>
         ensures { result ≡ self.pass.inner }
     {
-        let Waiting { pass } = self;
+        let Waiting { pass, .. } = self;
         pass.into_inner()
     }
 }
@@ -51,7 +54,8 @@ impl<T: Drop> Waiting<T> {
 impl<T: Drop> Fits for Waiting<T> {
     type Tag = PayQueue<T>;
 
-    ghost fits = { λ queue waiting. IsPassOf queue waiting.pass.inner.pass };
+    ghost fits = { λ queue waiting. IsPassOf queue waiting.pass.inner.pass
+        × (waiting.is_unused ≡ true → HasNoEvent waiting.pass.inner.pass) };
 }
 
 /// A queue of payloads with its number and what it says of the next one, the passes that wait in it, and how many
@@ -87,12 +91,12 @@ fn seat_all<T: Drop>(
     queue: &PayQueue<T>,
     passes: Vec<PayPass<T>>,
 ) -> Result<Vec<Counted<Option<Waiting<T>>>>, AllocError>
-    requires { All (λ p. IsPassOf queue.now p.pass) passes.items }
+    requires { All (λ p. IsPassOf queue.now p.pass × HasNoEvent p.pass) passes.items }
     ensures { IfOk result (λ waiting. All (λ q. q ≡ queue.now) waiting.items) }
 {
     let mut waiting = Vec::with_capacity(alloc, passes.len())?;
     for pass in passes {
-        let waits = Waiting::new(pass);
+        let waits = Waiting::new(pass, true);
         waiting.push(Counted::new(Some(waits), queue))?;
     }
     Ok(waiting)
@@ -145,7 +149,7 @@ impl<T: Drop> Generation<T> {
         next: Next,
         history: History,
     ) -> Result<Generation<T>, AllocError>
-        requires passes { All (λ p. IsPassOf queue p.pass) passes.items }
+        requires passes { All (λ p. IsPassOf queue p.pass × HasNoEvent p.pass) passes.items }
         requires number { IsMade history.log next.number queue.table × (next.book ≡ history.book) }
         ensures { IfOk result (λ g. (g.queue ≡ queue) × (g.number ≡ next.number) × (g.book ≡ history.book)) }
     {
@@ -190,9 +194,9 @@ impl<T: Drop> Generation<T> {
         &self.history
     }
 
-    /// The pass of this thread, unless its thread has it already.
+    /// The pass of this thread, unless its thread has it already, or has given it back.
     pub(crate) fn take_pass(&self, thread: u32) -> Option<PayPass<T>>
-        ensures { IfSome result (λ p. IsPassOf self.now.queue p.pass) }
+        ensures { IfSome result (λ p. IsPassOf self.now.queue p.pass × HasNoEvent p.pass) }
     {
         let place = self.waiting.get(thread as usize)?;
         let (found, claim) = place.turn(FREE, TAKEN);
@@ -201,12 +205,20 @@ impl<T: Drop> Generation<T> {
             return None;
         }
         let waiting = claim.put(None, FREE)?;
-        Some(waiting.into_pass())
+        let is_unused = waiting.is_unused;
+        let pass = waiting.into_pass();
+        if is_unused {
+            return Some(pass);
+        }
+        self.give_back(thread, pass, false);
+        None
     }
 
-    /// Lets the pass of this thread wait here again.
-    pub(crate) fn give_back(&self, thread: u32, pass: PayPass<T>)
-        requires { IsPassOf self.now.queue pass.pass }
+    /// Gives the pass of this thread back, which takes it again only where it is unused: where its thread has begun no
+    /// call with it.
+    pub(crate) fn give_back(&self, thread: u32, pass: PayPass<T>, is_unused: bool)
+        requires of { IsPassOf self.now.queue pass.pass }
+        requires unused { is_unused ≡ true → HasNoEvent pass.pass }
     {
         let Some(place) = self.waiting.get(thread as usize) else {
             return;
@@ -216,7 +228,7 @@ impl<T: Drop> Generation<T> {
             claim.done();
             return;
         }
-        let _ = claim.put(Some(Waiting::new(pass)), FREE);
+        let _ = claim.put(Some(Waiting::new(pass, is_unused)), FREE);
     }
 
     /// One handle more gives to it.

@@ -1,13 +1,13 @@
 //! Calls of a renewing queue.
-ghost use Rattle.std.specs.Prelude.{◌≡◌, ◌<◌, ◌↔◌, true, List, [], All, IfOk, IfSome, MatchBool, length};
+ghost use Rattle.std.specs.Prelude.{◌≡◌, ◌<◌, ◌≤◌, ◌+◌, ◌↔◌, true, List, [], All, IfOk, IfSome, MatchBool, length};
+ghost use Rattle.std.specs.Prelude.{vec_capacity, vec_len};
 ghost use Rattle.std.specs.Ptr.{as_ptr};
 ghost use mathlib.Core.List.{IsPrefix};
-ghost use Rattle.kfifo_live.specs.Handles.{PayHeld};
-ghost use Rattle.kfifo_live.specs.Pass.{IsPassOf};
+ghost use Rattle.kfifo_live.specs.Pass.{HasNoEvent, IsPassOf};
 ghost use Rattle.kfifo_renewing.specs.History.{HasRisen, WasNewest, place_count};
-ghost use Rattle.kfifo_renewing.specs.Joining.{AreAmong, AreSameParts, HasJoined, IsPart, held_by};
-ghost use Rattle.kfifo_renewing.specs.Renewing.{Follows, Generations, GivesToNewest, HasAll, IsAtNewest, IsBehind, IsLater, LooksAgain};
-ghost use Rattle.kfifo_renewing.specs.Renewing.{IsOpenedAs, IsPartOf, TakesFirst, TakesFromOldest, TakesNewest};
+ghost use Rattle.kfifo_renewing.specs.Joining.{AreAmong, AreSameParts, HasJoined, IsPart, IsUnused, held_by};
+ghost use Rattle.kfifo_renewing.specs.Renewing.{Follows, Generations, GivesToNewest, HasAll, HeldIn, IsAtNewest, IsBehind, IsLater, LooksAgain};
+ghost use Rattle.kfifo_renewing.specs.Renewing.{IsOpenedAs, LeavesGone, TakesFirst, TakesFromOldest, TakesNewest};
 ghost use Rattle.kfifo_renewing.specs.Renewing.{TakesOldest, TriesAgain, TriesToGive, all_of, opening_of, with_older, with_seen};
 
 use crate::generation::Generation;
@@ -125,7 +125,7 @@ impl<T: Drop> RenewingHandle<T> {
         ensures newest { MatchBool result (IsBehind self.old self.new) (IsAtNewest self.old self.new) }
         ensures all { HasAll self.new }
     {
-        let found = self.generation.next().look(self.thread, &mut self.history);
+        let found = self.generation.next().look(&self.newest, &mut self.history);
         found != 0
     }
 
@@ -142,7 +142,7 @@ impl<T: Drop> RenewingHandle<T> {
         ensures of { IfSome result (λ r. IsOpenedAs self.now.opened r.1.held
             × IsPassOf r.0.value.queue r.1.held.pass.pass × (r.0.value.book ≡ self.now.book)) }
         ensures part { IfSome result (λ r. (r.0.value.number ≡ number) × (r.1.number ≡ number)
-            × IsPart history.new.log r.1) }
+            × IsPart history.new.log r.1 × HasNoEvent r.1.held.pass.pass) }
     {
         if !self.shared.places().has(place, number, history) {
             return None;
@@ -168,7 +168,8 @@ impl<T: Drop> RenewingHandle<T> {
         ensures of { IfSome result (λ r. IsOpenedAs self.now.opened r.1.held
             × IsPassOf r.0.value.queue r.1.held.pass.pass × (r.0.value.book ≡ self.now.book)) }
         ensures part { IfSome result (λ r. (r.0.value.number ≡ number) × (r.1.number ≡ number)
-            × IsPart history.new.log r.1 × (self.now.number < number)) }
+            × IsPart history.new.log r.1 × (self.now.number < number)
+            × HasNoEvent r.1.held.pass.pass) }
     {
         let number = u32::try_from(number).ok()?;
         if number <= self.number() {
@@ -192,6 +193,7 @@ impl<T: Drop> RenewingHandle<T> {
         ensures opened { All (λ p. IsOpenedAs self.now.opened p.held) between.new.items }
         ensures parts { All (IsPart history.new.log) between.new.items }
         ensures below { All (λ p. p.number < end) between.new.items }
+        ensures unused { All (IsUnused self.now.number) between.new.items }
         ensures all { result ≡ true → AreAmong self.now.number end between.new.items history.old.log history.new.log }
     {
         let mut number = self.number();
@@ -206,9 +208,11 @@ impl<T: Drop> RenewingHandle<T> {
                 // If it has gone, the next look does not find it.
                 continue;
             };
-            if between.push(joined).is_err() {
+            let Ok(()) = between.reserve(1) else {
+                joined.leave_unused();
                 return false;
-            }
+            };
+            between.push_reserved(joined);
             number = next;
         }
         false
@@ -236,6 +240,8 @@ impl<T: Drop> RenewingHandle<T> {
         };
         let mut between = self.take_spare();
         if !self.enter_below(last, &mut between, &mut history) {
+            leave_unused(&mut between);
+            newest.leave_unused();
             self.spare = between;
             return;
         }
@@ -258,15 +264,16 @@ impl<T: Drop> RenewingHandle<T> {
         requires opened { All (λ p. IsOpenedAs self.old.opened p.held) between.items }
         requires parts { All (IsPart history.now.log) between.items }
         requires below { All (λ p. p.number < generation.value.number) between.items }
+        requires unused { HasNoEvent newest.held.pass.pass × All (IsUnused self.old.number) between.items }
         requires all { AreAmong self.old.number generation.value.number between.items self.old.seen history.now.log }
         ensures { Follows self.old self.new }
     {
-        let Some(more) = between.len().checked_add(1) else {
+        if !make_room(&mut self.older, between.len()) {
+            leave_unused(&mut between);
+            newest.leave_unused();
+            self.spare = between;
             return;
-        };
-        let Ok(()) = self.older.reserve(more) else {
-            return;
-        };
+        }
         self.history.learn(history);
         self.generation = generation;
         let before = replace(&mut self.newest, newest);
@@ -283,7 +290,7 @@ impl<T: Drop> RenewingHandle<T> {
         ensures later { IsLater self.old self.new }
         ensures newest { WasNewest self.new.seen result }
     {
-        let found = self.generation.next().look(self.thread, &mut self.history);
+        let found = self.generation.next().look(&self.newest, &mut self.history);
         // The handle that made it the newest may not have said so yet, and nobody waits for that.
         self.shared
             .numbers()
@@ -295,7 +302,7 @@ impl<T: Drop> RenewingHandle<T> {
     fn leave_gone(&mut self)
         ensures same { self.new ≡ with_older (with_seen self.old self.new.seen) self.new.older }
         ensures later { IsLater self.old self.new }
-        ensures older { IsPartOf self.new.older self.old.older }
+        ensures older { LeavesGone self.new.seen self.old.older self.new.older }
     {
         let mut index = 0;
         while index < self.older.len() {
@@ -390,7 +397,7 @@ impl<T: Drop> RenewingHandle<T> {
     /// Opens the generation after the newest one, unless another handle has done so, or memory or room is missing.
     fn renew(&self) {
         self.shared
-            .renew(&self.generation, self.thread, self.history.again());
+            .renew(&self.generation, &self.newest, self.history.again());
     }
 
     /// Looks at the versions that the newest generation has left, once the handle has made so many gives, and opens the
@@ -473,7 +480,7 @@ impl<T: Drop> RenewingHandle<T> {
         }
         // One reference for the look and the call: else the compiler loads the pointer again after the look.
         let generation: &Generation<T> = &self.generation;
-        if generation.next().look(self.thread, &mut self.history) != 0 {
+        if generation.next().look(&self.newest, &mut self.history) != 0 {
             return self.give_late(payload);
         }
         // The give below then makes no such test, and no call that comes back. Before the look the count of tokens
@@ -492,8 +499,8 @@ impl<T: Drop> RenewingHandle<T> {
     fn take_older(&mut self) -> Option<Taken<T>>
         ensures same { self.new ≡ with_older (with_seen self.old self.new.seen) self.new.older }
         ensures later { IsLater self.old self.new }
-        ensures takes { (looked : List (PayHeld T)) × TakesFirst result self.old.older looked
-            × IsPartOf self.new.older looked }
+        ensures takes { (looked : List (HeldIn T)) × TakesFirst result self.old.older looked
+            × LeavesGone self.new.seen looked self.new.older }
     {
         let taken = self.take_first();
         self.retire_over();
@@ -584,7 +591,7 @@ impl<T: Drop> RenewingHandle<T> {
         ensures { TakesFromOldest result self.old self.new }
     {
         let generation: &Generation<T> = &self.generation;
-        let later = generation.next().look(self.thread, &mut self.history);
+        let later = generation.next().look(&self.newest, &mut self.history);
         // One test for both.
         if later + self.older.len() as u64 != 0 {
             return self.take_late();
@@ -648,6 +655,27 @@ impl<T: Drop> RenewingHandle<T> {
         } = self;
         older.push(newest)?;
         Ok((shared, older))
+    }
+}
+
+/// Makes room for so many generations, and for one besides. Returns whether there is.
+fn make_room<T: Drop>(older: &mut Vec<Leaving<Joined<T>>>, count: usize) -> bool
+    ensures items { older.new.items ≡ older.old.items }
+    ensures room { result ≡ true → vec_len older.new + count + 1 ≤ vec_capacity older.new }
+{
+    let Some(more) = count.checked_add(1) else {
+        return false;
+    };
+    older.reserve(more).is_ok()
+}
+
+/// Leaves these generations, in which their thread has begun no call and which it may join again.
+fn leave_unused<T: Drop>(parts: &mut Vec<Leaving<Joined<T>>>)
+    requires { All (λ p. HasNoEvent p.held.pass.pass) parts.old.items }
+    ensures { parts.new.items ≡ [] }
+{
+    while let Some(part) = parts.pop() {
+        part.leave_unused();
     }
 }
 

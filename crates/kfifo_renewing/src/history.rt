@@ -4,10 +4,12 @@
 ghost use Rattle.std.specs.Prelude.{◌≡◌, ◌≢◌, ◌+◌, ◌<◌, ◌≤◌, ◌^◌, ℕ, IfOk, IfSome, true};
 ghost use Rattle.logbook.specs.Pages.{may_make, may_write, nib};
 ghost use mathlib.Core.List.{IsPrefix};
-ghost use Rattle.kfifo_renewing.specs.History.{AreLabels, Finds, HasRisen, IsMade, IsPlaced, WasNewest, key_of, place_count};
+ghost use Rattle.kfifo_renewing.specs.History.{AreLabels, Finds, HasRisen, IsMade, IsPlaced, WasNewest, key_of, place_count, sight_of};
 
 use crate::change::Change;
+use crate::joined::Joined;
 use crate::label::{Label, PLACES, label_all};
+use crate::leaving::Leaving;
 use kfifo_live::PayQueue;
 use logbook::{Gain, Offer, Opening, Pen, Plain, Play, Rule, Seen, Start, Word};
 use std::alloc::{AllocError, Global};
@@ -49,16 +51,29 @@ impl Gain<Change, u64> for NoGain {
     ghost after = { λ names about answer. ftrue };
 }
 
-/// A look at the word of a generation, by the thread that looks.
-pub struct Looking;
+/// A step of which its number tells all.
+pub struct Naming;
 
-impl Plain<u32, Change, u64> for Looking {
+impl Plain<u32, Change, u64> for Naming {
     ghost use Rattle.std.specs.Prelude.{None};
     ghost use Rattle.kfifo_renewing.specs.declared.change.Change.TheVariants as C;
 
-    ghost ask = { λ thread. C.Look thread };
+    ghost ask = { λ number. C.Newest number };
 
-    ghost state = { λ thread. None };
+    ghost state = { λ number. None };
+}
+
+/// A look at the word of a generation, by the part of a handle in its newest one.
+pub struct Looking;
+
+impl<T: Drop> Plain<Leaving<Joined<T>>, Change, u64> for Looking {
+    ghost use Rattle.std.specs.Prelude.{None};
+    ghost use Rattle.kfifo_renewing.specs.declared.change.Change.TheVariants as C;
+    ghost use Rattle.kfifo_renewing.specs.History.{sight_of};
+
+    ghost ask = { λ part. C.Look (sight_of part.held.pass.pass) };
+
+    ghost state = { λ part. None };
 }
 
 impl Play<Change, u64> for Looking {
@@ -192,20 +207,20 @@ impl Next {
         self.number
     }
 
-    /// The number of a later generation, or 0 while this one is the newest, as one load of this thread finds it, which
-    /// is a look.
+    /// The number of a later generation, or 0 while this one is the newest, as one load finds it, which is a look by
+    /// this part.
     #[inline(always)]
-    pub(crate) fn look(&self, thread: u32, history: &mut History) -> u64
+    pub(crate) fn look<T: Drop>(&self, part: &Leaving<Joined<T>>, history: &mut History) -> u64
         requires book { history.old.book ≡ self.now.book }
         requires newest { WasNewest history.old.log self.now.number }
         ensures book { history.new.book ≡ history.old.book }
-        ensures finds { Finds thread self.now.number result history.old.log history.new.log }
+        ensures finds { Finds (sight_of part.now.held.pass.pass) self.now.number result history.old.log history.new.log }
     {
         let mut offer: Offer<Change, u64, HistoryRule, NoGain> = history.plain::<
             NoGain,
-            u32,
+            Leaving<Joined<T>>,
             Looking,
-        >(&thread);
+        >(part);
         self.word.load::<Looking, NoGain>(history, &mut offer)
     }
 
@@ -224,7 +239,7 @@ impl Next {
         let mut offer: Offer<Change, u64, HistoryRule, NoGain> = history.plain::<
             NoGain,
             u32,
-            Looking,
+            Naming,
         >(&number);
         let found = self
             .word

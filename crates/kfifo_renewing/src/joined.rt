@@ -1,7 +1,7 @@
 //! A generation that a handle has joined.
 ghost use Rattle.std.specs.Prelude.{◌≡◌, IfSome, true};
 ghost use Rattle.kfifo_live.specs.Handles.{PicksUpAndGives};
-ghost use Rattle.kfifo_live.specs.Pass.{IsPassOf};
+ghost use Rattle.kfifo_live.specs.Pass.{HasNoEvent, IsPassOf};
 ghost use Rattle.kfifo_live.specs.Promise.{KeepsPromise};
 ghost use Rattle.kfifo_renewing.specs.Joining.{FoundEmpty, IsSamePart, PartView};
 ghost use Rattle.kfifo_renewing.specs.Renewing.{TakesThere};
@@ -42,13 +42,14 @@ impl<T: Drop> Model for Joined<T> {
 }
 
 impl<T: Drop> Joined<T> {
-    /// The handle of this thread in a generation, unless its thread has joined it already.
+    /// The handle of this thread in a generation, unless its thread has joined it before.
     pub(crate) fn join(
         generation: Arc<Generation<T>, Global>,
         place: usize,
         thread: u32,
     ) -> Option<Leaving<Joined<T>>>
-        ensures of { IfSome result (λ p. IsPassOf generation.value.queue p.held.pass.pass) }
+        ensures of { IfSome result (λ p. IsPassOf generation.value.queue p.held.pass.pass
+            × HasNoEvent p.held.pass.pass) }
         ensures at { IfSome result (λ p. (p.number ≡ generation.value.number) × (p.place ≡ place)) }
     {
         let pass = generation.take_pass(thread)?;
@@ -89,16 +90,27 @@ impl<T: Drop> Joined<T> {
 }
 
 impl<T: Drop> Leave for Joined<T> {
-    /// Leaves the generation: the pass of this thread waits there again.
+    /// Leaves the generation for good: its pass is given back.
     fn leave(mut self) {
         self.stop_giving();
         let thread = self.thread;
         let (generation, pass) = self.into_parts();
-        generation.give_back(thread, pass);
+        generation.give_back(thread, pass, false);
     }
 }
 
 impl<T: Drop> Leaving<Joined<T>> {
+    /// Leaves the generation, in which its thread has begun no call and which it may join again.
+    pub(crate) fn leave_unused(self)
+        requires { HasNoEvent self.held.pass.pass }
+    {
+        let mut part = self.into_part();
+        part.stop_giving();
+        let thread = part.thread;
+        let (generation, pass) = part.into_parts();
+        generation.give_back(thread, pass, true);
+    }
+
     /// The place of the generation.
     pub(crate) fn place(&self) -> usize
         ensures { result ≡ self.now.place }

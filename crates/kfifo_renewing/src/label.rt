@@ -7,7 +7,7 @@ ghost use Rattle.kfifo_renewing.specs.History.{place_count};
 ghost use Rattle.kfifo_renewing.specs.Joining.{MayGo};
 
 use crate::change::Change;
-use crate::history::{Emptying, Filling, History, HistoryRule, Looking, LookingThere, NoGain};
+use crate::history::{Emptying, Filling, History, HistoryRule, LookingThere, Naming, NoGain};
 use logbook::{Offer, Pen, Pens, Word};
 use std::alloc::{AllocError, Global};
 use std::marker::Model;
@@ -56,7 +56,7 @@ impl Label {
         let mut offer: Offer<Change, u64, HistoryRule, NoGain> = history.plain::<
             NoGain,
             u32,
-            Looking,
+            Naming,
         >(&self.place);
         let found = self.word.load::<LookingThere, NoGain>(history, &mut offer);
         number_in(found)
@@ -71,7 +71,7 @@ impl Label {
         let mut offer: Offer<Change, u64, HistoryRule, NoGain> = history.plain::<
             NoGain,
             u32,
-            Looking,
+            Naming,
         >(&number);
         let mut pen = history.no_pen();
         let found = self
@@ -98,7 +98,7 @@ impl Label {
         let mut offer: Offer<Change, u64, HistoryRule, NoGain> = history.plain::<
             NoGain,
             u32,
-            Looking,
+            Naming,
         >(&number);
         let mut pen = history.no_pen();
         self.word
@@ -122,7 +122,7 @@ impl Label {
         let mut offer: Offer<Change, u64, HistoryRule, NoGain> = history.plain::<
             NoGain,
             u32,
-            Looking,
+            Naming,
         >(&number);
         self.word
             .compare_exchange::<Emptying, NoGain>(

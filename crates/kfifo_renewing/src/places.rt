@@ -196,7 +196,7 @@ impl<T: Drop> Places<T> {
     ) -> Option<(usize, u32)>
         requires book { history.old.book ≡ self.now.history.book }
         ensures later { (history.new.book ≡ history.old.book) × IsPrefix history.old.log history.new.log }
-        ensures below { IfSome result (λ r. (r.0 < place_count) × (r.1 < end)) }
+        ensures between { IfSome result (λ r. (r.0 < place_count) × (number < r.1) × (r.1 < end)) }
     {
         let mut next = None;
         let mut least = end;

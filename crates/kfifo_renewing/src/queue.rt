@@ -1,7 +1,7 @@
 //! What the handles of a renewing queue share, its opening and its end.
 ghost use Rattle.std.specs.Prelude.{◌≡◌, ◌<◌, ◌≤◌, ◌++◌, ◌⊎◌, ◌↔◌, All, IfOk, IfSome, IsErrOf, List, [], ◌∷◌};
 ghost use Rattle.std.specs.Prelude.{length, map};
-ghost use Rattle.kfifo_live.specs.Pass.{IsPassOf};
+ghost use Rattle.kfifo_live.specs.Pass.{HasNoEvent, IsPassOf};
 ghost use Rattle.kfifo_live.specs.Payloads.{pay_opening};
 ghost use Rattle.kfifo_live.specs.Schedule.{count_up};
 ghost use Rattle.kfifo_live.specs.declared.fault.OpenFault.TheVariants.{ThreadsOutOfRange, TokensOutOfRange};
@@ -62,7 +62,7 @@ fn open_queue<T: Drop>(
     sizes: &Sizes,
 ) -> Result<(PayQueue<T>, Vec<PayPass<T>>), OpenFault>
     ensures opened { IfOk result (λ r. r.0.opened ≡ opening_of sizes.now) }
-    ensures of { IfOk result (λ r. All (λ p. IsPassOf r.0 p.pass) r.1.items) }
+    ensures of { IfOk result (λ r. All (λ p. IsPassOf r.0 p.pass × HasNoEvent p.pass) r.1.items) }
 {
     let opened = PayQueue::open_with_pool(alloc, sizes.shape, sizes.threads, sizes.tokens)?;
     Ok(opened)
@@ -122,14 +122,19 @@ impl<T: Drop> Shared<T> {
         Some((generation, pen))
     }
 
-    /// Opens the generation after this one, which was the newest, by the handle of this thread. It does not where
+    /// Opens the generation after this one, which was the newest, by the handle with this part. It does not where
     /// another handle has opened that, memory or room is missing, or the queue opens none.
-    pub(crate) fn renew(&self, newest: &Generation<T>, thread: u32, mut history: History)
+    pub(crate) fn renew(
+        &self,
+        newest: &Generation<T>,
+        part: &Leaving<Joined<T>>,
+        mut history: History,
+    )
         requires books { (newest.now.book ≡ self.now.history.book) × (history.book ≡ self.now.history.book) }
         requires newest { WasNewest history.log newest.now.number }
     {
         let seen = history.again();
-        let is_newest = newest.next().look(thread, &mut history) == 0;
+        let is_newest = newest.next().look(part, &mut history) == 0;
         if !self.renews() || !is_newest || !self.places.has_room() {
             return;
         }

@@ -1,7 +1,7 @@
 -- The next pass is of the queue, and its place says so.
 use Rattle.std.proofs.Common.{◌≡◌, refl, sym, subst, All}
 use Rattle.std.proofs.lemmas.List.Elements.{All-push}
-use Rattle.kfifo_live.specs.Pass.{IsPassOf, OpenQueue}
+use Rattle.kfifo_live.specs.Pass.{HasNoEvent, IsPassOf, OpenQueue}
 use Rattle.kfifo_live.specs.Payloads.{PayPassView}
 use Rattle.kfifo_renewing.proofs.Parts.{all-next}
 use Rattle.kfifo_renewing.proofs.generation.seat_all.Goals as goal
@@ -9,7 +9,7 @@ use Rattle.kfifo_renewing.proofs.generation.seat_all.Goals as goal
 pub loop-pass-preserved : goal.loop-pass-preserved
 loop-pass-preserved g c =
     let i = c.loop-pass.invariant in
-    let next = all-next (λ (p : PayPassView g.row.T.Denot). IsPassOf c.args.queue.now p.pass) c.in-Some.pass
+    let next = all-next (λ (p : PayPassView g.row.T.Denot). IsPassOf c.args.queue.now p.pass × HasNoEvent p.pass) c.in-Some.pass
     c.next.new.self.rest.items c.loop-pass.pass-iterator.rest.items c.in-Some.ensures.steps.0 i.rest in
     record {
       same = refl;

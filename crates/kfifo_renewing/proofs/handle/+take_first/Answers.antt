@@ -1,7 +1,7 @@
 -- The first of the generations is looked into, and where it is empty, the others.
-use Rattle.std.proofs.Common.{◌∷◌, List, Some, inl, inr, refl, sym, subst, rules}
+use Rattle.std.proofs.Common.{◌∷◌, List, Some, ap, inl, inr, refl, sym, ◌∙◌, subst, rules}
 use Rattle.kfifo_live.specs.declared.payload.Taken.TheVariants as K
-use Rattle.kfifo_renewing.specs.Joining.{AreSameParts, IsSamePart, PartView, held_by}
+use Rattle.kfifo_renewing.specs.Joining.{AreSameParts, IsSamePart, PartView, held_by, held_in}
 use Rattle.kfifo_renewing.specs.Renewing.{TakesFirst, TakesThere}
 use Rattle.kfifo_renewing.proofs.Joining.{same-refl}
 use Rattle.kfifo_renewing.proofs.handle.+take_first.Goals as goal
@@ -33,8 +33,13 @@ returns-in-Empty-clause-takes g t c =
     subst (λ (p : PartView T). TakesThere K.Empty c.in_ok-generations.first.now.held p.held) (sym c.set_over.ensures)
     (subst (λ t. TakesThere t c.in_ok-generations.first.now.held c.take_here.new.self.held) c.in-Empty.is c.take_here.ensures.takes) in
     subst (λ (l : List (PartView T)). TakesFirst c.take_first.result (held_by l) (held_by (after ∷ c.take_first.new.generations)))
-    (sym c.in_ok-generations.ensures.cases.0)
-    (after.held, held_by c.take_first.new.generations, refl, inl (took, c.take_first.ensures.takes))
+    (sym c.in_ok-generations.ensures.cases.0) (
+      held_in after,
+      held_by c.take_first.new.generations,
+      refl,
+      ap (λ (p : PartView T). p.number) c.set_over.ensures ∙ c.take_here.ensures.same.0,
+      inl (took, c.take_first.ensures.takes),
+    )
 
 pub returns-in_default-clause-same : goal.returns-in_default-clause-same
 returns-in_default-clause-same g t c =
@@ -46,8 +51,9 @@ returns-in_default-clause-takes g t c =
     let T = g.row.T.Denot in
     subst (λ (l : List (PartView T)). TakesFirst (Some c.take_here.result) (held_by l) (held_by (c.take_here.new.self ∷ c.in_ok-generations.rest.now)))
     (sym c.in_ok-generations.ensures.cases.0) (
-      c.take_here.new.self.held,
+      held_in c.take_here.new.self,
       held_by c.in_ok-generations.rest.now,
       refl,
+      c.take_here.ensures.same.0,
       inr (c.take_here.result, refl, search rules, c.take_here.ensures.takes, refl),
     )

@@ -1,8 +1,7 @@
 -- The generations of the last handle are closed.
 use Rattle.std.proofs.Common.{All, List, sym, ap, ◌∙◌, subst}
-use Rattle.kfifo_live.specs.Handles.{PayHeld}
 use Rattle.kfifo_renewing.specs.Joining.{PartView}
-use Rattle.kfifo_renewing.specs.Renewing.{ClosesEach, IsOpenedAs, opening_of}
+use Rattle.kfifo_renewing.specs.Renewing.{ClosesEach, HeldIn, IsOpenedAs, opening_of}
 use Rattle.kfifo_renewing.specs.declared.generation.Sizes.{Sizes}
 use Rattle.kfifo_renewing.specs.declared.places.Lineage.{Lineage}
 use Rattle.kfifo_renewing.proofs.queue.close.Goals as goal
@@ -21,7 +20,7 @@ returns g c = (
     c.generations.ensures.follows,
     c.in-Some-generations.ensures.newest,
     c.generations.ensures.all,
-    subst (λ (hs : List (PayHeld g.row.T.Denot)). ClosesEach hs c.in_ok-left.left.items) c.in_ok-shared.ensures.joined
+    subst (λ (hs : List (HeldIn g.row.T.Denot)). ClosesEach hs c.in_ok-left.left.items) c.in_ok-shared.ensures.joined
         c.in_ok-left.ensures,
   ),
 )

@@ -2,9 +2,8 @@
 use Rattle.std.proofs.Common.{List, [], ◌∷◌, ◌++◌, append_assoc, arith, refl, sym, ap, ◌∙◌, subst}
 use Rattle.std.proofs.lemmas.List.{append-nil, map-append}
 use Rattle.std.proofs.lemmas.List.{nil_from_length}
-use Rattle.kfifo_live.specs.Handles.{PayHeld}
-use Rattle.kfifo_renewing.specs.Joining.{PartView, held_by}
-use Rattle.kfifo_renewing.specs.Renewing.{ClosesEach, IsOpenedAs, opening_of}
+use Rattle.kfifo_renewing.specs.Joining.{PartView, held_by, held_in}
+use Rattle.kfifo_renewing.specs.Renewing.{ClosesEach, HeldIn, IsOpenedAs, opening_of}
 use Rattle.kfifo_renewing.proofs.Closing.{closes-more}
 use Rattle.kfifo_renewing.proofs.Parts.{all-next}
 use Rattle.kfifo_renewing.proofs.queue.close_each.Goals as goal
@@ -23,10 +22,10 @@ loop-joined-preserved g c =
       left = (
         done ++ here ∷ [],
         i.left.1 ∙ ap (λ l. done ++ l) next ∙ sym (append_assoc done (here ∷ []) c.next.new.self.rest.items),
-        subst (λ (hs : List (PayHeld T)). ClosesEach hs c.append.new.self.items)
-            (sym (map-append (λ (p : PartView T). p.held) done (here ∷ [])))
-            (subst (ClosesEach (held_by done ++ here.held ∷ [])) (sym c.in_ok-append.ensures.items)
-            (closes-more (held_by done) c.loop-joined.left.items here.held c.in_ok-values.values.items i.left.2 c.in_ok-values.ensures)),
+        subst (λ (hs : List (HeldIn T)). ClosesEach hs c.append.new.self.items)
+            (sym (map-append (λ (p : PartView T). held_in p) done (here ∷ [])))
+            (subst (ClosesEach (held_by done ++ held_in here ∷ [])) (sym c.in_ok-append.ensures.items)
+            (closes-more (held_by done) c.loop-joined.left.items (held_in here) c.in_ok-values.values.items i.left.2 c.in_ok-values.ensures)),
       );
     }
 

@@ -25,4 +25,5 @@ returns-clause-part g c =
         placed = subst (λ n. IsPlaced log n joined.place) (sym same) (subst (IsPlaced log c.args.number) (sym c.in_ok-joined.ensures.at.1)
             (contains-later c.has.new.history.log log (C.Placed c.args.number c.args.place) c.learn.ensures.2 c.if-not-has.ensures.finds));
       },
+      c.in_ok-joined.ensures.of.1,
     )

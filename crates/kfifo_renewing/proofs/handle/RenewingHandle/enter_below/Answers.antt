@@ -1,12 +1,11 @@
 -- One generation more is entered. At the end each place was looked at.
-use Rattle.std.proofs.Common.{◌<◌, ◌⊎◌, All, List, [], ◌∷◌, arith, is_ok, refl, sym, ◌∙◌, subst}
-use Rattle.std.proofs.lemmas.List.Elements.{All-cons, All-nil}
+use Rattle.std.proofs.Common.{◌<◌, ◌⊎◌, All, List, [], ◌∷◌, ◌++◌, ap, arith, refl, sym, ◌∙◌, subst}
+use Rattle.std.proofs.lemmas.List.Elements.{All-push}
 use Rattle.kfifo_renewing.specs.History.{HasLeft}
-use Rattle.kfifo_renewing.specs.Joining.{HasNumber, IsPart, PartView}
+use Rattle.kfifo_renewing.specs.Joining.{HasNumber, IsPart, IsUnused, PartView}
 use Rattle.kfifo_renewing.specs.Renewing.{IsOpenedAs}
 use Rattle.kfifo_renewing.proofs.Histories.{prefix-trans, was-later}
 use Rattle.kfifo_renewing.proofs.Joining.{parts-later}
-use Rattle.kfifo_renewing.proofs.Parts.{all-cond}
 use Rattle.kfifo_renewing.proofs.handle.RenewingHandle.enter_below.Goals as goal
 
 pub returns-in_default-clause-parts : goal.returns-in_default-clause-parts
@@ -40,18 +39,39 @@ loop-preserved-in_default-enter g c =
       opened = i.opened;
       parts = parts-later first log c.loop.between.items more i.parts;
       below = i.below;
+      from = i.from;
+      unused = i.unused;
     }
 
-pub returns-then-is_err-clause-parts : goal.returns-then-is_err-clause-parts
-returns-then-is_err-clause-parts g c =
+pub returns-in_default-reserve-clause-later : goal.returns-in_default-reserve-clause-later
+returns-in_default-reserve-clause-later g c =
+    let i = c.loop.invariant in
+    let first = c.loop.history.log in
+    let mid = c.next_after.new.history.log in
+    let log = c.enter.new.history.log in (
+      c.enter.ensures.later.0 ∙ c.next_after.ensures.later.0 ∙ i.book,
+      prefix-trans c.args.history.now.log first log i.more (prefix-trans first mid log c.next_after.ensures.later.1 c.enter.ensures.later.1),
+    )
+
+pub returns-in_default-reserve-clause-opened : goal.returns-in_default-reserve-clause-opened
+returns-in_default-reserve-clause-opened g c =
+    subst (All (λ (p : PartView g.row.T.Denot). IsOpenedAs c.args.self.now.opened p.held)) (sym c.reserve.ensures.items) c.loop.invariant.opened
+
+pub returns-in_default-reserve-clause-parts : goal.returns-in_default-reserve-clause-parts
+returns-in_default-reserve-clause-parts g c =
     let T = g.row.T.Denot in
     let first = c.loop.history.log in
     let log = c.enter.new.history.log in
-    let P : PartView T → Type 0 = IsPart log in
     let more = prefix-trans first c.next_after.new.history.log log c.next_after.ensures.later.1 c.enter.ensures.later.1 in
-    subst (All P) (sym c.push.ensures.items) (all-cond P (is_ok c.push.result) c.loop.between.items (c.in-Some-enter.joined ∷ [])
-    (parts-later first log c.loop.between.items more c.loop.invariant.parts)
-    (All-cons P c.in-Some-enter.joined [] c.in-Some-enter.ensures.part.2 (All-nil P)))
+    subst (All (IsPart {T = T} log)) (sym c.reserve.ensures.items) (parts-later first log c.loop.between.items more c.loop.invariant.parts)
+
+pub returns-in_default-reserve-clause-below : goal.returns-in_default-reserve-clause-below
+returns-in_default-reserve-clause-below g c =
+    subst (All (λ (p : PartView g.row.T.Denot). p.number < c.args.end)) (sym c.reserve.ensures.items) c.loop.invariant.below
+
+pub returns-in_default-reserve-clause-unused : goal.returns-in_default-reserve-clause-unused
+returns-in_default-reserve-clause-unused g c =
+    subst (All (IsUnused {T = g.row.T.Denot} c.args.self.now.number)) (sym c.reserve.ensures.items) c.loop.invariant.unused
 
 pub loop-preserved : goal.loop-preserved
 loop-preserved g c =
@@ -62,10 +82,11 @@ loop-preserved g c =
     let log = c.enter.new.history.log in
     let joined = c.in-Some-enter.joined in
     let entered = c.in-Some-enter.ensures in
+    let above = c.in-Some.ensures.between.1 in
     let more = prefix-trans first mid log c.next_after.ensures.later.1 c.enter.ensures.later.1 in
-    let each : (P : PartView T → Type 0) → All P c.loop.between.items → P joined → All P c.push.new.self.items = λ P before this.
-    subst (All P) (sym c.push.ensures.items) (all-cond P (is_ok c.push.result) c.loop.between.items (joined ∷ []) before
-    (All-cons P joined [] this (All-nil P))) in record {
+    let each : (P : PartView T → Type 0) → All P c.loop.between.items → P joined → All P c.push_reserved.new.self.items = λ P before this.
+    subst (All P) (sym (c.push_reserved.ensures.items ∙ ap (λ l. l ++ joined ∷ []) c.reserve.ensures.items))
+    (All-push P c.loop.between.items joined before this) in record {
       self = refl;
       end = refl;
       book = c.enter.ensures.later.0 ∙ c.next_after.ensures.later.0 ∙ i.book;
@@ -73,5 +94,7 @@ loop-preserved g c =
       opened = each (λ (p : PartView T). IsOpenedAs c.args.self.now.opened p.held) i.opened entered.of.0;
       parts = each (IsPart log) (parts-later first log c.loop.between.items more i.parts) entered.part.2;
       below = each (λ (p : PartView T). p.number < c.args.end) i.below
-          (omega (arith, entered.part.1, c.in-Some.ensures.below.1));
+          (omega (arith, entered.part.1, c.in-Some.ensures.between.2));
+      from = let low = i.from in omega (arith, low, above);
+      unused = each (IsUnused c.args.self.now.number) i.unused (let low = i.from in omega (arith, low, above, entered.part.1), entered.part.3);
     }

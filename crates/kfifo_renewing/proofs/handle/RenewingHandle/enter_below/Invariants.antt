@@ -1,6 +1,6 @@
-use Rattle.std.proofs.Common.{◌≡◌, ◌<◌, All}
+use Rattle.std.proofs.Common.{◌≡◌, ◌<◌, ◌≤◌, All}
 use mathlib.Core.List.{IsPrefix}
-use Rattle.kfifo_renewing.specs.Joining.{IsPart}
+use Rattle.kfifo_renewing.specs.Joining.{IsPart, IsUnused}
 use Rattle.kfifo_renewing.specs.Renewing.{IsOpenedAs}
 use Rattle.kfifo_renewing.proofs.handle.RenewingHandle.enter_below.Given as goal
 
@@ -14,4 +14,6 @@ invariant-loop g l = record {
   opened : All (λ p. IsOpenedAs l.fn.self.opened p.held) l.between.items;
   parts : All (IsPart l.history.log) l.between.items;
   below : All (λ p. p.number < l.fn.end) l.between.items;
+  from : l.fn.self.number ≤ l.number;
+  unused : All (IsUnused l.fn.self.number) l.between.items;
 }

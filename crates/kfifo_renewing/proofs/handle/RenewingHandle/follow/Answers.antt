@@ -2,7 +2,7 @@
 use Rattle.std.proofs.Common.{ap, ◌∙◌, subst, true, ◌≡◌}
 use Rattle.kfifo_live.specs.Handles.{PayHeld}
 use Rattle.kfifo_renewing.specs.Joining.{PartView}
-use Rattle.kfifo_renewing.specs.Renewing.{Generations, IsLater, IsPartOf, with_newest, with_older, with_seen}
+use Rattle.kfifo_renewing.specs.Renewing.{Generations, IsLater, LeavesGone, with_newest, with_older, with_seen}
 use Rattle.kfifo_renewing.proofs.Following.{both-before, follows-less, follows-seen, follows-trans}
 use Rattle.kfifo_renewing.proofs.handle.RenewingHandle.follow.Goals as goal
 
@@ -17,8 +17,8 @@ loop-init g c =
     let later : IsLater old mid = subst (λ (h : Generations T). IsLater h mid) before c.leave_gone.ensures.later in
     let same : mid ≡ with_older (with_seen old mid.seen) mid.older =
     subst (λ (h : Generations T). mid ≡ with_older (with_seen h mid.seen) mid.older) before c.leave_gone.ensures.same in
-    let first = follows-less old mid later (subst (λ (h : Generations T). IsPartOf mid.older h.older) before c.leave_gone.ensures.older)
-    (ap (λ (h : Generations T). h.newest) same) in
+    let first = follows-less old mid later (subst (λ (h : Generations T). LeavesGone mid.seen h.older mid.older) before c.leave_gone.ensures.older)
+    (ap (λ (h : Generations T). h.newest) same) (ap (λ (h : Generations T). h.number) same) in
     follows-trans old mid c.retire_others.new.self first
     (follows-seen mid c.retire_others.new.self c.retire_others.new.self.seen c.retire_others.ensures.same c.retire_others.ensures.later)
 
@@ -29,7 +29,7 @@ loop-preserved g c =
 pub returns-then-try_to_follow : goal.returns-then-try_to_follow
 returns-then-try_to_follow g c = record {
   follows = follows-trans c.args.self.now c.loop.self c.try_to_follow.new.self c.loop.invariant c.try_to_follow.ensures.follows;
-  newest = both-before c.args.self.now c.loop.self c.try_to_follow.new.self c.loop.invariant.0.seen true
+  newest = both-before c.args.self.now c.loop.self c.try_to_follow.new.self c.loop.invariant.later.seen true
       c.if-try_to_follow.ensures.newest;
   all = c.if-try_to_follow.ensures.all;
 }
@@ -38,7 +38,7 @@ pub returns : goal.returns
 returns g c =
     let new = c.try_to_follow-2.new.self in record {
       follows = follows-trans c.args.self.now c.loop.self new c.loop.invariant c.try_to_follow-2.ensures.follows;
-      newest = both-before c.args.self.now c.loop.self new c.loop.invariant.0.seen c.try_to_follow-2.result
+      newest = both-before c.args.self.now c.loop.self new c.loop.invariant.later.seen c.try_to_follow-2.result
           c.try_to_follow-2.ensures.newest;
       all = c.try_to_follow-2.ensures.all;
     }

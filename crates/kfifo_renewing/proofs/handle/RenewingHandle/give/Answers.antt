@@ -3,7 +3,7 @@ use Rattle.std.proofs.Common.{◌≡◌, inl, inr, refl, sym, ap, ◌∙◌, sub
 use Rattle.kfifo_live.specs.declared.payload.Given.TheVariants as G
 use Rattle.kfifo_live.specs.Handles.{PayHeld, PicksUpAndGives}
 use Rattle.kfifo_live.specs.Pass.{IsSamePass}
-use Rattle.kfifo_renewing.specs.History.{Finds}
+use Rattle.kfifo_renewing.specs.History.{Finds, sight_of}
 use Rattle.kfifo_renewing.specs.Renewing.{Generations, GivesToNewest, Numbered, opening_of, TriesAgain, TriesToGive, with_newest, with_seen}
 use Rattle.kfifo_renewing.proofs.Joining.{numbered-by}
 use Rattle.kfifo_renewing.proofs.Following.{Looked, joins-after, looked-follows, same-but-seen}
@@ -18,9 +18,9 @@ returns-then-self-eq0 g c =
 pub invariant_of-self-then-look-ne0 : goal.invariant_of-self-then-look-ne0
 invariant_of-self-then-look-ne0 g c = joins-after (opening_of c.self.inside.shared.value.sizes) c.self.inside.shared.value.history.book
     c.self.inside.history.book c.look.new.history.book c.self.inside.history.log c.look.new.history.log
-    c.self.inside.generation.value c.self.inside.newest c.self.inside.newest c.self.inside.older.items c.self.inside.thread
+    c.self.inside.generation.value c.self.inside.newest c.self.inside.newest c.self.inside.older.items (sight_of c.self.inside.newest.held.pass.pass)
     c.look.result c.self.invariant (subst
-    (λ k. Finds c.self.inside.thread k c.look.result c.self.inside.history.log c.look.new.history.log)
+    (λ k. Finds (sight_of c.self.inside.newest.held.pass.pass) k c.look.result c.self.inside.history.log c.look.new.history.log)
     (c.next.ensures.0 ∙ ap (λ (v : Numbered). v.number) c.deref-generation.ensures) c.look.ensures.finds)
     c.look.ensures.book (refl, refl, (refl, refl, refl))
 
@@ -32,7 +32,7 @@ returns-then-look-ne0 g c =
     let new = c.look.new.history.log in
     let n = c.self.inside.generation.value.number in
     let found = c.look.result in
-    let finds = subst (λ k. Finds c.self.inside.thread k found log new)
+    let finds = subst (λ k. Finds (sight_of c.self.inside.newest.held.pass.pass) k found log new)
     (c.next.ensures.0 ∙ ap (λ (v : Numbered). v.number) c.deref-generation.ensures) c.look.ensures.finds in
     let now = c.args.self.now in
     let looked = subst (Looked found new) c.self.view_is (
@@ -54,9 +54,9 @@ returns-then-look-ne0 g c =
 pub invariant_of-self-then-lacks_token : goal.invariant_of-self-then-lacks_token
 invariant_of-self-then-lacks_token g c = joins-after (opening_of c.self.inside.shared.value.sizes) c.self.inside.shared.value.history.book
     c.self.inside.history.book c.look.new.history.book c.self.inside.history.log c.look.new.history.log
-    c.self.inside.generation.value c.self.inside.newest c.self.inside.newest c.self.inside.older.items c.self.inside.thread
+    c.self.inside.generation.value c.self.inside.newest c.self.inside.newest c.self.inside.older.items (sight_of c.self.inside.newest.held.pass.pass)
     c.look.result c.self.invariant (subst
-    (λ k. Finds c.self.inside.thread k c.look.result c.self.inside.history.log c.look.new.history.log)
+    (λ k. Finds (sight_of c.self.inside.newest.held.pass.pass) k c.look.result c.self.inside.history.log c.look.new.history.log)
     (c.next.ensures.0 ∙ ap (λ (v : Numbered). v.number) c.deref-generation.ensures) c.look.ensures.finds)
     c.look.ensures.book (refl, refl, (refl, refl, refl))
 
@@ -68,7 +68,7 @@ returns-then-lacks_token g c =
     let new = c.look.new.history.log in
     let n = c.self.inside.generation.value.number in
     let found = c.look.result in
-    let finds = subst (λ k. Finds c.self.inside.thread k found log new)
+    let finds = subst (λ k. Finds (sight_of c.self.inside.newest.held.pass.pass) k found log new)
     (c.next.ensures.0 ∙ ap (λ (v : Numbered). v.number) c.deref-generation.ensures) c.look.ensures.finds in
     let now = c.args.self.now in
     let looked = subst (Looked found new) c.self.view_is (
@@ -90,18 +90,18 @@ returns-then-lacks_token g c =
 pub invariant_of-self-in-Worn : goal.invariant_of-self-in-Worn
 invariant_of-self-in-Worn g c = joins-after (opening_of c.self.inside.shared.value.sizes) c.self.inside.shared.value.history.book
     c.self.inside.history.book c.look.new.history.book c.self.inside.history.log c.look.new.history.log
-    c.self.inside.generation.value c.self.inside.newest c.give.new.self c.self.inside.older.items c.self.inside.thread
+    c.self.inside.generation.value c.self.inside.newest c.give.new.self c.self.inside.older.items (sight_of c.self.inside.newest.held.pass.pass)
     c.look.result c.self.invariant (subst
-    (λ k. Finds c.self.inside.thread k c.look.result c.self.inside.history.log c.look.new.history.log)
+    (λ k. Finds (sight_of c.self.inside.newest.held.pass.pass) k c.look.result c.self.inside.history.log c.look.new.history.log)
     (c.next.ensures.0 ∙ ap (λ (v : Numbered). v.number) c.deref-generation.ensures) c.look.ensures.finds)
     c.look.ensures.book c.give.ensures.same
 
 pub invariant_of-self-in_default : goal.invariant_of-self-in_default
 invariant_of-self-in_default g c = joins-after (opening_of c.self.inside.shared.value.sizes) c.self.inside.shared.value.history.book
     c.self.inside.history.book c.look.new.history.book c.self.inside.history.log c.look.new.history.log
-    c.self.inside.generation.value c.self.inside.newest c.give.new.self c.self.inside.older.items c.self.inside.thread
+    c.self.inside.generation.value c.self.inside.newest c.give.new.self c.self.inside.older.items (sight_of c.self.inside.newest.held.pass.pass)
     c.look.result c.self.invariant (subst
-    (λ k. Finds c.self.inside.thread k c.look.result c.self.inside.history.log c.look.new.history.log)
+    (λ k. Finds (sight_of c.self.inside.newest.held.pass.pass) k c.look.result c.self.inside.history.log c.look.new.history.log)
     (c.next.ensures.0 ∙ ap (λ (v : Numbered). v.number) c.deref-generation.ensures) c.look.ensures.finds)
     c.look.ensures.book c.give.ensures.same
 
@@ -113,7 +113,7 @@ returns-in-Worn g c =
     let new = c.look.new.history.log in
     let n = c.self.inside.generation.value.number in
     let found = c.look.result in
-    let finds = subst (λ k. Finds c.self.inside.thread k found log new)
+    let finds = subst (λ k. Finds (sight_of c.self.inside.newest.held.pass.pass) k found log new)
     (c.next.ensures.0 ∙ ap (λ (v : Numbered). v.number) c.deref-generation.ensures) c.look.ensures.finds in
     let now = c.args.self.now in
     let looked = subst (Looked found new) c.self.view_is (
@@ -150,7 +150,7 @@ returns-in_default g c =
     let new = c.look.new.history.log in
     let n = c.self.inside.generation.value.number in
     let found = c.look.result in
-    let finds = subst (λ k. Finds c.self.inside.thread k found log new)
+    let finds = subst (λ k. Finds (sight_of c.self.inside.newest.held.pass.pass) k found log new)
     (c.next.ensures.0 ∙ ap (λ (v : Numbered). v.number) c.deref-generation.ensures) c.look.ensures.finds in
     let now = c.args.self.now in
     let looked = subst (Looked found new) c.self.view_is (

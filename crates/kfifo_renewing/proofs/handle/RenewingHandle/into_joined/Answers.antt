@@ -1,7 +1,7 @@
-use Rattle.std.proofs.Common.{All, [], ◌∷◌, sym, ap, ◌∙◌, subst}
+use Rattle.std.proofs.Common.{All, [], ◌∷◌, ◌++◌, sym, ap, ◌∙◌, subst}
 use Rattle.std.proofs.lemmas.List.{map-append}
 use Rattle.std.proofs.lemmas.List.Elements.{All-push}
-use Rattle.kfifo_renewing.specs.Joining.{PartView, held_by}
+use Rattle.kfifo_renewing.specs.Joining.{PartView, held_by, held_in}
 use Rattle.kfifo_renewing.specs.Renewing.{Generations, IsOpenedAs, all_of, opening_of}
 use Rattle.kfifo_renewing.proofs.handle.RenewingHandle.into_joined.Goals as goal
 
@@ -9,7 +9,8 @@ pub returns-clause-joined : goal.returns-clause-joined
 returns-clause-joined g c =
     let T = g.row.T.Denot in
     ap held_by c.in_ok-push.ensures.items
-    ∙ map-append (λ (p : PartView T). p.held) c.self.inside.older.items (c.self.inside.newest ∷ [])
+    ∙ map-append (λ (p : PartView T). held_in p) c.self.inside.older.items (c.self.inside.newest ∷ [])
+    ∙ ap (λ n. held_by c.self.inside.older.items ++ record { held = c.self.inside.newest.held; number = n } ∷ []) c.self.invariant.number
     ∙ ap (λ (v : Generations T). all_of v) c.self.view_is
 
 pub returns-clause-of : goal.returns-clause-of

@@ -1,16 +1,17 @@
 -- The generation that was the newest is then among the older ones, and behind it those up to the one that is joined.
-use Rattle.std.proofs.Common.{◌≡◌, ◌<◌, ◌∷◌, [], ◌++◌, All, arith, sym, ap, ◌∙◌, subst}
+use Rattle.std.proofs.Common.{◌≡◌, ◌<◌, ◌∷◌, [], ◌++◌, All, arith, refl, sym, ap, ◌∙◌, subst}
 use Rattle.std.proofs.lemmas.List.{append-nil, map-append}
+use Rattle.std.proofs.lemmas.List.Elements.{All-map, All-push}
 use mathlib.Core.List.{IsPrefix}
-use Rattle.kfifo_live.specs.Pass.{IsPassOf}
-use Rattle.kfifo_renewing.specs.History.{WasNewest, newest_of}
-use Rattle.kfifo_renewing.specs.Joining.{AreAmong, IsPart, PartView, held_by}
-use Rattle.kfifo_renewing.specs.Renewing.{Generations, IsOpenedAs, IsPartOf, opening_of}
+use Rattle.kfifo_live.specs.Pass.{HasNoEvent, IsPassOf}
+use Rattle.kfifo_renewing.specs.History.{IsMade, WasNewest, newest_of}
+use Rattle.kfifo_renewing.specs.Joining.{AreAmong, IsPart, PartView, held_by, held_in}
+use Rattle.kfifo_renewing.specs.Renewing.{Generations, HeldIn, IsNew, IsOpenedAs, LeavesGone, all_of, opening_of}
 use Rattle.kfifo_renewing.proofs.Histories.{risen-from}
 use Rattle.kfifo_renewing.proofs.Joining.{all-moved, among-later, joined-more, part-later, parts-later}
+use Rattle.kfifo_renewing.proofs.Departures.{leaves-refl}
 use Rattle.kfifo_renewing.proofs.Keeping.{kept-risen}
 use Rattle.kfifo_renewing.proofs.Following.{follows-jump, follows-less}
-use Rattle.kfifo_renewing.proofs.Parts.{part-refl}
 use Rattle.kfifo_renewing.proofs.handle.RenewingHandle.join.Goals as goal
 
 pub invariant_of-self-2 : goal.invariant_of-self-2
@@ -39,40 +40,64 @@ invariant_of-self-2 g c =
     c.requires.below
     (among-later s.generation.value.number next.number c.args.between.items s.history.log seen log c.learn.ensures.3
     (subst (λ (x : Generations T). AreAmong x.number next.number c.args.between.items x.seen seen) v c.requires.all))
-    (all-moved c.append.result c.append.new.self.items c.push_reserved.new.self.items c.reserve.new.self.items s.older.items
-    c.args.between.items s.newest c.replace-before.result c.append.ensures.items (c.append.ensures.succeeds (omega (arith, c.in-Ok.ensures.ok, c.len.ensures, c.in-Some.ensures, c.reserve.ensures.len, c.push_reserved.ensures.len, c.push_reserved.ensures.capacity)))
-    c.push_reserved.ensures.items c.replace-before.ensures.value c.reserve.ensures.items)
+    (all-moved c.append.result c.append.new.self.items c.push_reserved.new.self.items c.make_room.new.older.items s.older.items
+    c.args.between.items s.newest c.replace-before.result c.append.ensures.items (c.append.ensures.succeeds (omega (arith, c.if-not-make_room.ensures.room refl, c.len.ensures, c.push_reserved.ensures.len, c.push_reserved.ensures.capacity)))
+    c.push_reserved.ensures.items c.replace-before.ensures.value c.make_room.ensures.items)
 
 pub returns : goal.returns
 returns g c =
     let T = g.row.T.Denot in
     let s = c.self.inside in
+    let now = c.args.self.now in
     let view_is = c.self.view_is in
+    let log = c.learn.new.self.log in
+    let next = c.args.generation.value in
+    let k = c.replace-before.new.dest in
+    let between = c.args.between.items in
+    let P : HeldIn T → Type 0 = IsNew now.number log in
     let seen = ap (λ (h : Generations T). h.seen) view_is in
-    let more = subst (λ l. IsPrefix l c.learn.new.self.log) seen c.learn.ensures.2 in
-    follows-jump c.args.self.now _ (held_by c.args.between.items) (record {
+    let more = subst (λ l. IsPrefix l log) seen c.learn.ensures.2 in
+    let parts = parts-later c.args.history.now.log log between c.learn.ensures.3 c.requires.parts in
+    let each : All P (held_by between) = All-map P (λ (p : PartView T). held_in p) between
+    (λ i d inside. ((c.requires.unused.1 i d inside).0, (parts i d inside).made, (c.requires.unused.1 i d inside).1)) in
+    let part : IsPart log k = subst (IsPart log) (sym c.replace-before.ensures.after)
+    (part-later c.args.history.now.log log c.args.newest c.learn.ensures.3 c.requires.part.1) in
+    let number : k.number ≡ next.number = subst (λ (p : PartView T). p.number ≡ next.number) (sym c.replace-before.ensures.after) c.requires.part.0 in
+    let last : P (record { held = k.held; number = next.number }) = (
+      c.requires.later,
+      subst (λ n. IsMade log n k.held.pass.pass.table) number part.made,
+      subst (λ (p : PartView T). HasNoEvent p.held.pass.pass) (sym c.replace-before.ensures.after) c.requires.unused.0,
+    ) in
+    follows-jump now _ (held_by between) (record {
       opened = ap (λ (h : Generations T). h.opened) view_is;
       thread = ap (λ (h : Generations T). h.thread) view_is;
       book = c.learn.ensures.0 ∙ ap (λ (h : Generations T). h.book) view_is;
       seen = more;
-      risen = risen-from c.args.self.now.seen c.learn.new.self.log more (kept-risen c.learn.ensures.4.0 c.learn.new.self.log c.learn.ensures.4.1);
-    }) (ap held_by (all-moved c.append.result c.append.new.self.items c.push_reserved.new.self.items c.reserve.new.self.items s.older.items
-    c.args.between.items s.newest c.replace-before.result c.append.ensures.items (c.append.ensures.succeeds (omega (arith, c.in-Ok.ensures.ok, c.len.ensures, c.in-Some.ensures, c.reserve.ensures.len, c.push_reserved.ensures.len, c.push_reserved.ensures.capacity)))
-    c.push_reserved.ensures.items c.replace-before.ensures.value c.reserve.ensures.items)
-    ∙ map-append (λ (p : PartView T). p.held) (s.older.items ++ s.newest ∷ []) c.args.between.items
-    ∙ ap (λ l. l ++ held_by c.args.between.items) (map-append (λ (p : PartView T). p.held) s.older.items (s.newest ∷ [])
-    ∙ ap (λ (h : Generations T). h.older ++ h.newest ∷ []) view_is))
+      risen = risen-from now.seen log more (kept-risen c.learn.ensures.4.0 log c.learn.ensures.4.1);
+    }) (let above = c.requires.later in omega (arith, above))
+    (ap held_by (all-moved c.append.result c.append.new.self.items c.push_reserved.new.self.items c.make_room.new.older.items s.older.items
+    between s.newest c.replace-before.result c.append.ensures.items (c.append.ensures.succeeds (omega (arith, c.if-not-make_room.ensures.room refl, c.len.ensures, c.push_reserved.ensures.len, c.push_reserved.ensures.capacity)))
+    c.push_reserved.ensures.items c.replace-before.ensures.value c.make_room.ensures.items)
+    ∙ map-append (λ (p : PartView T). held_in p) (s.older.items ++ s.newest ∷ []) between
+    ∙ ap (λ l. l ++ held_by between) (map-append (λ (p : PartView T). held_in p) s.older.items (s.newest ∷ [])
+    ∙ ap (λ n. held_by s.older.items ++ record { held = s.newest.held; number = n } ∷ []) c.self.invariant.number
+    ∙ ap (λ (h : Generations T). all_of h) view_is))
+    (All-push P (held_by between) (record { held = k.held; number = next.number }) each last)
 
-pub returns-in_default-reserve : goal.returns-in_default-reserve
-returns-in_default-reserve g c =
+pub leave_unused-requires : goal.leave_unused-requires
+leave_unused-requires g c i d inside = (c.requires.unused.1 i d inside).1
+
+pub returns-then-not-make_room : goal.returns-then-not-make_room
+returns-then-not-make_room g c =
     let T = g.row.T.Denot in
     let view_is = c.self.view_is in
-    let older = ap held_by c.reserve.ensures.items ∙ ap (λ (h : Generations T). h.older) view_is in
+    let older = ap held_by c.make_room.ensures.items ∙ ap (λ (h : Generations T). h.older) view_is in
     follows-less c.args.self.now _ (record {
       opened = ap (λ (h : Generations T). h.opened) view_is;
       thread = ap (λ (h : Generations T). h.thread) view_is;
       book = ap (λ (h : Generations T). h.book) view_is;
       seen = ([], append-nil c.args.self.now.seen ∙ sym (ap (λ (h : Generations T). h.seen) view_is));
       risen = omega (arith, ap (λ (h : Generations T). newest_of h.seen) view_is);
-    }) (subst (IsPartOf (held_by c.reserve.new.self.items)) older (part-refl (held_by c.reserve.new.self.items)))
-    (ap (λ (h : Generations T). h.newest) view_is)
+    }) (subst (λ l. LeavesGone c.self.inside.history.log l (held_by c.make_room.new.older.items)) older
+    (leaves-refl c.self.inside.history.log (held_by c.make_room.new.older.items)))
+    (ap (λ (h : Generations T). h.newest) view_is) (ap (λ (h : Generations T). h.number) view_is)

@@ -16,6 +16,9 @@ returns-then-not-enter_below g c =
     subst (λ (v : Generations g.row.T.Denot). Follows c.args.self.now v) (sym (c.self-2.view_is ∙ c.take_spare-between.ensures.same))
     (follows-refl c.args.self.now)
 
+pub leave_unused-requires : goal.leave_unused-requires
+leave_unused-requires g c i d inside = (c.enter_below.ensures.unused i d inside).1
+
 pub join-requires-clause-part : goal.join-requires-clause-part
 join-requires-clause-part g c =
     let entered = c.in-Some.ensures in (

@@ -3,12 +3,12 @@ use Rattle.std.proofs.Common.{◌≡◌, [], Some, slice_get, arith, refl, sym, 
 use Rattle.std.proofs.lemmas.List.{append-nil}
 use Rattle.kfifo_renewing.specs.History.{HasLeft, IsPlaced}
 use Rattle.kfifo_renewing.specs.Joining.{held_by}
-use Rattle.kfifo_renewing.specs.Renewing.{Generations, IsPartOf, opening_of}
+use Rattle.kfifo_renewing.specs.Renewing.{Generations, LeavesGone, opening_of}
 use Rattle.kfifo_renewing.proofs.Histories.{prefix-trans}
 use Rattle.kfifo_renewing.proofs.Keeping.{kept-risen}
 use Rattle.kfifo_renewing.proofs.Joining.{get-at, held-less, joined-later, joined-less, part-at}
 use Rattle.kfifo_renewing.proofs.Following.{later-by, same-but-both}
-use Rattle.kfifo_renewing.proofs.Parts.{part-refl, part-trans}
+use Rattle.kfifo_renewing.proofs.Departures.{leaves-later, leaves-refl, leaves-trans}
 use Rattle.kfifo_renewing.proofs.handle.RenewingHandle.leave_gone.Goals as goal
 
 pub loop-index-init : goal.loop-index-init
@@ -20,8 +20,8 @@ loop-index-init g c =
       more = ([], append-nil c.args.self.now.seen ∙ sym (ap (λ (h : Generations T). h.seen) c.self.view_is));
       newest = ap (λ (h : Generations T). h.newest) c.self.view_is;
       number = ap (λ (h : Generations T). h.number) c.self.view_is;
-      older = subst (IsPartOf (held_by c.self.inside.older.items)) (ap (λ (h : Generations T). h.older) c.self.view_is)
-          (part-refl (held_by c.self.inside.older.items));
+      older = subst (λ hs. LeavesGone c.self.inside.history.log hs (held_by c.self.inside.older.items))
+          (ap (λ (h : Generations T). h.older) c.self.view_is) (leaves-refl c.self.inside.history.log (held_by c.self.inside.older.items));
       joined = c.self.invariant;
     }
 
@@ -37,7 +37,7 @@ loop-index-preserved-then-has g c =
       more = prefix-trans c.args.self.now.seen s.history.log new i.more has.later.1;
       newest = i.newest;
       number = i.number;
-      older = i.older;
+      older = leaves-later s.history.log new c.args.self.now.older (held_by s.older.items) has.later.1 i.older;
       joined = joined-later (opening_of s.shared.value.sizes) s.shared.value.history.book s.history.book c.has.new.history.book
           s.history.log new s.generation.value s.newest s.older.items i.joined has.later.0 has.later.1
           (kept-risen has.kept.0 new has.kept.1);
@@ -64,8 +64,9 @@ loop-index-preserved g c =
       more = prefix-trans c.args.self.now.seen s.history.log new i.more has.later.1;
       newest = i.newest;
       number = i.number;
-      older = part-trans (held_by c.remove-gone.new.self.items) (held_by s.older.items) c.args.self.now.older
-          (held-less s.older.items c.remove-gone.new.self.items c.loop-index.index without) i.older;
+      older = leaves-trans new c.args.self.now.older (held_by s.older.items) (held_by c.remove-gone.new.self.items)
+          (leaves-later s.history.log new c.args.self.now.older (held_by s.older.items) has.later.1 i.older)
+          (held-less new s.older.items c.remove-gone.new.self.items c.loop-index.index p without at left);
       joined = joined-less o s.shared.value.history.book c.has.new.history.book new has.kept.0 s.generation.value s.newest s.older.items
           c.remove-gone.new.self.items c.loop-index.index p then without at has.kept.1 left;
     }

@@ -1,7 +1,7 @@
 use Rattle.std.proofs.Common.{◌≡◌, ◌-◌, length}
 use mathlib.Core.List.{IsPrefix}
 use Rattle.kfifo_renewing.specs.Joining.{HasJoined, held_by}
-use Rattle.kfifo_renewing.specs.Renewing.{IsPartOf, opening_of}
+use Rattle.kfifo_renewing.specs.Renewing.{LeavesGone, opening_of}
 use Rattle.kfifo_renewing.proofs.handle.RenewingHandle.leave_gone.Given as goal
 
 -- so far some of the older generations were left, and more of the history was seen
@@ -13,7 +13,7 @@ invariant-loop-index g l = record {
   more : IsPrefix l.fn.self.seen l.self-inside.history.log;
   newest : l.self-inside.newest.held ≡ l.fn.self.newest;
   number : l.self-inside.generation.value.number ≡ l.fn.self.number;
-  older : IsPartOf (held_by l.self-inside.older.items) l.fn.self.older;
+  older : LeavesGone l.self-inside.history.log l.fn.self.older (held_by l.self-inside.older.items);
   joined : HasJoined (opening_of l.self-inside.shared.value.sizes) l.self-inside.shared.value.history.book l.self-inside.history.book
       l.self-inside.history.log l.self-inside.generation.value l.self-inside.newest l.self-inside.older.items;
 }

@@ -3,7 +3,7 @@ use Rattle.std.proofs.Common.{refl, ◌≡◌, arith, sym, ap, ◌∙◌, subst}
 use Rattle.std.proofs.lemmas.List.{nil_from_length}
 use Rattle.kfifo_live.specs.declared.payload.Taken.TheVariants as K
 use Rattle.kfifo_live.specs.Handles.{PayHeld}
-use Rattle.kfifo_renewing.specs.History.{Finds}
+use Rattle.kfifo_renewing.specs.History.{Finds, sight_of}
 use Rattle.kfifo_renewing.specs.Renewing.{Generations, IsLater, LooksAgain, Numbered, opening_of, TakesFromOldest, TakesThere, with_newest, with_seen}
 use Rattle.kfifo_renewing.specs.Joining.{held_by}
 use Rattle.kfifo_renewing.proofs.Joining.{has-all, numbered-by}
@@ -14,9 +14,9 @@ use Rattle.kfifo_renewing.proofs.handle.RenewingHandle.take.Goals as goal
 pub invariant_of-self : goal.invariant_of-self
 invariant_of-self g c = joins-after (opening_of c.self.inside.shared.value.sizes) c.self.inside.shared.value.history.book
     c.self.inside.history.book c.look-later.new.history.book c.self.inside.history.log c.look-later.new.history.log
-    c.self.inside.generation.value c.self.inside.newest c.self.inside.newest c.self.inside.older.items c.self.inside.thread
+    c.self.inside.generation.value c.self.inside.newest c.self.inside.newest c.self.inside.older.items (sight_of c.self.inside.newest.held.pass.pass)
     c.look-later.result c.self.invariant (subst
-    (λ k. Finds c.self.inside.thread k c.look-later.result c.self.inside.history.log c.look-later.new.history.log)
+    (λ k. Finds (sight_of c.self.inside.newest.held.pass.pass) k c.look-later.result c.self.inside.history.log c.look-later.new.history.log)
     (c.next.ensures.0 ∙ ap (λ (v : Numbered). v.number) c.deref-generation.ensures) c.look-later.ensures.finds)
     c.look-later.ensures.book (refl, refl, (refl, refl, refl))
 
@@ -28,7 +28,7 @@ returns-then-later-len-ne0 g c =
     let new = c.look-later.new.history.log in
     let n = c.self.inside.generation.value.number in
     let found = c.look-later.result in
-    let finds = subst (λ k. Finds c.self.inside.thread k found log new)
+    let finds = subst (λ k. Finds (sight_of c.self.inside.newest.held.pass.pass) k found log new)
     (c.next.ensures.0 ∙ ap (λ (v : Numbered). v.number) c.deref-generation.ensures) c.look-later.ensures.finds in
     let now = c.args.self.now in
     let looked = subst (Looked found new) c.self.view_is (
@@ -50,18 +50,18 @@ returns-then-later-len-ne0 g c =
 pub invariant_of-self-in-Got : goal.invariant_of-self-in-Got
 invariant_of-self-in-Got g c = joins-after (opening_of c.self.inside.shared.value.sizes) c.self.inside.shared.value.history.book
     c.self.inside.history.book c.look-later.new.history.book c.self.inside.history.log c.look-later.new.history.log
-    c.self.inside.generation.value c.self.inside.newest c.take.new.self c.self.inside.older.items c.self.inside.thread
+    c.self.inside.generation.value c.self.inside.newest c.take.new.self c.self.inside.older.items (sight_of c.self.inside.newest.held.pass.pass)
     c.look-later.result c.self.invariant (subst
-    (λ k. Finds c.self.inside.thread k c.look-later.result c.self.inside.history.log c.look-later.new.history.log)
+    (λ k. Finds (sight_of c.self.inside.newest.held.pass.pass) k c.look-later.result c.self.inside.history.log c.look-later.new.history.log)
     (c.next.ensures.0 ∙ ap (λ (v : Numbered). v.number) c.deref-generation.ensures) c.look-later.ensures.finds)
     c.look-later.ensures.book c.take.ensures.same
 
 pub invariant_of-self-in_default : goal.invariant_of-self-in_default
 invariant_of-self-in_default g c = joins-after (opening_of c.self.inside.shared.value.sizes) c.self.inside.shared.value.history.book
     c.self.inside.history.book c.look-later.new.history.book c.self.inside.history.log c.look-later.new.history.log
-    c.self.inside.generation.value c.self.inside.newest c.take.new.self c.self.inside.older.items c.self.inside.thread
+    c.self.inside.generation.value c.self.inside.newest c.take.new.self c.self.inside.older.items (sight_of c.self.inside.newest.held.pass.pass)
     c.look-later.result c.self.invariant (subst
-    (λ k. Finds c.self.inside.thread k c.look-later.result c.self.inside.history.log c.look-later.new.history.log)
+    (λ k. Finds (sight_of c.self.inside.newest.held.pass.pass) k c.look-later.result c.self.inside.history.log c.look-later.new.history.log)
     (c.next.ensures.0 ∙ ap (λ (v : Numbered). v.number) c.deref-generation.ensures) c.look-later.ensures.finds)
     c.look-later.ensures.book c.take.ensures.same
 
@@ -73,7 +73,7 @@ returns-in-Got g c =
     let new = c.look-later.new.history.log in
     let n = c.self.inside.generation.value.number in
     let found = c.look-later.result in
-    let finds = subst (λ k. Finds c.self.inside.thread k found log new)
+    let finds = subst (λ k. Finds (sight_of c.self.inside.newest.held.pass.pass) k found log new)
     (c.next.ensures.0 ∙ ap (λ (v : Numbered). v.number) c.deref-generation.ensures) c.look-later.ensures.finds in
     let now = c.args.self.now in
     let looked = subst (Looked found new) c.self.view_is (
@@ -89,7 +89,7 @@ returns-in-Got g c =
     c.self.inside.generation.value c.self.inside.newest c.self.inside.older.items (with_seen now new)
     (joins-after (opening_of c.self.inside.shared.value.sizes) c.self.inside.shared.value.history.book c.self.inside.history.book
     c.look-later.new.history.book log new c.self.inside.generation.value c.self.inside.newest c.self.inside.newest c.self.inside.older.items
-    c.self.inside.thread found i finds c.look-later.ensures.book (refl, refl, (refl, refl, refl)))
+    (sight_of c.self.inside.newest.held.pass.pass) found i finds c.look-later.ensures.book (refl, refl, (refl, refl, refl)))
     (ap (λ (v : Generations T). v.older) c.self.view_is) (ap (λ (v : Generations T). v.newest) c.self.view_is)
     (ap (λ (v : Generations T). v.number) c.self.view_is) in
     let takes = subst (λ (v : Generations T). TakesThere c.take.result v.newest h) c.self.view_is c.take.ensures.takes in
@@ -108,7 +108,7 @@ returns-in_default g c =
     let new = c.look-later.new.history.log in
     let n = c.self.inside.generation.value.number in
     let found = c.look-later.result in
-    let finds = subst (λ k. Finds c.self.inside.thread k found log new)
+    let finds = subst (λ k. Finds (sight_of c.self.inside.newest.held.pass.pass) k found log new)
     (c.next.ensures.0 ∙ ap (λ (v : Numbered). v.number) c.deref-generation.ensures) c.look-later.ensures.finds in
     let now = c.args.self.now in
     let looked = subst (Looked found new) c.self.view_is (
@@ -124,7 +124,7 @@ returns-in_default g c =
     c.self.inside.generation.value c.self.inside.newest c.self.inside.older.items (with_seen now new)
     (joins-after (opening_of c.self.inside.shared.value.sizes) c.self.inside.shared.value.history.book c.self.inside.history.book
     c.look-later.new.history.book log new c.self.inside.generation.value c.self.inside.newest c.self.inside.newest c.self.inside.older.items
-    c.self.inside.thread found i finds c.look-later.ensures.book (refl, refl, (refl, refl, refl)))
+    (sight_of c.self.inside.newest.held.pass.pass) found i finds c.look-later.ensures.book (refl, refl, (refl, refl, refl)))
     (ap (λ (v : Generations T). v.older) c.self.view_is) (ap (λ (v : Generations T). v.newest) c.self.view_is)
     (ap (λ (v : Generations T). v.number) c.self.view_is) in
     let takes = subst (λ (v : Generations T). TakesThere c.take.result v.newest h) c.self.view_is c.take.ensures.takes in

@@ -1,6 +1,7 @@
 -- Each older generation was found empty, so the newest one is next.
 use Rattle.std.proofs.Common.{None, ap, inr, refl, sym, subst, ◌∙◌}
-use Rattle.kfifo_renewing.specs.Renewing.{Generations, IsPartOf}
+use Rattle.kfifo_renewing.specs.Renewing.{Generations, LeavesGone}
+use Rattle.kfifo_renewing.proofs.Departures.{leaves-later}
 use Rattle.kfifo_renewing.proofs.Following.{later-trans}
 use Rattle.kfifo_renewing.proofs.handle.RenewingHandle.take_oldest.Goals as goal
 
@@ -16,7 +17,8 @@ returns-in-None g c =
       found = None;
       looked = t.0;
       older = t.1;
-      left = subst (λ hs. IsPartOf hs t.0) (sym c.take_newest.ensures.same.0) t.2;
+      left = subst (LeavesGone c.take_newest.new.self.seen t.0) (sym c.take_newest.ensures.same.0)
+          (leaves-later mid.seen c.take_newest.new.self.seen t.0 mid.older c.take_newest.ensures.later.seen t.2);
       newest = inr (
         refl,
         (

@@ -11,6 +11,6 @@ returns g c =
     let first = follows-trans now known joined (follows-seen now known known.seen c.latest-last.ensures.same c.latest-last.ensures.later)
     c.join_up_to.ensures in record {
       follows = follows-trans now joined new first (follows-seen joined new new.seen c.start_giving.ensures.same c.start_giving.ensures.later);
-      newest = both-before now joined new first.0.seen c.start_giving.result c.start_giving.ensures.newest;
+      newest = both-before now joined new first.later.seen c.start_giving.result c.start_giving.ensures.newest;
       all = c.start_giving.ensures.all;
     }

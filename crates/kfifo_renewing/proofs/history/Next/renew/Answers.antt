@@ -17,7 +17,7 @@ compare_exchange-found-requires c =
       c.requires.books.1 ∙ sym book,
       offer.0,
       rw (ap (λ w. w.key) h, c.requires.pen, offer.3, c.from.ensures)
-          (renews-moves log c.self.inside.number c.args.number there.0 (C.Look c.args.number)
+          (renews-moves log c.self.inside.number c.args.number there.0 (C.Newest c.args.number)
           (subst (WasNewest log) (sym number) c.requires.newest)
           (subst (λ n. n < c.args.number) (sym number) c.requires.later) there.1 there.2),
     )

@@ -21,8 +21,8 @@ compare_exchange-requires g c =
       c.no_pen-pen.ensures.0 ∙ c.requires.book ∙ sym book,
       offer.0,
       rw (ap (λ w. w.key) h.0, offer.3) (subst (λ m. Moves IsKept shown moved (label_of place) (log, (pen, None))
-          (λ k. either (k == m) 0 k) (Empties (step (label_of place) m 0 (C.Look n)) (log, (pen, None)))) up
-          (leaves-moves log pen n place (C.Look n) h.1 c.requires.over)),
+          (λ k. either (k == m) 0 k) (Empties (step (label_of place) m 0 (C.Newest n)) (log, (pen, None)))) up
+          (leaves-moves log pen n place (C.Newest n) h.1 c.requires.over)),
     )
 
 pub returns-clause-left : goal.returns-clause-left

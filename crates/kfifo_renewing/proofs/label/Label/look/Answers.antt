@@ -12,7 +12,7 @@ load-found-requires c =
       c.requires ∙ sym (ap (λ (v : LabelView). v.book) c.self.view_is),
       offer.0,
       rw (ap (λ w. w.key) h.0, offer.3)
-          (there-moves c.args.history.now.log c.self.inside.place (C.Look c.self.inside.place) h.1),
+          (there-moves c.args.history.now.log c.self.inside.place (C.Newest c.self.inside.place) h.1),
     )
 
 pub number_in-requires : goal.number_in-requires

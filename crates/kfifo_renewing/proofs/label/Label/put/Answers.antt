@@ -21,8 +21,8 @@ compare_exchange-found-requires c =
       c.no_pen-pen.ensures.0 ∙ c.requires ∙ sym book,
       offer.0,
       rw (ap (λ w. w.key) h.0, offer.3) (subst (λ m. Moves IsKept shown moved (label_of place) (log, (pen, None))
-          (λ k. either (k == 0) m k) (Fills (step (label_of place) 0 m (C.Look n)) (log, (pen, None)))) up
-          (puts-moves log pen n place (C.Look n) h.1 c.ranges.number.fits)),
+          (λ k. either (k == 0) m k) (Fills (step (label_of place) 0 m (C.Newest n)) (log, (pen, None)))) up
+          (puts-moves log pen n place (C.Newest n) h.1 c.ranges.number.fits)),
     )
 
 pub returns-clause-there : goal.returns-clause-there

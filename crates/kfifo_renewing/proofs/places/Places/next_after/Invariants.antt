@@ -10,5 +10,6 @@ invariant-loop-index g l = record {
   more : IsPrefix l.fn.history.log l.history.log;
   end : l.end ≡ l.fn.end;
   least : l.least ≤ l.fn.end;
-  next : IfSome l.next (λ r. (r.0 < place_count) × (r.1 < l.fn.end));
+  number : l.number ≡ l.fn.number;
+  next : IfSome l.next (λ r. (r.0 < place_count) × (l.fn.number < r.1) × (r.1 < l.fn.end));
 }
