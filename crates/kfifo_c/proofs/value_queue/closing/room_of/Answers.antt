@@ -60,7 +60,7 @@ pub returns-clause-room : goal.returns-clause-room
 returns-clause-room c =
     let hs = c.args.handles.now in let was = c.seat_mut-seat.result.now in let is = c.generations.new.self in
     let few : 0 < length hs = c.in-Some.ensures.item.3.0 in
-    let opened = c.generations.ensures.follows.0.opened in
+    let opened = c.generations.ensures.follows.later.opened in
     let last = last_step hs (length hs - 1) _ c.in-Some.last.now was is (sym c.are_open.ensures ∙ c.if-not-are_open.false)
     (omega (arith, few)) (sym (ap (λ h. h.held.value) c.in-Some.ensures.item.1) ∙ c.seat_mut-seat.ensures.value) refl in
     let many : length hs ≡ is.opened.threads = c.if-count-threads.false ∙ c.threads.ensures ∙ ap (λ o. o.threads) (sym opened) in
