@@ -100,6 +100,7 @@ impl<T: Drop> PooledQueue<T> {
         requires tokens { AreOf queue tokens.items }
         ensures queue { IfOk result (λ r. r.0 ≡ queue) }
         ensures handles { IfOk result (λ r. r.1.items ≡ map new_handle passes.items) }
+        ensures of { IfOk result (λ r. All (λ h. IsPassOf r.0 (pass_of h.held)) r.1.items) }
     {
         // Each thread may be about to write to a place, and has a batch then. So one place more than these is empty at any
         // time.
@@ -122,6 +123,7 @@ impl<T: Drop> PooledQueue<T> {
         requires tokens { (0 < sizes.tokens) × (sizes.threads * sizes.tokens ≤ MOST_TOKENS) }
         ensures opened { IfOk result (λ r. r.0.opened ≡ token_opening false sizes.shape sizes.threads sizes.tokens) }
         ensures handles { IfOk result (λ r. r.1.items ≡ new_handles r.0 sizes.threads) }
+        ensures of { IfOk result (λ r. All (λ h. IsPassOf r.0 (pass_of h.held)) r.1.items) }
         ensures zeroed { IfOk result (λ r. IsZeroed r.0.opened) }
     {
         let (queue, passes, tokens) = TokenQueue::open_with_payloads(
@@ -173,6 +175,7 @@ impl PooledQueue<()> {
         requires tokens { (0 < sizes.tokens) × (sizes.threads * sizes.tokens ≤ MOST_TOKENS) }
         ensures opened { IfOk result (λ r. r.0.opened ≡ token_opening true sizes.shape sizes.threads sizes.tokens) }
         ensures handles { IfOk result (λ r. r.1.items ≡ new_handles r.0 sizes.threads) }
+        ensures of { IfOk result (λ r. All (λ h. IsPassOf r.0 (pass_of h.held)) r.1.items) }
         ensures zeroed { IfOk result (λ r. IsZeroed r.0.opened) }
     {
         let (queue, passes, tokens) = TokenQueue::open(
