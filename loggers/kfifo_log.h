@@ -20,8 +20,8 @@
  *      the log ends in a dequeue that found the queue empty.
  *
  * A log that is full takes no more calls, and kfifo_log_write refuses it: calls that are missing would make the
- * verdict wrong. A log costs 32 bytes a call; kfifo reads 16,777,216 bytes in all, some
- * 400,000 calls. Each log is its thread's alone: there is no lock, and memory is taken by kfifo_log_open only.
+ * verdict wrong. A log costs 32 bytes a call; kfifo judges 16,777,215 calls at most. Each log is its
+ * thread's alone: there is no lock, and memory is taken by kfifo_log_open only.
  */
 #ifndef KFIFO_LOG_H
 #define KFIFO_LOG_H

@@ -21,9 +21,8 @@ How to use it:
     log ends in a dequeue that found the queue empty.
 
 A log that is full takes no more calls, and `write` refuses it: calls that are missing would make the verdict wrong.
-`kfifo` reads 16,777,216 bytes in all, some 300,000 calls. Each log is its thread's alone: there is no lock, and its
-arrays are made before the run. (The numbers that pass through them are objects, which the interpreter makes as it
-goes.)
+`kfifo` judges 16,777,215 calls at most. Each log is its thread's alone: there is no lock, and its arrays are made
+before the run. (The numbers that pass through them are objects, which the interpreter makes as it goes.)
 """
 import array
 import queue

@@ -18,8 +18,8 @@
 //!    the log ends in a dequeue that found the queue empty.
 //!
 //! A log that is full takes no more calls, and `write` refuses it: calls that are missing would make the verdict
-//! wrong. `kfifo` reads 16,777,216 bytes in all, some 300,000 calls. Each log is its thread's alone: there is no lock,
-//! and memory is taken by `thread_logs` only.
+//! wrong. `kfifo` judges 16,777,215 calls at most. Each log is its thread's alone: there is no lock, and memory is
+//! taken by `thread_logs` only.
 
 #![allow(dead_code)] // a queue need not have every answer
 
