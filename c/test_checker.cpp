@@ -2,10 +2,10 @@
 //
 //     test_checker [--long | --measure] [QUEUE ..]
 //
-// Without a word each faulty queue has 5 seconds, on a busy machine 60, and each right one 2. --long gives a right
-// queue 30 seconds, and also tries the queue whose fault may take 20. --measure prints a table in Markdown of how long
-// it takes to find each fault, over five seeds. With FEWER, for sanitizers, it runs right queues alone, in this
-// process. The last line is 'N passed, M failed'.
+// Without a word each faulty queue has 5 seconds, and 60 more if nothing was found, and each right one 2. --long gives
+// a right queue 30 seconds, and also tries the queue whose fault may take 20. --measure prints a table in Markdown of
+// how long it takes to find each fault, over five seeds. With FEWER, for sanitizers, it runs right queues alone, in
+// this process. The last line is 'N passed, M failed'.
 #include "checker/queues.hpp"
 #include "kfifo_test.hpp"
 
@@ -354,10 +354,6 @@ CheckOptions options_of(const Row &row, double seconds) {
     return options;
 }
 
-// Where other programs use the processors too, a fault takes longer to find. An idle machine judges some two million
-// calls a second.
-bool is_busy(const CheckReport &report) { return double(report.calls) < 500000 * report.seconds; }
-
 // Whether nothing was found since threads take turns on a processor, so that a race hardly ever shows.
 bool had_no_race(const Row &row, const CheckReport &report) {
     return faults_of(row) != NOTHING && report.passed() && report.overlapping < 0.05;
@@ -371,7 +367,8 @@ bool is_right(const Row &row, double seconds) {
     used() = Used();
     const unsigned faults = faults_of(row);
     CheckReport report = row.run(options_of(row, seconds));
-    if (faults != NOTHING && found_by(report) == NOTHING && is_busy(report)) report = row.run(options_of(row, 60));
+    // Where other programs use the processors too, a race shows seldom.
+    if (faults != NOTHING && found_by(report) == NOTHING) report = row.run(options_of(row, 60));
     for (int more = 0; more < 20 && report.passed() && had_few_changes(row); more++)
         report = row.run(options_of(row, 3));
     if (had_no_race(row, report)) {
