@@ -46,7 +46,8 @@ int main() {
     std::vector<std::string> words{"f"};
     is_done = is_done && handle.give_all(words).given == 1 && handle.take_up_to(2, words).taken == 1;
     is_done = is_done && handle.give_all(kfifo::moving(words)).given == 2 && handle.take_up_to(2).values.size() == 2;
-    is_done = is_done && handle.give_all_wait(words).given == 1 && handle.take_up_to_wait(1, words).taken == 1;
+    is_done = is_done && handle.give_all_wait(words).given == 2 && handle.take_up_to_wait(2, words).taken == 2;
+    words.resize(2);
     is_done = is_done && handle.give_all_for(kfifo::moving(words), std::chrono::milliseconds(1)).given == 2;
     is_done = is_done && handle.take_up_to_for(1, words, std::chrono::milliseconds(1)).taken == 1;
     is_done = is_done && handle.take_up_to_for(1, std::chrono::milliseconds(1)).values.size() == 1;
