@@ -62,8 +62,7 @@ pub record LaysOthers (old new : List TokenView) : Type 0 where
 abbrev pub Adds : TokenView → List TokenView → List TokenView → Type 0
 Adds token old new = (new ≡ old ++ token ∷ []) ⊎ (new ≡ old)
 
--- A token is put among the free ones. It is lost only where the handle has a batch or more, no place of the pool is
--- empty and memory is refused
+-- A token is put among the free ones. It may be lost only where the handle has a batch or more
 pub record KeepsOne (token : TokenView) (old new : List TokenView) : Type 0 where
   pub kept : List TokenView
   pub lays : LaysOthers old kept

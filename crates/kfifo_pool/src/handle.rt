@@ -84,7 +84,8 @@ impl<T: Drop> PooledHandle<T> {
     }
 
     /// Gives a token back: it is free again, and the next one that the handle reserves. Where the handle has two
-    /// batches, it lays one into the pool.
+    /// batches, it lays one into the pool. The token is lost only where no place of the pool was empty and memory is
+    /// refused.
     #[inline(always)]
     pub fn release(&mut self, queue: &PooledQueue<T>, token: Token<T>)
         requires of { IsPassOf queue.now (pass_of self.old.held) }
