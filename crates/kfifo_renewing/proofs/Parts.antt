@@ -1,6 +1,6 @@
 -- Lists: what holds of all their elements, and lists of threads.
-use Rattle.std.proofs.Common.{◌≡◌, ◌==◌, ◌+◌, ℕ, zero, suc, Bool, true, false, not, List, [], ◌∷◌, ◌++◌, All, take, drop, length, refl, sym, ap}
-use Rattle.std.proofs.Common.{⊎_elim, arith, ◌∙◌, subst, inl, inr}
+use Rattle.std.proofs.Common.{◌≡◌, ◌==◌, ◌+◌, ℕ, zero, suc, not, List, [], ◌∷◌, ◌++◌, All, take, drop, length, sym, ap}
+use Rattle.std.proofs.Common.{arith, ◌∙◌, subst}
 use Rattle.std.proofs.lemmas.List.{append-nil, drop_all, take_all}
 use Rattle.std.proofs.lemmas.List.Elements.{All-append, All-drop, All-take, filter-append}
 use Rattle.kfifo_live.specs.Schedule.{count_up}

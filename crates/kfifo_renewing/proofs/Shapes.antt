@@ -1,5 +1,5 @@
 -- A shape whose enqueues hold again is that of its sizes.
-use Rattle.std.proofs.Common.{◌≡◌, ◌≤◌, ◌<◌, ◌^◌, ℕ, Bool, true, arith}
+use Rattle.std.proofs.Common.{◌≡◌, ◌≤◌, ◌<◌, ◌^◌, ℕ, Bool, true}
 use Rattle.std.proofs.Math.Bridge.{le_prop}
 use Rattle.kfifo_words.specs.declared.shape.Shape.{Shape}
 use Rattle.kfifo_renewing.specs.Renewing.{holding_again}

@@ -1,5 +1,5 @@
-use Rattle.std.proofs.Common.{Some, subst, sym, ap, ◌∙◌}
-use Rattle.kfifo_pool.specs.Pooled.{AreOf, TakesRecent}
+use Rattle.std.proofs.Common.{Some, subst, sym}
+use Rattle.kfifo_pool.specs.Pooled.{AreOf}
 use Rattle.kfifo_pool.proofs.Lists.{recent_of}
 use Rattle.kfifo_pool.proofs.free.FreeTokens.take_other.Goals as goal
 

@@ -1,4 +1,4 @@
-use Rattle.std.proofs.Common.{All, List, subst, sym}
+use Rattle.std.proofs.Common.{All, subst, sym}
 use Rattle.std.proofs.lemmas.List.Elements.{All-map}
 use Rattle.kfifo_live.specs.Pass.{IsPassOf, OpenQueue}
 use Rattle.kfifo_live.specs.Payloads.{PayPassView}

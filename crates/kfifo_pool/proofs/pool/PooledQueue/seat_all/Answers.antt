@@ -1,5 +1,5 @@
 -- The next handle goes behind those that were made.
-use Rattle.std.proofs.Common.{◌≡◌, ◌++◌, [], ◌∷◌, List, All, append_assoc, map, ap, refl, subst, sym, ◌∙◌}
+use Rattle.std.proofs.Common.{◌++◌, [], ◌∷◌, List, append_assoc, map, ap, refl, sym, ◌∙◌}
 use Rattle.kfifo_live.specs.Pass.{IsPassOf}
 use Rattle.kfifo_live.specs.Payloads.{PayPassView}
 use Rattle.kfifo_pool.specs.Pooled.{Pooled, new_handle}
