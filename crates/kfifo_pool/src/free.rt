@@ -147,8 +147,8 @@ impl<T: Drop> FreeTokens<T> {
     fn add(&mut self, token: Token<T>)
         ensures { Adds token (all_free self.old) (all_free self.new) }
     {
-        // Where no place of the pool was empty, the list may be full, and grows. If memory is then refused, the queue has
-        // room for one item less from then on.
+        // Where no place of the pool was empty, the list may be full, and grows. If memory is then refused, the queue
+        // has room for one item less from then on.
         let _ = self.recent.push(token);
     }
 

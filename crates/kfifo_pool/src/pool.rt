@@ -91,8 +91,8 @@ impl<T: Drop> Resting<T> {
 
 /// A running queue of tokens, with places in which batches of its free tokens lie.
 ///
-/// In each place lies a list: one with tokens, or an empty one where the place is empty. Who lays a batch down exchanges
-/// it for an empty list, and who takes one out leaves an empty list there. So neither allocates.
+/// In each place lies a list: one with tokens, or an empty one where the place is empty. Who lays a batch down
+/// exchanges it for an empty list, and who takes one out leaves an empty list there. So neither allocates.
 ///
 /// Clauses see it as the queue of tokens.
 #[derive(Drop)]
@@ -184,8 +184,8 @@ impl<T: Drop> PooledQueue<T> {
     /// Lays a list of tokens into an empty place, and returns that place. The empty list that lay there is then the
     /// caller's. The look begins at this place.
     ///
-    /// There are places for all batches, so one is empty at any time. It returns None, and exchanges nothing, only where
-    /// others fill each empty place before this look comes to it.
+    /// There are places for all batches, so one is empty at any time. It returns None, and exchanges nothing, only
+    /// where others fill each empty place before this look comes to it.
     #[cold]
     #[inline(never)]
     pub(crate) fn lay(&self, from: usize, list: &mut Option<Batch<T>>) -> Option<usize>

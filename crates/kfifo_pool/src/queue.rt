@@ -56,8 +56,8 @@ fn passes_of<T: Drop>(
 }
 
 impl<T: Drop> PooledQueue<T> {
-    /// Lays all these tokens into places of the pool, which are empty. The next one of each batch is that with the least
-    /// number.
+    /// Lays all these tokens into places of the pool, which are empty. The next one of each batch is that with the
+    /// least number.
     fn lay_all(&self, alloc: Global, mut tokens: Vec<Token<T>>) -> Result<(), AllocError>
         requires { AreOf self.now tokens.items }
     {
@@ -102,8 +102,8 @@ impl<T: Drop> PooledQueue<T> {
         ensures handles { IfOk result (λ r. r.1.items ≡ map new_handle passes.items) }
         ensures of { IfOk result (λ r. All (λ h. IsPassOf r.0 (pass_of h.held)) r.1.items) }
     {
-        // Each thread may be about to write to a place, and has a batch then. So one place more than these is empty at any
-        // time.
+        // Each thread may be about to write to a place, and has a batch then. So one place more than these is empty at
+        // any time.
         let batches = tokens.len().div_ceil(BATCH as usize);
         let count = batches.saturating_add(passes.len()).saturating_add(1);
         let places = empty_places(alloc, &queue, count)?;
@@ -113,8 +113,8 @@ impl<T: Drop> PooledQueue<T> {
         Ok((pooled, handles))
     }
 
-    /// Opens a queue with payloads, as `PooledQueue::open` opens a bare one. While a payload is in the queue, it lies in
-    /// the slot of its token.
+    /// Opens a queue with payloads, as `PooledQueue::open` opens a bare one. While a payload is in the queue, it lies
+    /// in the slot of its token.
     pub fn open_with_payloads(
         alloc: Global,
         sizes: Sizes,
@@ -190,8 +190,8 @@ impl PooledQueue<()> {
     /// Closes the queue, and returns the numbers of the tokens that are left in it, as `TokenQueue::close` does. Those
     /// that are free, or with a caller, are not among them.
     ///
-    /// MissingPass where not each handle of the opening is there once; Memory where an allocation failed. The tokens are
-    /// then lost to the caller.
+    /// MissingPass where not each handle of the opening is there once; Memory where an allocation failed. The tokens
+    /// are then lost to the caller.
     pub fn close(
         self,
         alloc: Global,
