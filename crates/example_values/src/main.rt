@@ -8,8 +8,9 @@ ghost use Rattle.example_values.specs.declared.worker.TheConstants.{TEXTS};
 
 mod worker;
 
-use kfifo_renewing::{DEFAULT_RESERVE, RenewingHandle, close, open};
-use kfifo_words::{MAX_VERSION, Shape};
+use kfifo_live::Sizes;
+use kfifo_renewing::{DEFAULT_RESERVE, RenewingHandle, close, open_with};
+use kfifo_words::MAX_VERSION;
 use std::alloc::Global;
 use std::thread::{Threads, map_vec};
 use worker::{Tally, Worker};
@@ -17,8 +18,8 @@ use worker::{Tally, Worker};
 /// How many threads share the queue.
 const THREADS: u32 = 4;
 
-/// How many texts each thread can have put into the queue beyond those that it took.
-const TOKENS: u32 = 16;
+/// How many texts the queue has room for.
+const CAPACITY: u32 = 64;
 
 /// So few versions that a generation of the queue lasts for some 24 texts.
 const FEW_VERSIONS: u64 = 48;
@@ -55,14 +56,15 @@ fn finish(alloc: Global, workers: Vec<Worker>) -> anyhow::Result<Totals> {
     Ok(totals)
 }
 
-/// Four threads share a queue with k = 2 and 8 segments. Each gets a handle of the list, and returns it.
+/// Four threads share a queue with k = 2. Each gets a handle of the list, and returns it.
 fn run<R: Threads + Sync>(
     rt: &R,
     alloc: Global,
     versions: u64,
     reserve: u64,
 ) -> anyhow::Result<Totals> {
-    let handles = open(alloc, Shape::new(2, 8, versions)?, THREADS, TOKENS, reserve)?;
+    let sizes = Sizes::for_capacity(2, CAPACITY, THREADS, versions)?; // k, capacity, threads, greatest version
+    let handles = open_with(alloc, sizes, reserve)?;
     let workers = map_vec(rt, handles, &|handle| work(alloc, handle))?;
     finish(alloc, workers)
 }

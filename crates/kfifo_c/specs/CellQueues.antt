@@ -7,11 +7,12 @@ use Rattle.kfifo_renewing.specs.Renewing.{ClosesAll, Generations, HaveOne}
 use Rattle.kfifo_c.specs.declared.cell_queue.opening.CellSizes.{CellSizes}
 use Rattle.kfifo_c.specs.CellSeats.{CellSeated, cell_seated}
 use Rattle.kfifo_c.specs.Cells.{cell_of}
+use Rattle.kfifo_c.specs.Values.{with_spare, without_spare}
 
 -- the handle is of a queue of these sizes
 abbrev pub IsOpenedLike : CellSizes → Generations TokenView → Type 0
 IsOpenedLike sizes g = (sizes.shape ≡ g.opened.shape) × (sizes.threads ≡ g.opened.threads)
-    × (sizes.tokens ≡ g.opened.tokens)
+    × (sizes.tokens ≡ without_spare g.opened)
 
 -- the tokens of a pass of this queue
 abbrev pub tokens_of : OpenQueue → PayPassView (Unit {0}) → List TokenView
@@ -24,10 +25,10 @@ seats_with source (h ∷ handles) [] = []
 seats_with source (h ∷ handles) (p ∷ passes) = cell_seated h (tokens_of source p) ∷ seats_with source handles passes
 
 -- A queue of these sizes was opened, and these are its new seats: all that the renewing queue says of an opening. The
--- tokens of the cells are those of a queue that was opened like it
+-- tokens of the cells are those of a queue that was opened like it, but for the spare tokens
 pub record OpensCells (shape : Shape) (threads tokens : ℕ) (seats : List CellSeated) : Type 0 where
   pub handles : List (Generations TokenView)
-  pub have_one : HaveOne (pay_opening shape threads tokens) handles
+  pub have_one : HaveOne (pay_opening shape threads (with_spare tokens)) handles
   pub count : length handles ≡ threads
   pub source : OpenQueue
   pub opened : source.opened ≡ pay_opening shape threads tokens
@@ -62,7 +63,7 @@ pub record AreAllCells (handles : List (Option CellSeated)) : Type 0 where
 -- and there is room for all cells
 pub record MayCloseCells (handles : List (Option CellSeated)) (room : ℕ) : Type 0 where
   pub all : AreAllCells handles
-  pub room_is : all.last.held.opened.threads * all.last.held.opened.tokens ≤ room
+  pub room_is : all.last.held.opened.threads * without_spare all.last.held.opened ≤ room
 
 -- A queue was closed by these handles, and the cells that were left were written, and their number: all that the
 -- renewing queue says of a close

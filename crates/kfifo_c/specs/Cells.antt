@@ -11,7 +11,7 @@ use Rattle.kfifo_live.specs.declared.payload.Taken.TheVariants as K
 use Rattle.kfifo_live.specs.Payloads.{TokenView}
 use Rattle.kfifo_renewing.specs.Renewing.{GivesToNewest, TakesFromOldest}
 use Rattle.kfifo_c.specs.CellSeats.{CellSeated}
-use Rattle.kfifo_c.specs.Values.{given_number}
+use Rattle.kfifo_c.specs.Values.{given_number, without_spare}
 
 -- the cell of a token
 abbrev pub cell_of : TokenView → ℕ
@@ -67,7 +67,7 @@ pub record KeepsCell (token : TokenView) (old new : CellSeated) : Type 0 where
   pub same_held : new.held ≡ old.held
   pub same_reserved : new.reserved ≡ old.reserved
   pub same_received : new.received ≡ old.received
-  pub cells : KeepsOne token old.held.opened.tokens old.cells new.cells
+  pub cells : KeepsOne token (without_spare old.held.opened) old.cells new.cells
 
 -- the same seat, but for the cell that is reserved, or the one that was received
 abbrev pub with_reserved : Option TokenView → CellSeated → CellSeated

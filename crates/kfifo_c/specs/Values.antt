@@ -1,6 +1,6 @@
 -- What C is told of the calls with values, and what opening and closing say of the handles. c/kfifo.h has the same
 -- numbers.
-use Rattle.std.specs.Prelude.{◌≡◌, ℕ, ◌*◌, ◌^◌, ◌≤◌, ◌⊎◌, Option, Some, None, List, [], ◌∷◌, ◌++◌, map, length}
+use Rattle.std.specs.Prelude.{◌≡◌, ℕ, ◌+◌, ◌-◌, ◌*◌, ◌^◌, ◌<◌, ◌≤◌, ◌⊎◌, Option, Some, None, List, [], ◌∷◌, ◌++◌, map, length}
 use Rattle.std.specs.Prelude.{drop, true}
 use Rattle.kfifo_words.specs.declared.shape.Shape.{Shape}
 use Rattle.kfifo_live.specs.declared.payload.Given.{Given}
@@ -8,6 +8,9 @@ use Rattle.kfifo_live.specs.declared.payload.Given.TheVariants as G
 use Rattle.kfifo_live.specs.declared.payload.Taken.{Taken}
 use Rattle.kfifo_live.specs.declared.payload.Taken.TheVariants as K
 use Rattle.kfifo_live.specs.Payloads.{pay_opening}
+use Rattle.kfifo_live.specs.declared.payload.opening.TheConstants.{MAX_TOKENS, MOST_TOKENS}
+use Rattle.kfifo_live.specs.declared.tokens.sizes.TheConstants.{SPARE_TOKENS}
+use Rattle.kfifo_live.specs.declared.view.Opening.{Opening}
 use Rattle.kfifo_renewing.specs.declared.fault.RenewFault.{RenewFault}
 use Rattle.kfifo_renewing.specs.declared.fault.RenewFault.TheVariants.{Open, ReserveOutOfRange}
 use Rattle.kfifo_renewing.specs.Renewing.{ClosesAll, Follows, HaveOne, all_of}
@@ -42,9 +45,21 @@ abbrev pub value_after : ℕ → Option (Taken ℕ) → ℕ
 value_after old (Some (K.Got value)) = value
 value_after old other = old
 
+-- Each generation has SPARE_TOKENS tokens for each thread more than C asks for. A handle keeps no more than that for
+-- itself, so the others find as many as they asked for
+abbrev pub with_spare : ℕ → ℕ
+with_spare tokens = tokens + SPARE_TOKENS
+
+abbrev pub without_spare : Opening → ℕ
+without_spare o = o.tokens - SPARE_TOKENS
+
+-- there is no queue with so many tokens for each of these threads
+abbrev pub BadTokens : ℕ → ℕ → Type 0
+BadTokens threads tokens = (tokens ≡ 0) ⊎ (MAX_TOKENS < tokens) ⊎ (MOST_TOKENS < threads * with_spare tokens)
+
 -- a queue of these sizes was opened, and these are its new seats: all that the renewing queue says of an opening
 pub record OpensValues (shape : Shape) (threads tokens : ℕ) (seats : List ValueSeated) : Type 0 where
-  pub have_one : HaveOne (pay_opening shape threads tokens) seats
+  pub have_one : HaveOne (pay_opening shape threads (with_spare tokens)) seats
   pub count : length seats ≡ threads
 
 -- those of these sizes

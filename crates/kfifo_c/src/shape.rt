@@ -4,11 +4,13 @@ ghost use Rattle.kfifo_model.specs.declared.calls.TheConstants.{MAX_THREADS};
 ghost use Rattle.kfifo_words.specs.Sizes.{fault_of};
 ghost use Rattle.kfifo_live.specs.Payloads.{pay_opening};
 ghost use Rattle.kfifo_live.specs.declared.fault.OpenFault.TheVariants.{ThreadsOutOfRange, TokensOutOfRange};
-ghost use Rattle.kfifo_live.specs.declared.payload.opening.TheConstants.{MAX_TOKENS};
 ghost use Rattle.kfifo_renewing.specs.Renewing.{HaveOne};
 ghost use Rattle.kfifo_renewing.specs.declared.fault.RenewFault.TheVariants.{Open, ReserveOutOfRange};
+ghost use Rattle.kfifo_c.specs.Values.{BadTokens, with_spare};
 
-use kfifo_renewing::{RenewFault, RenewingHandle, open};
+use kfifo_live::{MAX_TOKENS, OpenFault, SPARE_TOKENS, Sizes};
+use kfifo_model::MAX_THREADS;
+use kfifo_renewing::{RenewFault, RenewingHandle, open_with};
 use kfifo_words::{Shape, ShapeFault};
 use std::alloc::Global;
 
@@ -23,7 +25,8 @@ pub(crate) fn shape_of(k: u32, segments: u32, last: u64, probes: u32) -> Result<
     }
 }
 
-/// Opens a queue that renews, as `kfifo_renewing::open`. Its generations have this shape, whose enqueues hold again.
+/// Opens a queue that renews, as `kfifo_renewing::open_with`. Its generations have this shape, whose enqueues hold
+/// again, and the tokens that its threads may keep for themselves besides these.
 pub(crate) fn open_renewing<T: Drop>(
     alloc: Global,
     shape: Shape,
@@ -32,13 +35,27 @@ pub(crate) fn open_renewing<T: Drop>(
     reserve: u64,
 ) -> Result<Vec<RenewingHandle<T>>, RenewFault>
     requires again { shape.holds_again ≡ true }
-    ensures ok { IfOk result (λ handles. HaveOne (pay_opening shape threads tokens) handles.items
+    ensures ok { IfOk result (λ handles. HaveOne (pay_opening shape threads (with_spare tokens)) handles.items
         × (length handles.items ≡ threads)) }
     ensures reserve { IsErrOf result ReserveOutOfRange ↔ (shape.last ≤ reserve) }
     ensures threads { IsErrOf result (Open ThreadsOutOfRange) ↔ ((reserve < shape.last)
         × ((threads ≡ 0) ⊎ (MAX_THREADS < threads))) }
     ensures tokens { IsErrOf result (Open TokensOutOfRange)
-        ↔ ((reserve < shape.last) × (1 ≤ threads) × (threads ≤ MAX_THREADS) × ((tokens ≡ 0) ⊎ (MAX_TOKENS < tokens))) }
+        ↔ ((reserve < shape.last) × (1 ≤ threads) × (threads ≤ MAX_THREADS) × BadTokens threads tokens) }
 {
-    open(alloc, shape, threads, tokens, reserve)
+    if reserve >= shape.last() {
+        return Err(RenewFault::ReserveOutOfRange);
+    }
+    if threads == 0 || threads > MAX_THREADS {
+        return Err(RenewFault::Open(OpenFault::ThreadsOutOfRange));
+    }
+    if tokens == 0 || tokens > MAX_TOKENS {
+        return Err(RenewFault::Open(OpenFault::TokensOutOfRange));
+    }
+    let sizes = Sizes {
+        shape,
+        threads,
+        tokens: tokens + SPARE_TOKENS,
+    };
+    open_with(alloc, sizes, reserve)
 }

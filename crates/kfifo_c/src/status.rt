@@ -16,7 +16,7 @@ pub(crate) const NO_MEMORY: u32 = 7;
 pub(crate) const NO_TOKEN: u32 = 10;
 /// The number of threads is not 1 to 64.
 pub(crate) const BAD_THREADS: u32 = 8;
-/// The number of tokens of a thread is not 1 to 1,024.
+/// The number of tokens of a thread is not 1 to 1,024, or the threads have too many together.
 pub(crate) const BAD_TOKENS: u32 = 15;
 /// The reserve of versions is not below the greatest version.
 pub(crate) const BAD_RESERVE: u32 = 18;

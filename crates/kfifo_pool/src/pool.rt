@@ -133,6 +133,13 @@ fn exchange<T: Drop>(
 }
 
 impl<T: Drop> PooledQueue<T> {
+    /// How many versions the ends word has left, as `TokenQueue::versions_left` finds it.
+    pub fn versions_left(&self) -> u64
+        ensures { result ≤ self.now.opened.shape.last }
+    {
+        self.queue.versions_left()
+    }
+
     /// The right to write to this place, if it is in this state.
     fn claim(&self, index: usize, state: u64) -> Option<Claim<'_, Option<Resting<T>>>>
         requires { IsTurn state 3 }

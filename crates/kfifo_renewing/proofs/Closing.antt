@@ -5,7 +5,7 @@ use Rattle.kfifo_renewing.specs.Renewing.{ClosesEach, HeldIn, WereLeft}
 
 module _ {T : Type 0} where
   pub closes-more : (done : List (HeldIn T)) (before : List T) (h : HeldIn T) (left : List T) → ClosesEach done before
-      → WereLeft h.held left → ClosesEach (done ++ h ∷ []) (before ++ left)
+      → WereLeft h.handle left → ClosesEach (done ++ h ∷ []) (before ++ left)
   closes-more [] before h left none here = (left, [], ap (λ b. b ++ left) none ∙ sym (append-nil left), here, refl)
   closes-more (x ∷ done) before h left (first, rest, e, were, each) here = (
     first,

@@ -1,9 +1,10 @@
 -- Of some generations those are left that have left their places, and the others are kept.
-use Rattle.std.proofs.Common.{◌≡◌, ◌≤◌, ⊎_elim, ℕ, zero, suc, List, [], ◌∷◌, ◌++◌, All, refl, sym, ap, ◌∙◌, subst, arith, inl, inr}
+use Rattle.std.proofs.Common.{◌≡◌, ◌≤◌, ⊎_elim, ℕ, zero, suc, List, [], ◌∷◌, ◌++◌, All, map, refl, sym, ap, ◌∙◌, subst, arith, inl, inr}
 use Rattle.std.proofs.lemmas.List.Elements.{All-cons, All-nil}
 use mathlib.Core.List.{IsPrefix}
 use Rattle.kfifo_live.specs.Pass.{HasNoEvent, OpenQueue}
-use Rattle.kfifo_live.specs.Payloads.{PayPassView, new_pay_passes}
+use Rattle.kfifo_live.specs.Tokens.{new_token_passes}
+use Rattle.kfifo_pool.specs.Pooled.{Pooled, new_handle, new_handles}
 use Rattle.kfifo_renewing.specs.declared.change.Change.{Change}
 use Rattle.kfifo_renewing.specs.Renewing.{HeldIn, IsNew, LeavesGone}
 use Rattle.kfifo_renewing.proofs.Histories.{left-later, made-later}
@@ -54,10 +55,15 @@ module _ {T : Type 0} where
   -- a new generation is new after an earlier one too, and as more of the history is seen
   pub new-later : (n m : ℕ) (xs ys : List Change) (h : HeldIn T) → n ≤ m → IsPrefix xs ys → IsNew m xs h → IsNew n ys h
   new-later n m xs ys h up p new =
-      (let above = new.0 in omega (arith, up, above), made-later xs ys h.number h.held.pass.pass.table p new.1, new.2)
+      (let above = new.0 in omega (arith, up, above), made-later xs ys h.number h.handle.held.pass.pass.table p new.1, new.2)
 
-  -- the passes of an opening have begun no call
-  pub new_unused : (q : OpenQueue) (first count : ℕ) → All (λ (p : PayPassView T). HasNoEvent p.pass) (new_pay_passes q first count)
-  new_unused q first zero = All-nil (λ (p : PayPassView T). HasNoEvent p.pass)
-  new_unused q first (suc count) =
-      All-cons (λ (p : PayPassView T). HasNoEvent p.pass) _ (new_pay_passes q (suc first) count) refl (new_unused q (suc first) count)
+  -- the handles of an opening have begun no call
+  unused_from : (q : OpenQueue) (first count : ℕ)
+      → All (λ (h : Pooled T). HasNoEvent h.held.pass.pass) (map new_handle (new_token_passes q first count))
+  unused_from q first zero = All-nil (λ (h : Pooled T). HasNoEvent h.held.pass.pass)
+  unused_from q first (suc count) =
+      All-cons (λ (h : Pooled T). HasNoEvent h.held.pass.pass) _ (map new_handle (new_token_passes q (suc first) count)) refl
+      (unused_from q (suc first) count)
+
+  pub new_unused : (q : OpenQueue) (count : ℕ) → All (λ (h : Pooled T). HasNoEvent h.held.pass.pass) (new_handles q count)
+  new_unused q count = unused_from q 0 count

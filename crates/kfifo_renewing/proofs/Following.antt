@@ -6,7 +6,7 @@ use Rattle.std.proofs.lemmas.List.Elements.{All-append, All-nil, All-weaker}
 use mathlib.Core.List.{IsPrefix}
 use Rattle.atomic_table.specs.Seated.{TableId}
 use Rattle.logbook.specs.Pages.{Book}
-use Rattle.kfifo_live.specs.Handles.{PayHeld}
+use Rattle.kfifo_pool.specs.Pooled.{Pooled}
 use Rattle.kfifo_live.specs.declared.view.Opening.{Opening}
 use Rattle.kfifo_renewing.specs.declared.change.Change.{Change}
 use Rattle.kfifo_renewing.specs.declared.change.Change.TheVariants as C
@@ -78,7 +78,7 @@ module _ {T : Type 0} where
       let seen = subst (λ l. IsPrefix l new.seen) same more in
       record { opened = opened; thread = thread; book = book; seen = seen; risen = risen-from old.seen new.seen seen risen }
 
-  pub later-newest : (old new : Generations T) (h : PayHeld T) → new ≡ with_newest old h → IsLater old new
+  pub later-newest : (old new : Generations T) (h : Pooled T) → new ≡ with_newest old h → IsLater old new
   later-newest old new h is = subst (IsLater old) (sym is)
       (record { opened = refl; thread = refl; book = refl; seen = ([], append-nil old.seen); risen = omega arith })
 
@@ -94,7 +94,7 @@ module _ {T : Type 0} where
       (later-older (with_seen old log) (with_older (with_seen old log) hs) hs refl))
 
   -- a handle that differs in its older generations alone
-  pub same-but-older : {o : Opening} {t : ℕ} {k : Book} {s : List Change} {h : PayHeld T} {n : ℕ} (older : List (HeldIn T)) (b : Generations T)
+  pub same-but-older : {o : Opening} {t : ℕ} {k : Book} {s : List Change} {h : Pooled T} {n : ℕ} (older : List (HeldIn T)) (b : Generations T)
       → o ≡ b.opened → t ≡ b.thread → k ≡ b.book → s ≡ b.seen → h ≡ b.newest → n ≡ b.number
       → record { opened = o; thread = t; book = k; seen = s; older = older; newest = h; number = n } ≡ with_older b older
   same-but-older older b opened thread book seen newest number = λ i. record {
@@ -108,7 +108,7 @@ module _ {T : Type 0} where
   }
 
   -- a handle that has seen more of the history, and has these older generations
-  pub same-but-both : {o : Opening} {t : ℕ} {k : Book} {h : PayHeld T} {n : ℕ} (older : List (HeldIn T)) (log : List Change)
+  pub same-but-both : {o : Opening} {t : ℕ} {k : Book} {h : Pooled T} {n : ℕ} (older : List (HeldIn T)) (log : List Change)
       (b : Generations T) → o ≡ b.opened → t ≡ b.thread → k ≡ b.book → h ≡ b.newest → n ≡ b.number
       → record { opened = o; thread = t; book = k; seen = log; older = older; newest = h; number = n } ≡ with_older (with_seen b log) older
   same-but-both older log b opened thread book newest number = λ i. record {
@@ -142,7 +142,7 @@ module _ {T : Type 0} where
       (joined-later o shared book then old new g h older j same (was-prefix t finds.number old new finds.was) finds.risen) part
 
   -- a handle that has seen more of the history, and made a call in its newest generation
-  pub same-but-seen : {o : Opening} {t : ℕ} {k : Book} {older : List (HeldIn T)} {n : ℕ} (log : List Change) (h : PayHeld T)
+  pub same-but-seen : {o : Opening} {t : ℕ} {k : Book} {older : List (HeldIn T)} {n : ℕ} (log : List Change) (h : Pooled T)
       (b : Generations T) → o ≡ b.opened → t ≡ b.thread → k ≡ b.book → older ≡ b.older → n ≡ b.number
       → record { opened = o; thread = t; book = k; seen = log; older = older; newest = h; number = n }
       ≡ with_newest (with_seen b log) h
@@ -172,7 +172,7 @@ module _ {T : Type 0} where
       → IsAtNewest g (with_seen g log)
   looked-newest found log g looked none = (
     subst (λ n. NewestWas (sight g) n g.seen log) (looked.0.same none) looked.0.was,
-    made-later g.seen log g.number g.newest.pass.pass.table (was-prefix (sight g) looked.0.number g.seen log looked.0.was) looked.1,
+    made-later g.seen log g.number g.newest.held.pass.pass.table (was-prefix (sight g) looked.0.number g.seen log looked.0.was) looked.1,
   )
 
   -- it found that there is one
@@ -182,7 +182,7 @@ module _ {T : Type 0} where
     looked.0.number,
     looked.0.was,
     looked.0.other some,
-    made-later g.seen log g.number g.newest.pass.pass.table (was-prefix (sight g) looked.0.number g.seen log looked.0.was) looked.1,
+    made-later g.seen log g.number g.newest.held.pass.pass.table (was-prefix (sight g) looked.0.number g.seen log looked.0.was) looked.1,
   )
 
   pub seen-more : (mid new : Generations T) (b : Bool) → MatchBool b (IsAtNewest mid new) (IsBehind mid new) → IsPrefix mid.seen new.seen
@@ -228,14 +228,14 @@ module _ {T : Type 0} where
   pub follows-less : (old new : Generations T) → IsLater old new → LeavesGone new.seen old.older new.older → new.newest ≡ old.newest
       → new.number ≡ old.number → Follows old new
   follows-less old new later older newest number =
-      let last : List (HeldIn T) = record { held = old.newest; number = old.number } ∷ [] in
-      let same : record { held = new.newest; number = new.number } ∷ [] ≡ last = λ i. record { held = newest i; number = number i } ∷ [] in
+      let last : List (HeldIn T) = record { handle = old.newest; number = old.number } ∷ [] in
+      let same : record { handle = new.newest; number = new.number } ∷ [] ≡ last = λ i. record { handle = newest i; number = number i } ∷ [] in
       record {
         later = later;
         up = omega (arith, number);
         kept = all_of new;
         joined = [];
-        keeps = leaves-append new.seen old.older new.older last (record { held = new.newest; number = new.number } ∷ []) older
+        keeps = leaves-append new.seen old.older new.older last (record { handle = new.newest; number = new.number } ∷ []) older
             (inl ([], same, refl));
         all = sym (append-nil (all_of new));
         all_new = All-nil (IsNew old.number new.seen);
@@ -244,9 +244,9 @@ module _ {T : Type 0} where
   -- generations more, the newest of which is the handle's newest then
   pub follows-jump : (old new : Generations T) (between : List (HeldIn T)) → IsLater old new → old.number ≤ new.number
       → new.older ≡ all_of old ++ between
-      → All (IsNew old.number new.seen) (between ++ record { held = new.newest; number = new.number } ∷ []) → Follows old new
+      → All (IsNew old.number new.seen) (between ++ record { handle = new.newest; number = new.number } ∷ []) → Follows old new
   follows-jump old new between later up older all_new =
-      let last : List (HeldIn T) = record { held = new.newest; number = new.number } ∷ [] in
+      let last : List (HeldIn T) = record { handle = new.newest; number = new.number } ∷ [] in
       record {
         later = later;
         up = up;

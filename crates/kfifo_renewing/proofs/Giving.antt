@@ -2,9 +2,8 @@
 use Rattle.std.proofs.Common.{◌≡◌, ℕ, List, inl, inr, refl, subst}
 use Rattle.kfifo_live.specs.declared.payload.Given.{Given}
 use Rattle.kfifo_live.specs.declared.payload.Given.TheVariants as G
-use Rattle.kfifo_live.specs.Handles.{PayHeld, PicksUpAndGives}
+use Rattle.kfifo_pool.specs.Pooled.{GivesOne, Pooled}
 use Rattle.kfifo_live.specs.Pass.{IsSamePass}
-use Rattle.kfifo_live.specs.Promise.{KeepsPromise}
 use Rattle.kfifo_renewing.specs.declared.change.Change.{Change}
 use Rattle.kfifo_renewing.specs.Renewing.{Follows, Generations, GivesToNewest, TriesToGive}
 use Rattle.kfifo_renewing.specs.Renewing.{with_newest, with_seen}
@@ -16,18 +15,21 @@ module _ {T : Type 0} where
   IsWorn (G.Worn back) = Unit {0}
   IsWorn answer = ⊥
 
+  unsent : (payload back : T) (old new : Pooled T) → GivesOne payload (G.Worn back) old new → back ≡ payload
+  unsent payload back old new (token, left, given, keeps) = given.gives.0
+
   pub worn-back : (payload back : T) (old new : Generations T) → TriesToGive payload (G.Worn back) old new → back ≡ payload
-  worn-back payload back old new (here, follows, inl gives) = gives.1.gives.gives.same
+  worn-back payload back old new (here, follows, inl gives) = unsent payload back here.newest new.newest gives.1.gives
   worn-back payload back old new (here, follows, inr busy) = absurd (subst IsWorn busy.1 tt)
 
   -- a give after a look that found no later generation
-  pub gave-here : (payload : T) (answer : Given T) (g : Generations T) (found : ℕ) (log : List Change) (h : PayHeld T)
-      → Looked found log g → found ≡ 0 → IsSamePass g.newest.pass.pass h.pass.pass → PicksUpAndGives payload answer g.newest h
-      → KeepsPromise h.pass.pass.opened h.pass.pass.seen → TriesToGive payload answer g (with_newest (with_seen g log) h)
-  gave-here payload answer g found log h looked none same gives promise = (
+  pub gave-here : (payload : T) (answer : Given T) (g : Generations T) (found : ℕ) (log : List Change) (h : Pooled T)
+      → Looked found log g → found ≡ 0 → IsSamePass g.newest.held.pass.pass h.held.pass.pass → GivesOne payload answer g.newest h
+      → TriesToGive payload answer g (with_newest (with_seen g log) h)
+  gave-here payload answer g found log h looked none same gives = (
     with_seen g log,
     looked-follows found log g looked,
-    inl (looked-newest found log g looked none, record { others = refl; same = same; gives = gives; promise = promise }),
+    inl (looked-newest found log g looked none, record { others = refl; same = same; gives = gives }),
   )
 
   -- a try by a handle that had looked before it

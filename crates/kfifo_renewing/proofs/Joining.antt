@@ -11,7 +11,7 @@ use Rattle.std.proofs.lemmas.Bool.{cases_lt}
 use Rattle.std.proofs.lemmas.Bool.Decides.{nat_tests}
 use mathlib.Core.List.{IsPrefix}
 use Rattle.logbook.specs.Pages.{Book, Cell}
-use Rattle.kfifo_live.specs.Handles.{PayHeld}
+use Rattle.kfifo_pool.specs.Pooled.{Pooled}
 use Rattle.kfifo_live.specs.Pass.{IsPassOf}
 use Rattle.kfifo_live.specs.declared.view.Opening.{Opening}
 use Rattle.kfifo_renewing.specs.declared.change.Change.{Change}
@@ -58,7 +58,7 @@ contains-map f (y ∷ xs) x (suc k, inside, is) = contains-cons (f y) (f x) (map
 module _ {T : Type 0} where
   pub part-later : (xs ys : List Change) (p : PartView T) → IsPrefix xs ys → IsPart xs p → IsPart ys p
   part-later xs ys p more is = record {
-    made = made-later xs ys p.number p.held.pass.pass.table more is.made;
+    made = made-later xs ys p.number p.handle.held.pass.pass.table more is.made;
     inside = is.inside;
     placed = contains-later xs ys (C.Placed p.number p.place) more is.placed;
   }
@@ -71,7 +71,7 @@ module _ {T : Type 0} where
 
   part-same : (log : List Change) (p q : PartView T) → IsSamePart p q → IsPart log p → IsPart log q
   part-same log p q same is = record {
-    made = subst (λ n. IsMade log n q.held.pass.pass.table) (sym same.0)
+    made = subst (λ n. IsMade log n q.handle.held.pass.pass.table) (sym same.0)
         (subst (IsMade log p.number) (sym same.2.0) is.made);
     inside = let low = is.inside in let at = same.1 in omega (arith, low, at);
     placed = subst (λ n. IsPlaced log n q.place) (sym same.0) (subst (IsPlaced log p.number) (sym same.1) is.placed);
@@ -85,12 +85,12 @@ module _ {T : Type 0} where
       (older n (was-below xs ys n number more risen newest below was) below)
 
   -- a handle that has joined the first generation alone
-  pub joined-first : (o : Opening) (shared book : Book) (log : List Change) (g : Numbered) (h : PartView T) → IsOpenedAs o h.held
-      → book ≡ shared → g.book ≡ book → IsPassOf g.queue h.held.pass.pass → g.number ≡ 0 → h.number ≡ 0 → IsPart log h → HasRisen log
+  pub joined-first : (o : Opening) (shared book : Book) (log : List Change) (g : Numbered) (h : PartView T) → IsOpenedAs o h.handle
+      → book ≡ shared → g.book ≡ book → IsPassOf g.queue h.handle.held.pass.pass → g.number ≡ 0 → h.number ≡ 0 → IsPart log h → HasRisen log
       → HasJoined o shared book log g h []
   joined-first o shared book log g h opened same books of first number part risen = record {
     newest_opened = opened;
-    older_opened = All-nil (λ (p : PartView T). IsOpenedAs o p.held);
+    older_opened = All-nil (λ (p : PartView T). IsOpenedAs o p.handle);
     same_book = same;
     books = books;
     of = of;
@@ -164,7 +164,7 @@ module _ {T : Type 0} where
       → HasJoined o shared book log g h ps → AreSameParts ps qs → HasJoined o shared book log g h qs
   joined-same o shared book log g h ps qs j same = record {
     newest_opened = j.newest_opened;
-    older_opened = all-same (λ (p : PartView T). IsOpenedAs o p.held) (λ p q s is. s.2.1 ∙ is) ps qs same j.older_opened;
+    older_opened = all-same (λ (p : PartView T). IsOpenedAs o p.handle) (λ p q s is. s.2.1 ∙ is) ps qs same j.older_opened;
     same_book = j.same_book;
     books = j.books;
     of = j.of;
@@ -183,7 +183,7 @@ module _ {T : Type 0} where
       → slice_get ps i ≡ Some p → IsKept cells log → HasLeft log p.number → HasJoined o shared book log g h qs
   joined-less o shared book log cells g h ps qs i p j without at kept left = record {
     newest_opened = j.newest_opened;
-    older_opened = all-without (λ (q : PartView T). IsOpenedAs o q.held) ps qs i without j.older_opened;
+    older_opened = all-without (λ (q : PartView T). IsOpenedAs o q.handle) ps qs i without j.older_opened;
     same_book = j.same_book;
     books = j.books;
     of = j.of;
@@ -213,8 +213,8 @@ module _ {T : Type 0} where
 
   -- a part in a list of parts
   made-of : (log : List Change) (ps : List (PartView T)) (p : PartView T) → All (IsPart log) ps → Contains ps p
-      → IsMade log p.number p.held.pass.pass.table
-  made-of log ps p all (k, inside, is) = subst (λ (q : PartView T). IsMade log q.number q.held.pass.pass.table) is (all k p inside).made
+      → IsMade log p.number p.handle.held.pass.pass.table
+  made-of log ps p all (k, inside, is) = subst (λ (q : PartView T). IsMade log q.number q.handle.held.pass.pass.table) is (all k p inside).made
 
   number-in : (ps qs : List (PartView T)) (n : ℕ) → ((p : PartView T) → Contains ps p → Contains qs p) → HasNumber ps n → HasNumber qs n
   number-in ps qs n all has = (has.0, all has.0 has.1, has.2)
@@ -227,8 +227,8 @@ module _ {T : Type 0} where
   -- a handle that joins a later generation, and those between
   pub joined-more : (o : Opening) (shared book mine : Book) (xs ys : List Change) (cells : List Cell) (g next : Numbered) (h k : PartView T)
       (ps between qs : List (PartView T)) → HasJoined o shared book xs g h ps → mine ≡ book → IsPrefix xs ys → IsKept cells ys → HasRisen ys
-      → (next.book ≡ book) → IsOpenedAs o k.held → IsPassOf next.queue k.held.pass.pass → k.number ≡ next.number → IsPart ys k
-      → g.number < next.number → WasNewest xs next.number → All (λ (p : PartView T). IsOpenedAs o p.held) between → All (IsPart ys) between
+      → (next.book ≡ book) → IsOpenedAs o k.handle → IsPassOf next.queue k.handle.held.pass.pass → k.number ≡ next.number → IsPart ys k
+      → g.number < next.number → WasNewest xs next.number → All (λ (p : PartView T). IsOpenedAs o p.handle) between → All (IsPart ys) between
       → All (λ (p : PartView T). p.number < next.number) between → AreAmong g.number next.number between xs ys
       → qs ≡ (ps ++ h ∷ []) ++ between → HasJoined o shared mine ys next k qs
   joined-more o shared book mine xs ys cells g next h k ps between qs j same more kept risen books opened of number part later was
@@ -237,7 +237,7 @@ module _ {T : Type 0} where
       λ P first mid last. subst (All P) (sym is) (All-append P (ps ++ h ∷ []) between (All-push P ps h first mid) last) in
       record {
         newest_opened = opened;
-        older_opened = both (λ (p : PartView T). IsOpenedAs o p.held) j.older_opened j.newest_opened all-opened;
+        older_opened = both (λ (p : PartView T). IsOpenedAs o p.handle) j.older_opened j.newest_opened all-opened;
         same_book = same ∙ j.same_book;
         books = books ∙ sym same;
         of = of;
@@ -273,14 +273,14 @@ module _ {T : Type 0} where
 
   -- the number of the newest generation in the history
   pub numbered-by : (o : Opening) (shared book : Book) (log : List Change) (g : Numbered) (h : PartView T) (ps : List (PartView T))
-      → HasJoined o shared book log g h ps → IsMade log g.number h.held.pass.pass.table
-  numbered-by o shared book log g h ps j = subst (λ n. IsMade log n h.held.pass.pass.table) j.number j.newest_part.made
+      → HasJoined o shared book log g h ps → IsMade log g.number h.handle.held.pass.pass.table
+  numbered-by o shared book log g h ps j = subst (λ n. IsMade log n h.handle.held.pass.pass.table) j.number j.newest_part.made
 
   -- the handle is in each generation that has not gone
   pub has-all : (o : Opening) (shared book : Book) (g : Numbered) (h : PartView T) (ps : List (PartView T)) (v : Generations T)
-      → HasJoined o shared book v.seen g h ps → held_by ps ≡ v.older → h.held ≡ v.newest → g.number ≡ v.number → HasAll v
+      → HasJoined o shared book v.seen g h ps → held_by ps ≡ v.older → h.handle ≡ v.newest → g.number ≡ v.number → HasAll v
   has-all o shared book g h ps v j older newest number n was up =
-      let last : HeldIn T = record { held = v.newest; number = v.number } in
+      let last : HeldIn T = record { handle = v.newest; number = v.number } in
       ⊎_elim
       (λ less. ⊎_elim
       inl
@@ -289,7 +289,7 @@ module _ {T : Type 0} where
         subst (λ l. Contains (l ++ last ∷ []) (held_in has.0)) older
             (Contains-append_left (held_by ps) (last ∷ []) (held_in has.0) (contains-map (λ (p : PartView T). held_in p) ps has.0 has.1)),
         has.2,
-        subst (λ k. IsMade v.seen k has.0.held.pass.pass.table) has.2 (made-of v.seen ps has.0 j.older_parts has.1),
+        subst (λ k. IsMade v.seen k has.0.handle.held.pass.pass.table) has.2 (made-of v.seen ps has.0 j.older_parts has.1),
       ))
       (j.all n was (let at = number in omega (arith, less, at))))
       (λ no-less.
@@ -298,8 +298,8 @@ module _ {T : Type 0} where
         last,
         Contains-push v.older last,
         sym same,
-        subst (λ k. IsMade v.seen k v.newest.pass.pass.table) (number ∙ sym same)
-            (subst (λ (x : PayHeld T). IsMade v.seen g.number x.pass.pass.table) newest (numbered-by o shared book v.seen g h ps j)),
+        subst (λ k. IsMade v.seen k v.newest.held.pass.pass.table) (number ∙ sym same)
+            (subst (λ (x : Pooled T). IsMade v.seen g.number x.held.pass.pass.table) newest (numbered-by o shared book v.seen g h ps j)),
       ))
       (cases_lt n v.number)
 

@@ -1,7 +1,7 @@
 -- Takes from generations leave each of them as many and as large.
 use Rattle.std.proofs.Common.{◌≡◌, ◌≢◌, ap, ℕ, true, false, List, [], None, inl, inr, refl, sym, ◌∙◌, subst}
 use Rattle.kfifo_live.specs.declared.payload.Taken.{Taken}
-use Rattle.kfifo_live.specs.Handles.{PayHeld}
+use Rattle.kfifo_pool.specs.Pooled.{Pooled}
 use Rattle.kfifo_live.specs.declared.payload.Taken.TheVariants as K
 use Rattle.kfifo_renewing.specs.declared.change.Change.{Change}
 use Rattle.kfifo_renewing.specs.Renewing.{Follows, Generations, HasAll, IsLater, LooksAgain, TakesFirst, TakesFromOldest, TakesNewest, TakesThere}
@@ -46,7 +46,7 @@ module _ {T : Type 0} where
   )
 
   -- it found something, or lost each round
-  pub took-some : (answer : Taken T) (g : Generations T) (found : ℕ) (log : List Change) (h : PayHeld T) → Looked found log g → found ≡ 0
+  pub took-some : (answer : Taken T) (g : Generations T) (found : ℕ) (log : List Change) (h : Pooled T) → Looked found log g → found ≡ 0
       → HasAll (with_seen g log) → g.older ≡ [] → TakesThere answer g.newest h → answer ≢ K.Empty → TakesFromOldest answer g (with_newest (with_seen g log) h)
   took-some answer g found log h looked none all alone takes some =
       took-here answer g (with_newest (with_seen g log) h) found log looked none all alone
@@ -54,7 +54,7 @@ module _ {T : Type 0} where
       (record { taken = answer; takes = takes; then = inl (some, refl, refl) })
 
   -- it came to something else, and the handle may have looked again
-  pub took-other : (taken answer : Taken T) (g new : Generations T) (found : ℕ) (log : List Change) (h : PayHeld T)
+  pub took-other : (taken answer : Taken T) (g new : Generations T) (found : ℕ) (log : List Change) (h : Pooled T)
       → Looked found log g → found ≡ 0 → HasAll (with_seen g log) → g.older ≡ [] → TakesThere taken g.newest h
       → new ≡ with_seen (with_newest (with_seen g log) h) new.seen → IsLater (with_newest (with_seen g log) h) new
       → LooksAgain taken answer (with_newest (with_seen g log) h) new → TakesFromOldest answer g new
@@ -65,6 +65,6 @@ module _ {T : Type 0} where
       (ap (λ (v : Generations T). v.number) same) (ap (λ (v : Generations T). v.older) same ∙ alone)
       (record {
         taken = taken;
-        takes = subst (λ (x : PayHeld T). TakesThere taken g.newest x) (sym (ap (λ (v : Generations T). v.newest) same)) takes;
+        takes = subst (λ (x : Pooled T). TakesThere taken g.newest x) (sym (ap (λ (v : Generations T). v.newest) same)) takes;
         then = again;
       })

@@ -4,7 +4,7 @@ use Rattle.std.specs.List.{Contains}
 use Rattle.atomic_table.specs.Seated.{TableId}
 use Rattle.logbook.specs.Pages.{Book}
 use Rattle.kfifo_live.specs.declared.payload.Taken.TheVariants as K
-use Rattle.kfifo_live.specs.Handles.{PayHeld}
+use Rattle.kfifo_pool.specs.Pooled.{Pooled}
 use Rattle.kfifo_live.specs.Pass.{HasNoEvent, IsPassOf, IsSamePass}
 use Rattle.kfifo_live.specs.declared.view.Opening.{Opening}
 use Rattle.kfifo_renewing.specs.History.{HasLeft, HasRisen, IsGone, IsMade, IsPlaced, WasNewest, place_count}
@@ -13,13 +13,13 @@ use Rattle.kfifo_renewing.specs.declared.change.Change.{Change}
 
 -- a part in a generation: the handle there, and the number and the place of the generation
 pub record PartView (T : Type 0) : Type 0 where
-  pub held : PayHeld T
+  pub handle : Pooled T
   pub number : ℕ
   pub place : ℕ
 
 -- a take of a payload of this type found the queue with this table empty
 abbrev pub FoundEmpty : Type 0 → TableId → Type 0
-FoundEmpty T table = (before : PayHeld T) × (after : PayHeld T) × (before.pass.pass.table ≡ table)
+FoundEmpty T table = (before : Pooled T) × (after : Pooled T) × (before.held.pass.pass.table ≡ table)
     × TakesThere K.Empty before after
 
 -- a take of a payload of this type found the generation with this number empty
@@ -33,14 +33,14 @@ MayGo T log n = WasNewest log n → IsGone log n ⊎ WasFoundEmpty T log n
 module _ {T : Type 0} where
   -- the generation of a part has its number and its place in the history
   pub record IsPart (log : List Change) (p : PartView T) : Type 0 where
-    pub made : IsMade log p.number p.held.pass.pass.table
+    pub made : IsMade log p.number p.handle.held.pass.pass.table
     pub inside : p.place < place_count
     pub placed : IsPlaced log p.number p.place
 
   -- a part in the same generation, with the same pass
   abbrev pub IsSamePart : PartView T → PartView T → Type 0
   IsSamePart old new = (new.number ≡ old.number) × (new.place ≡ old.place)
-      × IsSamePass old.held.pass.pass new.held.pass.pass
+      × IsSamePass old.handle.held.pass.pass new.handle.held.pass.pass
 
   -- parts in the same generations, in the same order
   abbrev pub AreSameParts : List (PartView T) → List (PartView T) → Type 0
@@ -50,14 +50,14 @@ module _ {T : Type 0} where
 
   -- the handle of a part in its generation, and those of some
   abbrev pub held_in : PartView T → HeldIn T
-  held_in p = record { held = p.held; number = p.number }
+  held_in p = record { handle = p.handle; number = p.number }
 
   abbrev pub held_by : List (PartView T) → List (HeldIn T)
   held_by = map held_in
 
   -- a part in which its thread has begun no call, in a generation that comes after this number
   abbrev pub IsUnused : ℕ → PartView T → Type 0
-  IsUnused number p = (number < p.number) × HasNoEvent p.held.pass.pass
+  IsUnused number p = (number < p.number) × HasNoEvent p.handle.held.pass.pass
 
   -- one of these parts is in the generation with this number
   abbrev pub HasNumber : List (PartView T) → ℕ → Type 0
@@ -76,11 +76,11 @@ module _ {T : Type 0} where
   -- generation, and its parts
   pub record HasJoined (o : Opening) (shared book : Book) (log : List Change) (g : Numbered) (newest : PartView T)
       (older : List (PartView T)) : Type 0 where
-    pub newest_opened : IsOpenedAs o newest.held
-    pub older_opened : All (λ p. IsOpenedAs o p.held) older
+    pub newest_opened : IsOpenedAs o newest.handle
+    pub older_opened : All (λ p. IsOpenedAs o p.handle) older
     pub same_book : book ≡ shared
     pub books : g.book ≡ book
-    pub of : IsPassOf g.queue newest.held.pass.pass
+    pub of : IsPassOf g.queue newest.handle.held.pass.pass
     pub number : newest.number ≡ g.number
     pub was : WasNewest log g.number
     pub risen : HasRisen log

@@ -1,5 +1,5 @@
 -- The generations of a renewing queue, as a handle has joined them, and what its calls do to each.
-use Rattle.std.specs.Prelude.{◌≡◌, ◌≢◌, ◌⊎◌, ◌<◌, ◌≤◌, ◌==◌, ℕ, not, true, List, [], ◌∷◌, ◌++◌, All, filter, map, Option, Some, None}
+use Rattle.std.specs.Prelude.{◌≡◌, ◌≢◌, ◌⊎◌, ◌<◌, ◌≤◌, ◌==◌, ◌*◌, ℕ, not, false, true, List, [], ◌∷◌, ◌++◌, All, filter, length, map, Option, Some, None}
 use Rattle.std.specs.List.{Contains}
 use mathlib.Core.List.{IsPrefix}
 use Rattle.logbook.specs.Pages.{Book}
@@ -8,16 +8,21 @@ use Rattle.kfifo_live.specs.declared.payload.Given.{Given}
 use Rattle.kfifo_live.specs.declared.payload.Given.TheVariants as G
 use Rattle.kfifo_live.specs.declared.payload.Taken.{Taken}
 use Rattle.kfifo_live.specs.declared.payload.Taken.TheVariants as K
-use Rattle.kfifo_live.specs.Handles.{PayHeld, PicksUpAndGives, TakesAndLaysDown}
-use Rattle.kfifo_live.specs.Pass.{HasNoEvent, IsPassOf, IsSamePass, OpenQueue}
-use Rattle.kfifo_live.specs.Payloads.{PayCloses, PayPassView, pay_opening}
-use Rattle.kfifo_live.specs.Promise.{KeepsPromise}
+use Rattle.kfifo_model.specs.declared.calls.TheConstants.{MAX_THREADS}
+use Rattle.kfifo_live.specs.Calls.{IsDisturbed}
+use Rattle.kfifo_live.specs.Capacities.{HasRoom}
+use Rattle.kfifo_live.specs.Handles.{further}
+use Rattle.kfifo_live.specs.Pass.{HasNoEvent, IsPassOf, IsSamePass, OpenQueue, PassKeepsPromise}
+use Rattle.kfifo_live.specs.Payloads.{PayCloses}
 use Rattle.kfifo_live.specs.Schedule.{count_up}
+use Rattle.kfifo_live.specs.Tokens.{token_opening}
+use Rattle.kfifo_live.specs.declared.payload.opening.TheConstants.{MOST_TOKENS}
+use Rattle.kfifo_live.specs.declared.tokens.sizes.Sizes.{Sizes}
 use Rattle.kfifo_live.specs.declared.view.Opening.{Opening}
+use Rattle.kfifo_pool.specs.Pooled.{GivesOne, Pooled, ReceivesOne}
 use Rattle.kfifo_renewing.specs.History.{HasLeft, IsGone, IsMade, NewestWas, WasNewest, newest_of, sight_of}
 use Rattle.kfifo_renewing.specs.declared.change.Change.{Change}
 use Rattle.kfifo_renewing.specs.declared.change.Sight.{Sight}
-use Rattle.kfifo_renewing.specs.declared.generation.Sizes.{Sizes}
 use Rattle.kfifo_renewing.specs.declared.places.Lineage.{Lineage}
 
 -- the shape of the same sizes whose enqueues hold again
@@ -40,7 +45,19 @@ holding_again s = record {
 
 -- what each generation of a queue of these sizes is opened with
 abbrev pub opening_of : Sizes → Opening
-opening_of s = pay_opening s.shape s.threads s.tokens
+opening_of s = token_opening false s.shape s.threads s.tokens
+
+-- the sizes whose enqueues hold again
+abbrev pub sizes_again : Sizes → Sizes
+sizes_again s = record { shape = holding_again s.shape; threads = s.threads; tokens = s.tokens }
+
+abbrev pub opening_again : Sizes → Opening
+opening_again s = opening_of (sizes_again s)
+
+-- there are threads and tokens, and not too many
+pub record AreInRange (s : Sizes) : Type 0 where
+  pub threads : (0 < s.threads) × (s.threads ≤ MAX_THREADS)
+  pub tokens : (0 < s.tokens) × (s.threads * s.tokens ≤ MOST_TOKENS)
 
 -- these threads but one
 abbrev pub without : ℕ → List ℕ → List ℕ
@@ -64,7 +81,7 @@ IsOfLineage l g = (g.queue.opened ≡ opening_of l.sizes) × (g.book ≡ l.histo
 
 -- the handle of a thread in a generation, and the number of that
 pub record HeldIn (T : Type 0) : Type 0 where
-  pub held : PayHeld T
+  pub handle : Pooled T
   pub number : ℕ
 
 -- The generations that the handle of a thread has joined: its handle in each. It gives to the newest, which has this
@@ -76,17 +93,17 @@ pub record Generations (T : Type 0) : Type 0 where
   pub book : Book
   pub seen : List Change
   pub older : List (HeldIn T)
-  pub newest : PayHeld T
+  pub newest : Pooled T
   pub number : ℕ
 
 module _ {T : Type 0} where
   -- a handle in a queue with this opening
-  abbrev pub IsOpenedAs : Opening → PayHeld T → Type 0
-  IsOpenedAs o h = h.pass.pass.opened ≡ o
+  abbrev pub IsOpenedAs : Opening → Pooled T → Type 0
+  IsOpenedAs o h = h.held.pass.pass.opened ≡ o
 
   -- all of them, the oldest first
   abbrev pub all_of : Generations T → List (HeldIn T)
-  all_of g = g.older ++ record { held = g.newest; number = g.number } ∷ []
+  all_of g = g.older ++ record { handle = g.newest; number = g.number } ∷ []
 
   -- the handle, once it has seen this much of the history
   abbrev pub with_seen : Generations T → List Change → Generations T
@@ -113,7 +130,7 @@ module _ {T : Type 0} where
   }
 
   -- the handle, once it has made a call in its newest generation
-  abbrev pub with_newest : Generations T → PayHeld T → Generations T
+  abbrev pub with_newest : Generations T → Pooled T → Generations T
   with_newest g h = record {
     opened = g.opened;
     thread = g.thread;
@@ -135,16 +152,16 @@ module _ {T : Type 0} where
 
   -- the newest generation of the handle is the one with its number in the history
   abbrev pub IsNumbered : Generations T → Type 0
-  IsNumbered g = IsMade g.seen g.number g.newest.pass.pass.table
+  IsNumbered g = IsMade g.seen g.number g.newest.held.pass.pass.table
 
   -- Each generation of the queue that was the newest, up to that of the handle, has gone, or the handle has joined it
   abbrev pub HasAll : Generations T → Type 0
   HasAll g = (n : ℕ) → WasNewest g.seen n → n ≤ g.number
-      → IsGone g.seen n ⊎ ((h : HeldIn T) × Contains (all_of g) h × (h.number ≡ n) × IsMade g.seen n h.held.pass.pass.table)
+      → IsGone g.seen n ⊎ ((h : HeldIn T) × Contains (all_of g) h × (h.number ≡ n) × IsMade g.seen n h.handle.held.pass.pass.table)
 
   -- what a look of the handle tells, once its newest pass has seen what it has
   abbrev pub sight : Generations T → Sight
-  sight g = sight_of g.newest.pass.pass
+  sight g = sight_of g.newest.held.pass.pass
 
   -- At a look of the handle from old to new, its newest generation was the newest of the queue. Its pass there had then
   -- seen all that it has seen
@@ -165,7 +182,7 @@ module _ {T : Type 0} where
 
   -- a handle in a generation that comes after this number, in which its thread has begun no call
   abbrev pub IsNew : ℕ → List Change → HeldIn T → Type 0
-  IsNew number log h = (number < h.number) × IsMade log h.number h.held.pass.pass.table × HasNoEvent h.held.pass.pass
+  IsNew number log h = (number < h.number) × IsMade log h.number h.handle.held.pass.pass.table × HasNoEvent h.handle.held.pass.pass
 
   -- A handle follows others. It keeps what it has joined as it is, but for generations that have left their places, and
   -- joins some later ones. Nothing is done in any of them
@@ -181,7 +198,7 @@ module _ {T : Type 0} where
   -- a handle that has joined one generation alone, the first, of this queue, in this history
   abbrev pub HasOne : OpenQueue → Book → Generations T → Type 0
   HasOne q book g = (g.opened ≡ q.opened) × (g.book ≡ book) × (g.older ≡ []) × (g.number ≡ 0)
-      × IsPassOf q g.newest.pass.pass
+      × IsPassOf q g.newest.held.pass.pass
 
   -- handles of all threads, in their order, that have joined one generation, the same each, which has this opening, in
   -- one history
@@ -189,12 +206,20 @@ module _ {T : Type 0} where
   HaveOne o handles = (q : OpenQueue) × (book : Book) × (q.opened ≡ o) × All (HasOne q book) handles
       × (map (λ g. g.thread) handles ≡ count_up 0 o.threads)
 
-  -- one give, to the newest generation, whose promise is then kept. The others stay as they are
+  -- a queue was opened with room for so many payloads: these are its handles
+  pub record OpensFor (k capacity threads : ℕ) (handles : List (Generations T)) : Type 0 where
+    pub sizes : Sizes
+    pub k_is : sizes.shape.k ≡ k
+    pub threads_are : sizes.threads ≡ threads
+    pub room : HasRoom capacity sizes
+    pub have_one : HaveOne (opening_again sizes) handles
+    pub count : length handles ≡ threads
+
+  -- one give, to the newest generation. The others stay as they are
   pub record GivesThere (payload : T) (answer : Given T) (old new : Generations T) : Type 0 where
     pub others : new ≡ with_newest old new.newest
-    pub same : IsSamePass old.newest.pass.pass new.newest.pass.pass
-    pub gives : PicksUpAndGives payload answer old.newest new.newest
-    pub promise : KeepsPromise new.newest.pass.pass.opened new.newest.pass.pass.seen
+    pub same : IsSamePass old.newest.held.pass.pass new.newest.held.pass.pass
+    pub gives : GivesOne payload answer old.newest new.newest
 
   -- A try: the handle follows others, and gives to its newest generation, which was the newest of the queue at a look
   -- just before. Busy: it has given to none, and at a look another one was the newest
@@ -217,10 +242,13 @@ module _ {T : Type 0} where
       ⊎ ((worn : Generations T) × TriesToGive payload (G.Worn payload) old worn × TriesAgain payload answer worn new)
 
   -- one take from a generation, whose promise is then kept
-  pub record TakesThere (answer : Taken T) (old new : PayHeld T) : Type 0 where
-    pub same : IsSamePass old.pass.pass new.pass.pass
-    pub takes : TakesAndLaysDown answer old new
-    pub promise : KeepsPromise new.pass.pass.opened new.pass.pass.seen
+  pub record TakesThere (answer : Taken T) (old new : Pooled T) : Type 0 where
+    pub same : IsSamePass old.held.pass.pass new.held.pass.pass
+    pub takes : ReceivesOne answer old new
+    pub busy : answer ≡ K.Busy → IsDisturbed old.held.pass.pass new.held.pass.pass
+    pub starts : (new.held.take_start ≡ further old.held.pass.pass old.held.take_start)
+        × (new.held.put_start ≡ old.held.put_start)
+    pub promise : PassKeepsPromise new.held.pass.pass
 
   -- The takes from these generations, one after the other, up to the first that is not found empty, and what that one
   -- returned. The others stay as they are. None: each was found empty
@@ -228,8 +256,8 @@ module _ {T : Type 0} where
   TakesFirst answer [] new = (answer ≡ None) × (new ≡ [])
   TakesFirst answer (h ∷ hs) new = (after : HeldIn T) × (afters : List (HeldIn T)) × (new ≡ after ∷ afters)
       × (after.number ≡ h.number)
-      × ((TakesThere K.Empty h.held after.held × TakesFirst answer hs afters)
-      ⊎ ((taken : Taken T) × (answer ≡ Some taken) × (taken ≢ K.Empty) × TakesThere taken h.held after.held
+      × ((TakesThere K.Empty h.handle after.handle × TakesFirst answer hs afters)
+      ⊎ ((taken : Taken T) × (answer ≡ Some taken) × (taken ≢ K.Empty) × TakesThere taken h.handle after.handle
       × (afters ≡ hs)))
 
   -- What is returned of a take, after which the handle is `new`. Empty: at a look after it, by a pass that had seen it,
@@ -265,18 +293,19 @@ module _ {T : Type 0} where
       × ((IsAtNewest old here × HasAll here × TakesOldest answer here new)
       ⊎ (IsBehind old here × (answer ≡ K.Busy) × (new ≡ here)))
 
-  -- What a close of a generation returned: by the pass of this handle, and the passes of all other threads
-  pub record WereLeft (h : PayHeld T) (payloads : List T) : Type 0 where
+  -- What a close of a generation returned: by this handle, and the handles of all other threads
+  pub record WereLeft (h : Pooled T) (payloads : List T) : Type 0 where
     pub queue : OpenQueue
-    pub of : IsPassOf queue h.pass.pass
-    pub others : List (PayPassView T)
-    pub each_other : map (λ p. p.pass.thread) others ≡ other_threads h.pass.pass.thread queue.opened.threads
-    pub closes : PayCloses queue h.pass others payloads
+    pub of : IsPassOf queue h.held.pass.pass
+    pub others : List (Pooled T)
+    pub each_other : map (λ o. o.held.pass.pass.thread) others
+        ≡ other_threads h.held.pass.pass.thread queue.opened.threads
+    pub closes : PayCloses queue h.held.pass (map (λ o. o.held.pass) others) payloads
 
   -- what such closes returned, one after the other
   abbrev pub ClosesEach : List (HeldIn T) → List T → Type 0
   ClosesEach [] payloads = payloads ≡ []
-  ClosesEach (h ∷ hs) payloads = (first : List T) × (rest : List T) × (payloads ≡ first ++ rest) × WereLeft h.held first
+  ClosesEach (h ∷ hs) payloads = (first : List T) × (rest : List T) × (payloads ≡ first ++ rest) × WereLeft h.handle first
       × ClosesEach hs rest
 
   -- What a close returned by its last handle: the handle followed others to the generation that was the newest of the

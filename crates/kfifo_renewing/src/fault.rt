@@ -1,5 +1,5 @@
 //! Why a renewing queue was not opened.
-use kfifo_live::OpenFault;
+use kfifo_live::{OpenFault, SizesFault};
 use std::alloc::AllocError;
 use thiserror::Error;
 
@@ -23,5 +23,28 @@ impl From<AllocError> for RenewFault {
 impl From<OpenFault> for RenewFault {
     fn from(fault: OpenFault) -> RenewFault {
         RenewFault::Open(fault)
+    }
+}
+
+/// Why a renewing queue was not opened by its capacity. Nothing is kept after a refusal.
+#[derive(Clone, Copy, PartialEq, Eq, Debug, Error)]
+pub enum CapacityFault {
+    /// There is no such queue.
+    #[error("{0}")]
+    Sizes(SizesFault),
+    /// An allocation failed.
+    #[error("out of memory")]
+    Memory,
+}
+
+impl From<AllocError> for CapacityFault {
+    fn from(_: AllocError) -> CapacityFault {
+        CapacityFault::Memory
+    }
+}
+
+impl From<SizesFault> for CapacityFault {
+    fn from(fault: SizesFault) -> CapacityFault {
+        CapacityFault::Sizes(fault)
     }
 }

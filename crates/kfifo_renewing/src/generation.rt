@@ -1,5 +1,5 @@
-//! A generation: a queue of payloads, with the passes that wait in it for their threads.
-ghost use Rattle.std.specs.Prelude.{◌≡◌, ◌<◌, ◌≤◌, ◌+◌, ◌++◌, [], ◌∷◌, All, IfOk, IfSome, length, map, true, vec_capacity};
+//! A generation: a queue of payloads, with the handles that wait in it for their threads.
+ghost use Rattle.std.specs.Prelude.{◌≡◌, ◌<◌, ◌≤◌, ◌+◌, ◌++◌, [], ◌∷◌, All, IfOk, IfSome, false, length, map, true, vec_capacity};
 ghost use Rattle.kfifo_live.specs.Pass.{HasNoEvent, IsPassOf};
 ghost use Rattle.kfifo_renewing.specs.History.{IsMade};
 ghost use Rattle.kfifo_renewing.specs.Renewing.{Numbered, other_threads, without};
@@ -7,64 +7,56 @@ ghost use Rattle.kfifo_renewing.specs.Renewing.{Numbered, other_threads, without
 use crate::history::{History, Next};
 use counted_slot::{Counted, FREE, Fits, TAKEN};
 use kfifo_exclusive::Exclusive;
-use kfifo_live::{CloseFault, PayPass, PayQueue};
-use kfifo_words::Shape;
+use kfifo_live::CloseFault;
+use kfifo_pool::{PooledHandle, PooledQueue};
 use std::alloc::{AllocError, Global};
 use std::marker::Model;
 use std::sync::atomic::AtomicU64;
 use std::sync::atomic::Ordering::SeqCst;
 
-/// What each generation of a queue is opened with.
-#[derive(Clone, Copy)]
-pub struct Sizes {
-    pub shape: Shape,
-    pub threads: u32,
-    pub tokens: u32,
-}
-
-/// A pass that waits for its thread, or was given back by it.
-// Handles of all threads share the passes that wait. What is shared may be read by any thread unless nothing can be.
+/// A handle that waits for its thread, or was given back by it.
+// Handles of all threads share those that wait. What is shared may be read by any thread unless nothing can be.
 #[derive(Drop)]
 pub(crate) struct Waiting<T: Drop> {
-    pass: Exclusive<PayPass<T>>,
+    handle: Exclusive<PooledHandle<T>>,
     /// Whether its thread has begun no call with it.
     is_unused: bool,
 }
 
 impl<T: Drop> Waiting<T> {
-    /// This pass, which waits.
-    fn new(pass: PayPass<T>, is_unused: bool) -> Waiting<T>
-        ensures { (result.pass.inner ≡ pass) × (result.is_unused ≡ is_unused) }
+    /// This handle, which waits.
+    fn new(handle: PooledHandle<T>, is_unused: bool) -> Waiting<T>
+        ensures { (result.handle.inner ≡ handle) × (result.is_unused ≡ is_unused) }
     {
         Waiting {
-            pass: Exclusive::new(pass),
+            handle: Exclusive::new(handle),
             is_unused,
         }
     }
 
-    /// The pass.
-    fn into_pass(self) -> PayPass<T>
-        ensures { result ≡ self.pass.inner }
+    /// The handle.
+    fn into_handle(self) -> PooledHandle<T>
+        ensures { result ≡ self.handle.inner }
     {
-        let Waiting { pass, .. } = self;
-        pass.into_inner()
+        let Waiting { handle, .. } = self;
+        handle.into_inner()
     }
 }
 
 impl<T: Drop> Fits for Waiting<T> {
-    type Tag = PayQueue<T>;
+    type Tag = PooledQueue<T>;
 
-    ghost fits = { λ queue waiting. IsPassOf queue waiting.pass.inner.pass
-        × (waiting.is_unused ≡ true → HasNoEvent waiting.pass.inner.pass) };
+    ghost fits = { λ queue waiting. IsPassOf queue waiting.handle.inner.held.pass.pass
+        × (waiting.is_unused ≡ true → HasNoEvent waiting.handle.inner.held.pass.pass) };
 }
 
-/// A queue of payloads with its number and what it says of the next one, the passes that wait in it, and how many
+/// A queue of payloads with its number and what it says of the next one, the handles that wait in it, and how many
 /// handles may give to it.
 ///
 /// Clauses see it as its queue and its number, with a beginning of the history, in which it has that number.
 #[derive(Drop)]
 pub(crate) struct Generation<T: Drop> {
-    queue: PayQueue<T>,
+    queue: PooledQueue<T>,
     next: Next,
     history: History,
     waiting: Vec<Counted<Option<Waiting<T>>>>,
@@ -82,42 +74,46 @@ impl<T: Drop> Model for Generation<T> {
     } };
 
     ghost invariant = { λ g. All (λ queue. queue ≡ g.queue) g.waiting.items
-        × IsMade g.history.log g.next.number g.queue.table × (g.next.book ≡ g.history.book) };
+        × IsMade g.history.log g.next.number g.queue.table × (g.next.book ≡ g.history.book)
+        × (g.queue.opened.bare ≡ false) };
 }
 
-/// A place for each of these passes, in which it waits, in their order.
+/// A place for each of these handles, in which it waits, in their order.
 fn seat_all<T: Drop>(
     alloc: Global,
-    queue: &PayQueue<T>,
-    passes: Vec<PayPass<T>>,
+    queue: &PooledQueue<T>,
+    handles: Vec<PooledHandle<T>>,
 ) -> Result<Vec<Counted<Option<Waiting<T>>>>, AllocError>
-    requires { All (λ p. IsPassOf queue.now p.pass × HasNoEvent p.pass) passes.items }
+    requires { All (λ h. IsPassOf queue.now h.held.pass.pass × HasNoEvent h.held.pass.pass) handles.items }
     ensures { IfOk result (λ waiting. All (λ q. q ≡ queue.now) waiting.items) }
 {
-    let mut waiting = Vec::with_capacity(alloc, passes.len())?;
-    for pass in passes {
-        let waits = Waiting::new(pass, true);
+    let mut waiting = Vec::with_capacity(alloc, handles.len())?;
+    for handle in handles {
+        let waits = Waiting::new(handle, true);
         waiting.push(Counted::new(Some(waits), queue))?;
     }
     Ok(waiting)
 }
 
-/// The pass of this thread, if it waits in this place.
-fn pass_in<T: Drop>(place: Counted<Option<Waiting<T>>>, thread: u32) -> Option<PayPass<T>>
-    ensures { IfSome result (λ p. IsPassOf place p.pass × (p.pass.thread ≡ thread)) }
+/// The handle of this thread, if it waits in this place.
+fn handle_in<T: Drop>(
+    place: Counted<Option<Waiting<T>>>,
+    thread: u32,
+) -> Option<PooledHandle<T>>
+    ensures { IfSome result (λ h. IsPassOf place h.held.pass.pass × (h.held.pass.pass.thread ≡ thread)) }
 {
     let waiting = place.into_inner()?;
-    let pass = waiting.into_pass();
-    if pass.thread() == thread {
-        Some(pass)
+    let handle = waiting.into_handle();
+    if handle.pass().thread() == thread {
+        Some(handle)
     } else {
         None
     }
 }
 
-/// Adds the pass of this thread, which waits in this place, to those of the others, unless the thread is the own one.
+/// Adds the handle of this thread, which waits in this place, to those of the others, unless the thread is the own one.
 fn add_other<T: Drop>(
-    others: &mut Vec<PayPass<T>>,
+    others: &mut Vec<PooledHandle<T>>,
     place: Counted<Option<Waiting<T>>>,
     thread: u32,
     own: u32,
@@ -125,35 +121,36 @@ fn add_other<T: Drop>(
     requires { length others.old.items < vec_capacity others.old }
     ensures room { IfOk result (λ _. (vec_capacity others.new ≡ vec_capacity others.old)
         × (length others.new.items ≤ length others.old.items + 1)) }
-    ensures of { IfOk result (λ _. All (λ p. IsPassOf place p.pass) others.old.items
-        → All (λ p. IsPassOf place p.pass) others.new.items) }
-    ensures threads { IfOk result (λ _. map (λ p. p.pass.thread) others.new.items
-        ≡ map (λ p. p.pass.thread) others.old.items ++ without own (thread ∷ [])) }
+    ensures of { IfOk result (λ _. All (λ h. IsPassOf place h.held.pass.pass) others.old.items
+        → All (λ h. IsPassOf place h.held.pass.pass) others.new.items) }
+    ensures threads { IfOk result (λ _. map (λ h. h.held.pass.pass.thread) others.new.items
+        ≡ map (λ h. h.held.pass.pass.thread) others.old.items ++ without own (thread ∷ [])) }
 {
     if thread == own {
         return Ok(());
     }
-    let Some(pass) = pass_in(place, thread) else {
+    let Some(handle) = handle_in(place, thread) else {
         return Err(CloseFault::MissingPass);
     };
-    others.push_reserved(pass);
+    others.push_reserved(handle);
     Ok(())
 }
 
 impl<T: Drop> Generation<T> {
-    /// The generation with this queue, its passes, and its word in the history. No handle gives to it yet.
+    /// The generation with this queue, its handles, and its word in the history. No handle gives to it yet.
     pub(crate) fn new(
         alloc: Global,
-        queue: PayQueue<T>,
-        passes: Vec<PayPass<T>>,
+        queue: PooledQueue<T>,
+        handles: Vec<PooledHandle<T>>,
         next: Next,
         history: History,
     ) -> Result<Generation<T>, AllocError>
-        requires passes { All (λ p. IsPassOf queue p.pass × HasNoEvent p.pass) passes.items }
+        requires handles { All (λ h. IsPassOf queue h.held.pass.pass × HasNoEvent h.held.pass.pass) handles.items }
         requires number { IsMade history.log next.number queue.table × (next.book ≡ history.book) }
+        requires payloads { queue.opened.bare ≡ false }
         ensures { IfOk result (λ g. (g.queue ≡ queue) × (g.number ≡ next.number) × (g.book ≡ history.book)) }
     {
-        let waiting = seat_all(alloc, &queue, passes)?;
+        let waiting = seat_all(alloc, &queue, handles)?;
         Ok(Generation {
             queue,
             next,
@@ -165,8 +162,9 @@ impl<T: Drop> Generation<T> {
 
     /// The queue.
     #[inline(always)]
-    pub(crate) fn queue(&self) -> &PayQueue<T>
-        ensures { result.now ≡ self.now.queue }
+    pub(crate) fn queue(&self) -> &PooledQueue<T>
+        ensures queue { result.now ≡ self.now.queue }
+        ensures payloads { result.now.opened.bare ≡ false }
     {
         &self.queue
     }
@@ -194,9 +192,10 @@ impl<T: Drop> Generation<T> {
         &self.history
     }
 
-    /// The pass of this thread, unless its thread has it already, or has given it back.
-    pub(crate) fn take_pass(&self, thread: u32) -> Option<PayPass<T>>
-        ensures { IfSome result (λ p. IsPassOf self.now.queue p.pass × HasNoEvent p.pass) }
+    /// The handle of this thread, unless its thread has it already, or has given it back.
+    pub(crate) fn take_handle(&self, thread: u32) -> Option<PooledHandle<T>>
+        ensures of { IfSome result (λ h. IsPassOf self.now.queue h.held.pass.pass × HasNoEvent h.held.pass.pass) }
+        ensures payloads { IfSome result (λ h. h.held.pass.pass.opened.bare ≡ false) }
     {
         let place = self.waiting.get(thread as usize)?;
         let (found, claim) = place.turn(FREE, TAKEN);
@@ -206,19 +205,19 @@ impl<T: Drop> Generation<T> {
         }
         let waiting = claim.put(None, FREE)?;
         let is_unused = waiting.is_unused;
-        let pass = waiting.into_pass();
+        let handle = waiting.into_handle();
         if is_unused {
-            return Some(pass);
+            return Some(handle);
         }
-        self.give_back(thread, pass, false);
+        self.give_back(thread, handle, false);
         None
     }
 
-    /// Gives the pass of this thread back, which takes it again only where it is unused: where its thread has begun no
+    /// Gives the handle of this thread back, which takes it again only where it is unused: where its thread has begun no
     /// call with it.
-    pub(crate) fn give_back(&self, thread: u32, pass: PayPass<T>, is_unused: bool)
-        requires of { IsPassOf self.now.queue pass.pass }
-        requires unused { is_unused ≡ true → HasNoEvent pass.pass }
+    pub(crate) fn give_back(&self, thread: u32, handle: PooledHandle<T>, is_unused: bool)
+        requires of { IsPassOf self.now.queue handle.held.pass.pass }
+        requires unused { is_unused ≡ true → HasNoEvent handle.held.pass.pass }
     {
         let Some(place) = self.waiting.get(thread as usize) else {
             return;
@@ -228,7 +227,7 @@ impl<T: Drop> Generation<T> {
             claim.done();
             return;
         }
-        let _ = claim.put(Some(Waiting::new(pass, is_unused)), FREE);
+        let _ = claim.put(Some(Waiting::new(handle, is_unused)), FREE);
     }
 
     /// One handle more gives to it.
@@ -246,16 +245,16 @@ impl<T: Drop> Generation<T> {
         self.givers.load(SeqCst) != 0
     }
 
-    /// The queue, and the passes of all its threads but this one, in their order, if all of them wait here.
+    /// The queue, and the handles of all its threads but this one, in their order, if all of them wait here.
     pub(crate) fn into_parts(
         self,
         alloc: Global,
         threads: u32,
         own: u32,
-    ) -> Result<(PayQueue<T>, Vec<PayPass<T>>), CloseFault>
-        ensures queue { IfOk result (λ r. r.0 ≡ self.queue) }
-        ensures of { IfOk result (λ r. All (λ p. IsPassOf self.queue p.pass) r.1.items) }
-        ensures others { IfOk result (λ r. map (λ p. p.pass.thread) r.1.items ≡ other_threads own threads) }
+    ) -> Result<(PooledQueue<T>, Vec<PooledHandle<T>>), CloseFault>
+        ensures queue { IfOk result (λ r. (r.0 ≡ self.queue) × (r.0.opened.bare ≡ false)) }
+        ensures of { IfOk result (λ r. All (λ h. IsPassOf self.queue h.held.pass.pass) r.1.items) }
+        ensures others { IfOk result (λ r. map (λ h. h.held.pass.pass.thread) r.1.items ≡ other_threads own threads) }
     {
         let Generation { queue, waiting, .. } = self;
         let mut others = Vec::with_capacity(alloc, threads as usize)?;

@@ -29,8 +29,7 @@ const TRIES: u32 = 64;
 /// A handle that is dropped leaves the queue: nobody waits for it, and what it gave is still taken.
 ///
 /// ```rust
-/// let shape = Shape::new(4, 8, MAX_VERSION)?; // k, segments, greatest version
-/// let mut handles = open::<u64>(alloc, shape, 2, 16, DEFAULT_RESERVE)?; // threads, tokens
+/// let mut handles = open::<u64>(alloc, 4, 32, 2)?; // k, capacity, threads
 /// let (Some(mut taker), Some(mut giver)) = (handles.pop(), handles.pop()) else {
 ///     unreachable!()
 /// };
@@ -66,7 +65,7 @@ impl<T: Drop> Model for RenewingHandle<T> {
       book = h.history.book;
       seen = h.history.log;
       older = held_by h.older.items;
-      newest = h.newest.held;
+      newest = h.newest.handle;
       number = h.generation.value.number;
     } };
 
@@ -84,15 +83,15 @@ impl<T: Drop> RenewingHandle<T> {
         mut newest: Leaving<Joined<T>>,
         thread: u32,
     ) -> Result<RenewingHandle<T>, AllocError>
-        requires opened { IsOpenedAs (opening_of shared.value.sizes) newest.held }
+        requires opened { IsOpenedAs (opening_of shared.value.sizes) newest.handle }
         requires books { (history.book ≡ shared.value.history.book) × (generation.value.book ≡ history.book) }
         requires first { (generation.value.number ≡ 0) × (newest.number ≡ 0) }
         requires part { IsPart history.log newest }
-        requires of { IsPassOf generation.value.queue newest.held.pass.pass }
+        requires of { IsPassOf generation.value.queue newest.handle.held.pass.pass }
         requires risen { HasRisen history.log }
         ensures same { IfOk result (λ h. (h.opened ≡ opening_of shared.value.sizes) × (h.thread ≡ thread)
             × (h.book ≡ history.book)) }
-        ensures one { IfOk result (λ h. (h.older ≡ []) × (h.newest ≡ newest.held) × (h.number ≡ 0)) }
+        ensures one { IfOk result (λ h. (h.older ≡ []) × (h.newest ≡ newest.handle) × (h.number ≡ 0)) }
     {
         let older = Vec::with_capacity(alloc, shared.places().count())?;
         let spare = Vec::with_capacity(alloc, shared.places().count())?;
@@ -139,10 +138,10 @@ impl<T: Drop> RenewingHandle<T> {
         requires book { history.old.book ≡ self.now.book }
         requires inside { place < place_count }
         ensures later { (history.new.book ≡ history.old.book) × IsPrefix history.old.log history.new.log }
-        ensures of { IfSome result (λ r. IsOpenedAs self.now.opened r.1.held
-            × IsPassOf r.0.value.queue r.1.held.pass.pass × (r.0.value.book ≡ self.now.book)) }
+        ensures of { IfSome result (λ r. IsOpenedAs self.now.opened r.1.handle
+            × IsPassOf r.0.value.queue r.1.handle.held.pass.pass × (r.0.value.book ≡ self.now.book)) }
         ensures part { IfSome result (λ r. (r.0.value.number ≡ number) × (r.1.number ≡ number)
-            × IsPart history.new.log r.1 × HasNoEvent r.1.held.pass.pass) }
+            × IsPart history.new.log r.1 × HasNoEvent r.1.handle.held.pass.pass) }
     {
         if !self.shared.places().has(place, number, history) {
             return None;
@@ -165,11 +164,11 @@ impl<T: Drop> RenewingHandle<T> {
     ) -> Option<(Arc<Generation<T>, Global>, Leaving<Joined<T>>)>
         requires { history.old.book ≡ self.now.book }
         ensures later { (history.new.book ≡ history.old.book) × IsPrefix history.old.log history.new.log }
-        ensures of { IfSome result (λ r. IsOpenedAs self.now.opened r.1.held
-            × IsPassOf r.0.value.queue r.1.held.pass.pass × (r.0.value.book ≡ self.now.book)) }
+        ensures of { IfSome result (λ r. IsOpenedAs self.now.opened r.1.handle
+            × IsPassOf r.0.value.queue r.1.handle.held.pass.pass × (r.0.value.book ≡ self.now.book)) }
         ensures part { IfSome result (λ r. (r.0.value.number ≡ number) × (r.1.number ≡ number)
             × IsPart history.new.log r.1 × (self.now.number < number)
-            × HasNoEvent r.1.held.pass.pass) }
+            × HasNoEvent r.1.handle.held.pass.pass) }
     {
         let number = u32::try_from(number).ok()?;
         if number <= self.number() {
@@ -190,7 +189,7 @@ impl<T: Drop> RenewingHandle<T> {
         requires book { history.old.book ≡ self.now.book }
         requires none { between.old.items ≡ [] }
         ensures later { (history.new.book ≡ history.old.book) × IsPrefix history.old.log history.new.log }
-        ensures opened { All (λ p. IsOpenedAs self.now.opened p.held) between.new.items }
+        ensures opened { All (λ p. IsOpenedAs self.now.opened p.handle) between.new.items }
         ensures parts { All (IsPart history.new.log) between.new.items }
         ensures below { All (λ p. p.number < end) between.new.items }
         ensures unused { All (IsUnused self.now.number) between.new.items }
@@ -257,14 +256,14 @@ impl<T: Drop> RenewingHandle<T> {
         history: &History,
     )
         requires books { (history.now.book ≡ self.old.book) × (generation.value.book ≡ self.old.book) }
-        requires of { IsOpenedAs self.old.opened newest.held × IsPassOf generation.value.queue newest.held.pass.pass }
+        requires of { IsOpenedAs self.old.opened newest.handle × IsPassOf generation.value.queue newest.handle.held.pass.pass }
         requires part { (newest.number ≡ generation.value.number) × IsPart history.now.log newest }
         requires later { self.old.number < generation.value.number }
         requires was { WasNewest self.old.seen generation.value.number }
-        requires opened { All (λ p. IsOpenedAs self.old.opened p.held) between.items }
+        requires opened { All (λ p. IsOpenedAs self.old.opened p.handle) between.items }
         requires parts { All (IsPart history.now.log) between.items }
         requires below { All (λ p. p.number < generation.value.number) between.items }
-        requires unused { HasNoEvent newest.held.pass.pass × All (IsUnused self.old.number) between.items }
+        requires unused { HasNoEvent newest.handle.held.pass.pass × All (IsUnused self.old.number) between.items }
         requires all { AreAmong self.old.number generation.value.number between.items self.old.seen history.now.log }
         ensures { Follows self.old self.new }
     {
@@ -443,8 +442,7 @@ impl<T: Drop> RenewingHandle<T> {
         }
     }
 
-    /// The same as `give`, where the handle is to look at the versions that are left, has others to follow, or has no
-    /// token.
+    /// The same as `give`, where the handle is to look at the versions that are left, or has others to follow.
     // Out of line, it leaves the other calls without a call before the give, and so with more registers.
     #[cold]
     #[inline(never)]
@@ -458,7 +456,7 @@ impl<T: Drop> RenewingHandle<T> {
         }
     }
 
-    /// Gives a payload to the newest generation, as `PayHandle::give` does.
+    /// Gives a payload to the newest generation, as `PooledHandle::give` does.
     ///
     /// The handle first follows others that have opened a newer one, so its generation was the newest of the queue at a
     /// moment of the call. Each 4,096th call looks at the versions that the generation has left, and opens the next
@@ -481,11 +479,6 @@ impl<T: Drop> RenewingHandle<T> {
         // One reference for the look and the call: else the compiler loads the pointer again after the look.
         let generation: &Generation<T> = &self.generation;
         if generation.next().look(&self.newest, &mut self.history) != 0 {
-            return self.give_late(payload);
-        }
-        // The give below then makes no such test, and no call that comes back. Before the look the count of tokens
-        // would be loaded twice.
-        if self.newest.lacks_token() {
             return self.give_late(payload);
         }
         match self.newest.give(generation.queue(), payload) {
@@ -576,7 +569,7 @@ impl<T: Drop> RenewingHandle<T> {
         self.take_oldest()
     }
 
-    /// Takes one of the k oldest payloads of the oldest generation that has one, as `PayHandle::take` does.
+    /// Takes one of the k oldest payloads of the oldest generation that has one, as `PooledHandle::receive` does.
     ///
     /// The handle first follows others that have opened a newer generation. It looks into the older generations first,
     /// and into the next one only where it found one empty. It leaves an older one that it found empty when nobody gave
@@ -625,7 +618,7 @@ impl<T: Drop> RenewingHandle<T> {
         requires { other.now.book ≡ self.now.book }
         ensures number { result ≡ true ↔ (self.now.number ≡ other.now.number) }
         ensures same { self.now.number ≡ other.now.number
-            → self.now.newest.pass.pass.table ≡ other.now.newest.pass.pass.table }
+            → self.now.newest.held.pass.pass.table ≡ other.now.newest.held.pass.pass.table }
     {
         // What both have seen of the history has one generation at a number.
         let mut history = self.history.again();
@@ -645,7 +638,7 @@ impl<T: Drop> RenewingHandle<T> {
     ) -> Result<(Arc<Shared<T>, Global>, Vec<Leaving<Joined<T>>>), AllocError>
         ensures shared { IfOk result (λ r. opening_of r.0.value.sizes ≡ self.opened) }
         ensures joined { IfOk result (λ r. held_by r.1.items ≡ all_of self) }
-        ensures of { IfOk result (λ r. All (λ p. IsOpenedAs (opening_of r.0.value.sizes) p.held) r.1.items) }
+        ensures of { IfOk result (λ r. All (λ p. IsOpenedAs (opening_of r.0.value.sizes) p.handle) r.1.items) }
     {
         let Self {
             shared,
@@ -671,7 +664,7 @@ fn make_room<T: Drop>(older: &mut Vec<Leaving<Joined<T>>>, count: usize) -> bool
 
 /// Leaves these generations, in which their thread has begun no call and which it may join again.
 fn leave_unused<T: Drop>(parts: &mut Vec<Leaving<Joined<T>>>)
-    requires { All (λ p. HasNoEvent p.held.pass.pass) parts.old.items }
+    requires { All (λ p. HasNoEvent p.handle.held.pass.pass) parts.old.items }
     ensures { parts.new.items ≡ [] }
 {
     while let Some(part) = parts.pop() {

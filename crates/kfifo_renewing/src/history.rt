@@ -10,7 +10,7 @@ use crate::change::Change;
 use crate::joined::Joined;
 use crate::label::{Label, PLACES, label_all};
 use crate::leaving::Leaving;
-use kfifo_live::PayQueue;
+use kfifo_pool::PooledQueue;
 use logbook::{Gain, Offer, Opening, Pen, Plain, Play, Rule, Seen, Start, Word};
 use std::alloc::{AllocError, Global};
 use std::marker::Model;
@@ -71,7 +71,7 @@ impl<T: Drop> Plain<Leaving<Joined<T>>, Change, u64> for Looking {
     ghost use Rattle.kfifo_renewing.specs.declared.change.Change.TheVariants as C;
     ghost use Rattle.kfifo_renewing.specs.History.{sight_of};
 
-    ghost ask = { λ part. C.Look (sight_of part.held.pass.pass) };
+    ghost ask = { λ part. C.Look (sight_of part.handle.held.pass.pass) };
 
     ghost state = { λ part. None };
 }
@@ -121,7 +121,7 @@ impl Play<Change, u64> for Emptying {
 /// A step that gives a queue its number as a generation.
 pub struct Numbering;
 
-impl<T: Drop> Plain<PayQueue<T>, Change, u64> for Numbering {
+impl<T: Drop> Plain<PooledQueue<T>, Change, u64> for Numbering {
     ghost use Rattle.std.specs.Prelude.{None};
     ghost use Rattle.kfifo_renewing.specs.History.{making_of};
 
@@ -137,7 +137,7 @@ impl Play<Change, u64> for Numbering {
 }
 
 /// A history begins with its first generation.
-impl<T: Drop> Opening<PayQueue<T>, Change> for Numbering {
+impl<T: Drop> Opening<PooledQueue<T>, Change> for Numbering {
     ghost use Rattle.std.specs.Prelude.{[], ◌∷◌};
     ghost use Rattle.kfifo_renewing.specs.History.{making_of};
 
@@ -214,7 +214,7 @@ impl Next {
         requires book { history.old.book ≡ self.now.book }
         requires newest { WasNewest history.old.log self.now.number }
         ensures book { history.new.book ≡ history.old.book }
-        ensures finds { Finds (sight_of part.now.held.pass.pass) self.now.number result history.old.log history.new.log }
+        ensures finds { Finds (sight_of part.now.handle.held.pass.pass) self.now.number result history.old.log history.new.log }
     {
         let mut offer: Offer<Change, u64, HistoryRule, NoGain> = history.plain::<
             NoGain,
@@ -253,12 +253,12 @@ impl Numbers {
     #[tactic(auto, using(crate::proofs::Histories::was_first))]
     pub(crate) fn open<T: Drop>(
         alloc: Global,
-        queue: &PayQueue<T>,
+        queue: &PooledQueue<T>,
     ) -> Result<(Numbers, Vec<Label>, Next, History), AllocError>
         ensures books { IfOk result (λ r. (r.3.book ≡ r.0) × AreLabels r.0 r.1.items × (r.2.book ≡ r.0)) }
         ensures first { IfOk result (λ r. (r.2.number ≡ 0) × IsMade r.3.log 0 queue.now.table × WasNewest r.3.log 0) }
     {
-        let (history, mut pens) = History::open_row::<PayQueue<T>, Numbering>(
+        let (history, mut pens) = History::open_row::<PooledQueue<T>, Numbering>(
             queue,
             Start::alone(),
             PLACES as usize + 2,
@@ -305,7 +305,7 @@ impl Numbers {
     /// pen that may write it. Returns None where others take numbers all the time, or no more are left.
     pub(crate) fn number<T: Drop>(
         &self,
-        queue: &PayQueue<T>,
+        queue: &PooledQueue<T>,
         history: &mut History,
     ) -> Option<(Next, Pen)>
         requires { history.old.book ≡ self.now }
@@ -330,7 +330,7 @@ impl Numbers {
     fn step_to<T: Drop>(
         &self,
         number: u32,
-        queue: &PayQueue<T>,
+        queue: &PooledQueue<T>,
         history: &mut History,
         pen: &mut Pen,
     ) -> u64
@@ -342,7 +342,7 @@ impl Numbers {
     {
         let mut offer: Offer<Change, u64, HistoryRule, NoGain> = history.plain::<
             NoGain,
-            PayQueue<T>,
+            PooledQueue<T>,
             Numbering,
         >(queue);
         let new = u64::from(number);

@@ -1,14 +1,14 @@
 //! A generation that a handle has joined.
-ghost use Rattle.std.specs.Prelude.{◌≡◌, IfSome, true};
-ghost use Rattle.kfifo_live.specs.Handles.{PicksUpAndGives};
+ghost use Rattle.std.specs.Prelude.{◌≡◌, IfSome, false, true};
 ghost use Rattle.kfifo_live.specs.Pass.{HasNoEvent, IsPassOf};
-ghost use Rattle.kfifo_live.specs.Promise.{KeepsPromise};
+ghost use Rattle.kfifo_pool.specs.Pooled.{GivesOne};
 ghost use Rattle.kfifo_renewing.specs.Joining.{FoundEmpty, IsSamePart, PartView};
 ghost use Rattle.kfifo_renewing.specs.Renewing.{TakesThere};
 
 use crate::generation::Generation;
 use crate::leaving::{Leave, Leaving};
-use kfifo_live::{Given, PayHandle, PayPass, PayQueue, Taken};
+use kfifo_live::{Given, Taken};
+use kfifo_pool::{PooledHandle, PooledQueue};
 use std::alloc::Global;
 use std::marker::Model;
 use std::sync::Arc;
@@ -25,20 +25,21 @@ pub(crate) struct Joined<T: Drop> {
     /// Whether the handle counts among those that give to the generation.
     gives: bool,
     generation: Arc<Generation<T>, Global>,
-    handle: PayHandle<T>,
+    handle: PooledHandle<T>,
 }
 
 impl<T: Drop> Model for Joined<T> {
     ghost Value = { PartView T };
 
     ghost view = { λ j. record {
-      held = j.handle;
+      handle = j.handle;
       number = j.generation.value.number;
       place = j.place;
     } };
 
-    ghost invariant = { λ j. IsPassOf j.generation.value.queue j.handle.pass.pass
-        × (j.is_over ≡ true → FoundEmpty T j.handle.pass.pass.table) };
+    ghost invariant = { λ j. IsPassOf j.generation.value.queue j.handle.held.pass.pass
+        × (j.handle.held.pass.pass.opened.bare ≡ false)
+        × (j.is_over ≡ true → FoundEmpty T j.handle.held.pass.pass.table) };
 }
 
 impl<T: Drop> Joined<T> {
@@ -48,12 +49,11 @@ impl<T: Drop> Joined<T> {
         place: usize,
         thread: u32,
     ) -> Option<Leaving<Joined<T>>>
-        ensures of { IfSome result (λ p. IsPassOf generation.value.queue p.held.pass.pass
-            × HasNoEvent p.held.pass.pass) }
+        ensures of { IfSome result (λ p. IsPassOf generation.value.queue p.handle.held.pass.pass
+            × HasNoEvent p.handle.held.pass.pass) }
         ensures at { IfSome result (λ p. (p.number ≡ generation.value.number) × (p.place ≡ place)) }
     {
-        let pass = generation.take_pass(thread)?;
-        let handle = PayHandle::new(generation.queue(), pass);
+        let handle = generation.take_handle(thread)?;
         let part = Joined {
             place,
             is_over: false,
@@ -75,40 +75,40 @@ impl<T: Drop> Joined<T> {
         }
     }
 
-    /// The part in the generation, and the pass.
-    pub(crate) fn into_parts(self) -> (Arc<Generation<T>, Global>, PayPass<T>)
-        ensures pass { result.1 ≡ self.held.pass }
-        ensures of { IsPassOf result.0.value.queue result.1.pass }
+    /// The part in the generation, and the handle there.
+    pub(crate) fn into_parts(self) -> (Arc<Generation<T>, Global>, PooledHandle<T>)
+        ensures handle { result.1 ≡ self.handle }
+        ensures of { IsPassOf result.0.value.queue result.1.held.pass.pass }
     {
         let Joined {
             generation,
             handle,
             ..
         } = self;
-        (generation, handle.into_pass())
+        (generation, handle)
     }
 }
 
 impl<T: Drop> Leave for Joined<T> {
-    /// Leaves the generation for good: its pass is given back.
+    /// Leaves the generation for good: its handle is given back.
     fn leave(mut self) {
         self.stop_giving();
         let thread = self.thread;
-        let (generation, pass) = self.into_parts();
-        generation.give_back(thread, pass, false);
+        let (generation, handle) = self.into_parts();
+        generation.give_back(thread, handle, false);
     }
 }
 
 impl<T: Drop> Leaving<Joined<T>> {
     /// Leaves the generation, in which its thread has begun no call and which it may join again.
     pub(crate) fn leave_unused(self)
-        requires { HasNoEvent self.held.pass.pass }
+        requires { HasNoEvent self.handle.held.pass.pass }
     {
         let mut part = self.into_part();
         part.stop_giving();
         let thread = part.thread;
-        let (generation, pass) = part.into_parts();
-        generation.give_back(thread, pass, true);
+        let (generation, handle) = part.into_parts();
+        generation.give_back(thread, handle, true);
     }
 
     /// The place of the generation.
@@ -132,14 +132,14 @@ impl<T: Drop> Leaving<Joined<T>> {
 
     /// Whether the generation was found empty when nobody could give to it any more.
     pub(crate) fn is_over(&self) -> bool
-        ensures { result ≡ true → FoundEmpty T self.now.held.pass.pass.table }
+        ensures { result ≡ true → FoundEmpty T self.now.handle.held.pass.pass.table }
     {
         self.part.is_over
     }
 
     /// Says whether it was.
     pub(crate) fn set_over(&mut self, is_over: bool)
-        requires { is_over ≡ true → FoundEmpty T self.old.held.pass.pass.table }
+        requires { is_over ≡ true → FoundEmpty T self.old.handle.held.pass.pass.table }
         ensures { self.new ≡ self.old }
     {
         self.part.is_over = is_over;
@@ -162,38 +162,31 @@ impl<T: Drop> Leaving<Joined<T>> {
         self.part.stop_giving();
     }
 
-    /// Whether the handle has no token left here, so that a give first has to look for some.
+    /// Gives to the generation, whose queue this is, as `PooledHandle::give`.
     #[inline(always)]
-    pub(crate) fn lacks_token(&self) -> bool {
-        self.part.handle.pass().tokens() == 0
-    }
-
-    /// Gives to the generation, whose queue this is, as `PayHandle::give`.
-    #[inline(always)]
-    pub(crate) fn give(&mut self, queue: &PayQueue<T>, payload: T) -> Given<T>
-        requires { IsPassOf queue.now self.old.held.pass.pass }
+    pub(crate) fn give(&mut self, queue: &PooledQueue<T>, payload: T) -> Given<T>
+        requires { IsPassOf queue.now self.old.handle.held.pass.pass }
         ensures same { IsSamePart self.old self.new }
-        ensures gives { PicksUpAndGives payload result self.old.held self.new.held }
-        ensures promise { KeepsPromise self.new.held.pass.pass.opened self.new.held.pass.pass.seen }
+        ensures gives { GivesOne payload result self.old.handle self.new.handle }
     {
         self.part.handle.give(queue, payload)
     }
 
-    /// Takes from the generation, whose queue this is, as `PayHandle::take`.
+    /// Takes from the generation, whose queue this is, as `PooledHandle::receive`.
     #[inline(always)]
-    pub(crate) fn take(&mut self, queue: &PayQueue<T>) -> Taken<T>
-        requires { IsPassOf queue.now self.old.held.pass.pass }
+    pub(crate) fn take(&mut self, queue: &PooledQueue<T>) -> Taken<T>
+        requires { IsPassOf queue.now self.old.handle.held.pass.pass }
         ensures same { IsSamePart self.old self.new }
-        ensures takes { TakesThere result self.old.held self.new.held }
+        ensures takes { TakesThere result self.old.handle self.new.handle }
     {
-        self.part.handle.take(queue)
+        self.part.handle.receive(queue)
     }
 
     /// Takes from the generation.
     pub(crate) fn take_here(&mut self) -> Taken<T>
         ensures same { IsSamePart self.old self.new }
-        ensures takes { TakesThere result self.old.held self.new.held }
+        ensures takes { TakesThere result self.old.handle self.new.handle }
     {
-        self.part.handle.take(self.part.generation.queue())
+        self.part.handle.receive(self.part.generation.queue())
     }
 }

@@ -13,7 +13,7 @@ mod leaving;
 mod places;
 mod queue;
 
-pub use fault::RenewFault;
+pub use fault::{CapacityFault, RenewFault};
 pub use handle::RenewingHandle;
 pub use kfifo_exclusive::Exclusive;
-pub use queue::{DEFAULT_RESERVE, NO_RENEWAL, close, open};
+pub use queue::{DEFAULT_RESERVE, NO_RENEWAL, close, open, open_with};

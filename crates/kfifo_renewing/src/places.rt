@@ -12,12 +12,13 @@ ghost use Rattle.kfifo_renewing.specs.History.{AreLabels, FindsThere, HasLeft, H
 ghost use Rattle.kfifo_renewing.specs.Joining.{AreAmong, HasNumber, HasOlder, IsPart, MayGo};
 ghost use Rattle.kfifo_renewing.specs.Renewing.{IsOfLineage};
 
-use crate::generation::{Generation, Sizes};
+use crate::generation::Generation;
 use crate::history::History;
 use crate::joined::Joined;
 use crate::label::{Label, PLACES};
 use crate::leaving::Leaving;
 use counted_slot::{Claim, Counted, FREE, Fits, MARKED, MOST_READERS, ONE_READER, PRESENT, TAKEN};
+use kfifo_live::Sizes;
 use logbook::Pen;
 use std::alloc::{AllocError, Global};
 use std::marker::Model;

@@ -1,29 +1,34 @@
 //! What the handles of a renewing queue share, its opening and its end.
-ghost use Rattle.std.specs.Prelude.{◌≡◌, ◌<◌, ◌≤◌, ◌++◌, ◌⊎◌, ◌↔◌, All, IfOk, IfSome, IsErrOf, List, [], ◌∷◌};
-ghost use Rattle.std.specs.Prelude.{length, map};
+ghost use Rattle.std.specs.Prelude.{◌≡◌, ◌<◌, ◌≤◌, ◌*◌, ◌++◌, ◌⊎◌, ◌↔◌, All, IfOk, IfSome, IsErrOf, List, [], ◌∷◌};
+ghost use Rattle.std.specs.Prelude.{Some, length};
+ghost use Rattle.kfifo_live.specs.Capacities.{sizes_fault};
 ghost use Rattle.kfifo_live.specs.Pass.{HasNoEvent, IsPassOf};
-ghost use Rattle.kfifo_live.specs.Payloads.{pay_opening};
 ghost use Rattle.kfifo_live.specs.Schedule.{count_up};
 ghost use Rattle.kfifo_live.specs.declared.fault.OpenFault.TheVariants.{ThreadsOutOfRange, TokensOutOfRange};
+ghost use Rattle.kfifo_live.specs.declared.payload.opening.TheConstants.{MOST_TOKENS};
+ghost use Rattle.kfifo_live.specs.declared.tokens.sizes.SizesFault.{SizesFault};
+ghost use Rattle.kfifo_words.specs.declared.word.TheConstants.{MAX_VERSION};
 ghost use Rattle.logbook.specs.Pages.{may_write, nib};
 ghost use Rattle.kfifo_renewing.specs.History.{AreLabels, IsPlaced, WasNewest, key_of, place_count};
+ghost use Rattle.kfifo_renewing.specs.declared.fault.CapacityFault.TheVariants.{Sizes as NoSizes};
 ghost use Rattle.kfifo_renewing.specs.declared.fault.RenewFault.TheVariants.{Open, ReserveOutOfRange};
 ghost use Rattle.kfifo_renewing.specs.declared.places.Lineage.{Lineage};
 ghost use Rattle.kfifo_renewing.specs.Joining.{held_by};
-ghost use Rattle.kfifo_renewing.specs.Renewing.{ClosesAll, ClosesEach, Generations, HasOne, HaveOne, IsOfLineage};
-ghost use Rattle.kfifo_renewing.specs.Renewing.{IsOpenedAs, WereLeft, holding_again, opening_of};
+ghost use Rattle.kfifo_renewing.specs.Renewing.{AreInRange, ClosesAll, ClosesEach, Generations, HasOne, HaveOne, IsOfLineage};
+ghost use Rattle.kfifo_renewing.specs.Renewing.{IsOpenedAs, OpensFor, WereLeft, opening_again, opening_of, sizes_again};
 
-use crate::fault::RenewFault;
-use crate::generation::{Generation, Sizes};
+use crate::fault::{CapacityFault, RenewFault};
+use crate::generation::Generation;
 use crate::handle::RenewingHandle;
 use crate::history::{History, Numbers};
 use crate::joined::Joined;
 use crate::label::Label;
 use crate::leaving::Leaving;
 use crate::places::{Lineage, Places};
-use kfifo_live::{CloseFault, MAX_TOKENS, OpenFault, PayPass, PayQueue};
+use kfifo_live::{CloseFault, MOST_TOKENS, OpenFault, Sizes};
 use kfifo_model::MAX_THREADS;
-use kfifo_words::Shape;
+use kfifo_pool::{PooledHandle, PooledQueue};
+use kfifo_words::MAX_VERSION;
 use logbook::Pen;
 use std::alloc::{AllocError, Global};
 use std::marker::Model;
@@ -53,18 +58,19 @@ impl<T: Drop> Model for Shared<T> {
 
     ghost view = { λ s. s.places };
 
-    ghost invariant = { λ s. s.numbers ≡ s.places.history.book };
+    ghost invariant = { λ s. (s.numbers ≡ s.places.history.book) × AreInRange s.places.sizes };
 }
 
-/// A queue as a generation is opened, with the passes of all threads.
+/// A queue as a generation is opened, with the handles of all threads.
 fn open_queue<T: Drop>(
     alloc: Global,
     sizes: &Sizes,
-) -> Result<(PayQueue<T>, Vec<PayPass<T>>), OpenFault>
+) -> Result<(PooledQueue<T>, Vec<PooledHandle<T>>), AllocError>
+    requires { AreInRange sizes.now }
     ensures opened { IfOk result (λ r. r.0.opened ≡ opening_of sizes.now) }
-    ensures of { IfOk result (λ r. All (λ p. IsPassOf r.0 p.pass × HasNoEvent p.pass) r.1.items) }
+    ensures of { IfOk result (λ r. All (λ h. IsPassOf r.0 h.held.pass.pass × HasNoEvent h.held.pass.pass) r.1.items) }
 {
-    let opened = PayQueue::open_with_pool(alloc, sizes.shape, sizes.threads, sizes.tokens)?;
+    let opened = PooledQueue::open_with_payloads(alloc, *sizes)?;
     Ok(opened)
 }
 
@@ -116,9 +122,9 @@ impl<T: Drop> Shared<T> {
         ensures of { IfSome result (λ r. IsOfLineage self.now r.0) }
         ensures pen { IfSome result (λ r. (r.1.book ≡ r.0.book) × (r.1.nib ≡ nib may_write (key_of r.0.number) 0)) }
     {
-        let (queue, passes) = open_queue(self.alloc, &self.places.lineage.sizes).ok()?;
+        let (queue, handles) = open_queue(self.alloc, &self.places.lineage.sizes).ok()?;
         let (next, pen) = self.numbers.number(&queue, history)?;
-        let generation = Generation::new(self.alloc, queue, passes, next, history.again()).ok()?;
+        let generation = Generation::new(self.alloc, queue, handles, next, history.again()).ok()?;
         Some((generation, pen))
     }
 
@@ -179,7 +185,7 @@ fn share<T: Drop>(
     sizes: Sizes,
     reserve: u64,
 ) -> Result<(Arc<Shared<T>, Global>, usize, History), AllocError>
-    requires threads { sizes.threads ≤ MAX_THREADS }
+    requires sizes { AreInRange sizes }
     requires of { generation.now.value.queue.opened ≡ opening_of sizes }
     requires numbers { (numbers ≡ generation.now.value.book) × AreLabels numbers labels.items }
     ensures shared { IfOk result (λ r. (r.0.value.sizes ≡ sizes)
@@ -245,7 +251,7 @@ fn join_all<T: Drop>(
     sizes: Sizes,
     reserve: u64,
 ) -> Result<Vec<RenewingHandle<T>>, AllocError>
-    requires threads { sizes.threads ≤ MAX_THREADS }
+    requires sizes { AreInRange sizes }
     requires of { generation.queue.opened ≡ opening_of sizes }
     requires numbers { (numbers ≡ generation.book) × AreLabels numbers labels.items }
     requires first { generation.number ≡ 0 }
@@ -269,112 +275,116 @@ fn open_first<T: Drop>(
     sizes: Sizes,
     reserve: u64,
 ) -> Result<Vec<RenewingHandle<T>>, AllocError>
-    requires threads { (1 ≤ sizes.threads) × (sizes.threads ≤ MAX_THREADS) }
-    requires tokens { (1 ≤ sizes.tokens) × (sizes.tokens ≤ MAX_TOKENS) }
+    requires { AreInRange sizes }
     ensures { IfOk result (λ handles. HaveOne (opening_of sizes) handles.items
         × (length handles.items ≡ sizes.threads)) }
 {
-    match open_queue(alloc, &sizes) {
-        Ok((queue, passes)) => {
-            let (numbers, labels, next, history) = Numbers::open(alloc, &queue)?;
-            let generation = Generation::new(alloc, queue, passes, next, history)?;
-            let handles = join_all(alloc, generation, numbers, labels, sizes, reserve)?;
-            Ok(handles)
-        }
-        // The sizes are right, so memory is missing.
-        Err(_) => Err(AllocError),
-    }
-}
-
-/// The same, with a reserve that is tested.
-fn open_tested<T: Drop>(
-    alloc: Global,
-    sizes: Sizes,
-    reserve: u64,
-) -> Result<Vec<RenewingHandle<T>>, OpenFault>
-    ensures ok { IfOk result (λ handles. HaveOne (opening_of sizes) handles.items
-        × (length handles.items ≡ sizes.threads)) }
-    ensures threads { IsErrOf result ThreadsOutOfRange ↔ ((sizes.threads ≡ 0) ⊎ (MAX_THREADS < sizes.threads)) }
-    ensures tokens { IsErrOf result TokensOutOfRange
-        ↔ ((1 ≤ sizes.threads) × (sizes.threads ≤ MAX_THREADS) × ((sizes.tokens ≡ 0) ⊎ (MAX_TOKENS < sizes.tokens))) }
-{
-    if sizes.threads == 0 || sizes.threads > MAX_THREADS {
-        return Err(OpenFault::ThreadsOutOfRange);
-    }
-    if sizes.tokens == 0 || sizes.tokens > MAX_TOKENS {
-        return Err(OpenFault::TokensOutOfRange);
-    }
-    let handles = open_first(alloc, sizes, reserve)?;
+    let (queue, waiting) = open_queue(alloc, &sizes)?;
+    let (numbers, labels, next, history) = Numbers::open(alloc, &queue)?;
+    let generation = Generation::new(alloc, queue, waiting, next, history)?;
+    let handles = join_all(alloc, generation, numbers, labels, sizes, reserve)?;
     Ok(handles)
 }
 
 /// These sizes, with enqueues that hold again.
-#[tactic(auto, using(crate::proofs::Shapes::holds))]
-fn sizes_of(shape: Shape, threads: u32, tokens: u32) -> Sizes
-    ensures { result ≡ record { shape = holding_again shape; threads = threads; tokens = tokens } }
+fn hold_again(sizes: Sizes) -> Sizes
+    ensures { result ≡ sizes_again sizes }
 {
     Sizes {
-        shape: shape.holding_again(),
-        threads,
-        tokens,
+        shape: sizes.shape.holding_again(),
+        threads: sizes.threads,
+        tokens: sizes.tokens,
     }
 }
 
-/// Opens a queue of owned payloads that does not wear out, and returns a handle for each thread.
+/// Opens a queue of owned payloads that does not wear out, with these sizes and this reserve, and returns a handle for
+/// each thread. `open` finds the sizes by a capacity.
 ///
-/// Its first generation is a queue with a pool, as `PayQueue::open_with_pool` opens it, with so many tokens a thread.
-/// Its shape is this one with enqueues that hold again, whatever the shape says of that: with more segments than
-/// threads the queue is then lock-free. Each later one is opened like it, once the newest has fewer versions left than
-/// the reserve: `DEFAULT_RESERVE`, or less for tests. A reserve has to last until the generation is empty, which takes a
-/// version for each segment and each call that is under way. With `NO_RENEWAL` there is no later one.
+/// Its first generation is a queue with a pool of tokens, as `PooledQueue::open_with_payloads` opens it. Its shape is
+/// that of the sizes with enqueues that hold again, whatever it says of that: with more segments than threads the queue
+/// is then lock-free. Each later one is opened like it, once the newest has fewer versions left than the reserve:
+/// `DEFAULT_RESERVE`, or less for tests. A reserve has to last until the generation is empty, which takes a version for
+/// each segment and each call that is under way. With `NO_RENEWAL` there is no later one.
 ///
 /// ```rust
-/// let shape = Shape::new(4, 8, MAX_VERSION)?; // k, segments, greatest version
-/// let mut handles = open::<u64>(alloc, shape, 2, 16, DEFAULT_RESERVE)?; // threads, tokens
+/// let sizes = Sizes::for_capacity(16, 1_024, 4, 1 << 30)?; // k, capacity, threads, greatest version
+/// let mut handles = open_with::<u64>(alloc, sizes, 1 << 20)?; // reserve
 /// ```
 ///
 /// ReserveOutOfRange where the reserve is not below the shape's greatest version; then Open with ThreadsOutOfRange
-/// where the number of threads is not 1 to 64; then Open with TokensOutOfRange where the number of tokens is not 1 to
-/// 1,024; Open with Memory where an allocation failed. Nothing is kept after a refusal.
-pub fn open<T: Drop>(
+/// where the number of threads is not 1 to 64; then Open with TokensOutOfRange where each thread has no token, or all
+/// together have more than 65,536; Open with Memory where an allocation failed. Nothing is kept after a refusal.
+pub fn open_with<T: Drop>(
     alloc: Global,
-    shape: Shape,
-    threads: u32,
-    tokens: u32,
+    sizes: Sizes,
     reserve: u64,
 ) -> Result<Vec<RenewingHandle<T>>, RenewFault>
-    ensures ok { IfOk result (λ handles. HaveOne (pay_opening (holding_again shape) threads tokens) handles.items
-        × (length handles.items ≡ threads)) }
-    ensures reserve { IsErrOf result ReserveOutOfRange ↔ (shape.last ≤ reserve) }
-    ensures threads { IsErrOf result (Open ThreadsOutOfRange) ↔ ((reserve < shape.last)
-        × ((threads ≡ 0) ⊎ (MAX_THREADS < threads))) }
+    ensures ok { IfOk result (λ handles. HaveOne (opening_again sizes) handles.items
+        × (length handles.items ≡ sizes.threads)) }
+    ensures reserve { IsErrOf result ReserveOutOfRange ↔ (sizes.shape.last ≤ reserve) }
+    ensures threads { IsErrOf result (Open ThreadsOutOfRange) ↔ ((reserve < sizes.shape.last)
+        × ((sizes.threads ≡ 0) ⊎ (MAX_THREADS < sizes.threads))) }
     ensures tokens { IsErrOf result (Open TokensOutOfRange)
-        ↔ ((reserve < shape.last) × (1 ≤ threads) × (threads ≤ MAX_THREADS) × ((tokens ≡ 0) ⊎ (MAX_TOKENS < tokens))) }
+        ↔ ((reserve < sizes.shape.last) × (1 ≤ sizes.threads) × (sizes.threads ≤ MAX_THREADS)
+        × ((sizes.tokens ≡ 0) ⊎ (MOST_TOKENS < sizes.threads * sizes.tokens))) }
 {
-    if reserve >= shape.last() {
+    if reserve >= sizes.shape.last() {
         return Err(RenewFault::ReserveOutOfRange);
     }
-    match open_tested(alloc, sizes_of(shape, threads, tokens), reserve) {
-        Ok(handles) => Ok(handles),
-        Err(fault) => Err(RenewFault::Open(fault)),
+    if sizes.threads == 0 || sizes.threads > MAX_THREADS {
+        return Err(RenewFault::Open(OpenFault::ThreadsOutOfRange));
     }
+    if sizes.tokens == 0 || sizes.tokens > MOST_TOKENS / sizes.threads {
+        return Err(RenewFault::Open(OpenFault::TokensOutOfRange));
+    }
+    let handles = open_first(alloc, hold_again(sizes), reserve)?;
+    Ok(handles)
 }
 
-/// The payloads that are left in a generation, by this pass and those that wait there.
+/// Opens a queue of owned payloads that does not wear out, with room for so many payloads, and returns a handle for each
+/// thread.
+///
+/// The sizes are those of `Sizes::for_capacity`, with the greatest version that there is and `DEFAULT_RESERVE`:
+/// whatever the handles keep for themselves, the queue has room for `capacity` payloads.
+///
+/// ```rust
+/// let mut handles = open::<u64>(alloc, 16, 1_024, 2)?; // k, capacity, threads
+/// ```
+///
+/// Sizes with what `Sizes::for_capacity` refuses: ThreadsOutOfRange where the number of threads is not 1 to 64;
+/// KOutOfRange where k is not 1 to 64; CapacityOutOfRange, with the greatest capacity, where the capacity is 0 or
+/// greater than that. Memory where an allocation failed. Nothing is kept after a refusal.
+pub fn open<T: Drop>(
+    alloc: Global,
+    k: u32,
+    capacity: u32,
+    threads: u32,
+) -> Result<Vec<RenewingHandle<T>>, CapacityFault>
+    ensures ok { IfOk result (λ handles. OpensFor k capacity threads handles.items) }
+    ensures refused { (fault : SizesFault) → IsErrOf result (NoSizes fault)
+        ↔ (sizes_fault k capacity threads MAX_VERSION ≡ Some fault) }
+{
+    let sizes = Sizes::for_capacity(k, capacity, threads, MAX_VERSION)?;
+    let handles = open_first(alloc, hold_again(sizes), DEFAULT_RESERVE)?;
+    Ok(handles)
+}
+
+/// The payloads that are left in a generation, by the handle of this part and those that wait there.
 fn close_one<T: Drop>(
     alloc: Global,
     joined: Leaving<Joined<T>>,
     sizes: &Sizes,
 ) -> Result<Vec<T>, CloseFault>
-    requires { IsOpenedAs (opening_of sizes.now) joined.held }
-    ensures { IfOk result (λ left. WereLeft joined.held left.items) }
+    requires { IsOpenedAs (opening_of sizes.now) joined.handle }
+    ensures { IfOk result (λ left. WereLeft joined.handle left.items) }
 {
-    let (generation, pass) = joined.into_part().into_parts();
+    let (generation, handle) = joined.into_part().into_parts();
     let Some(generation) = Arc::into_inner(generation) else {
         return Err(CloseFault::MissingPass);
     };
-    let (queue, others) = generation.into_parts(alloc, sizes.threads, pass.thread())?;
-    let left = queue.close_with(alloc, pass, others)?;
+    let thread = handle.pass().thread();
+    let (queue, others) = generation.into_parts(alloc, sizes.threads, thread)?;
+    let left = queue.close_with(alloc, handle, others)?;
     Ok(left)
 }
 
@@ -384,7 +394,7 @@ fn close_each<T: Drop>(
     all: Vec<Leaving<Joined<T>>>,
     sizes: &Sizes,
 ) -> Result<Vec<T>, CloseFault>
-    requires { All (λ p. IsOpenedAs (opening_of sizes.now) p.held) all.items }
+    requires { All (λ p. IsOpenedAs (opening_of sizes.now) p.handle) all.items }
     ensures { IfOk result (λ left. ClosesEach (held_by all.items) left.items) }
 {
     let mut left = Vec::new(alloc);

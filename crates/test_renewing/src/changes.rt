@@ -2,7 +2,7 @@
 ghost use Rattle.std.specs.Prelude.{◌≡◌, All};
 
 use crate::plain::{close, give, open, open_with, take};
-use kfifo_live::{CloseFault, Given, OpenFault, Taken};
+use kfifo_live::{CloseFault, Given, OpenFault, Sizes, Taken};
 use kfifo_renewing::{RenewFault, RenewingHandle};
 use kfifo_words::{MAX_VERSION, Shape};
 use std::process::Abort;
@@ -60,8 +60,8 @@ fn are_both_beside(handles: &[RenewingHandle<u64>]) -> bool
 /// Two handles of a queue begin in one generation.
 #[test]
 fn begins_in_one_generation(rt: HostRuntime) -> Result<(), Fail> {
-    let shape = Shape::new(1, 2, 8)?;
-    let handles = kfifo_renewing::open::<u64>(rt.alloc(), shape, 2, 4, 4)?;
+    let sizes = Sizes::for_capacity(1, 4, 2, 8)?;
+    let handles = kfifo_renewing::open_with::<u64>(rt.alloc(), sizes, 4)?;
     assert!(rt; are_both_beside(handles.as_slice()));
     Ok(())
 }

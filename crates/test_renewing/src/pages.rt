@@ -1,14 +1,12 @@
 //! The short example of the pages on the renewing queue, as it stands there.
 use kfifo_live::{Given, Taken};
-use kfifo_renewing::{DEFAULT_RESERVE, close, open};
-use kfifo_words::{MAX_VERSION, Shape};
+use kfifo_renewing::{close, open};
 use std::test::Fail;
 
 #[test]
 fn the_renewing_queue(rt: HostRuntime) -> Result<(), Fail> {
     let alloc = rt.alloc();
-    let shape = Shape::new(4, 8, MAX_VERSION)?; // k, segments, greatest version
-    let mut handles = open::<u64>(alloc, shape, 2, 16, DEFAULT_RESERVE)?; // threads, tokens
+    let mut handles = open::<u64>(alloc, 4, 32, 2)?; // k, capacity, threads
     let (Some(mut taker), Some(mut giver)) = (handles.pop(), handles.pop()) else {
         unreachable!()
     };

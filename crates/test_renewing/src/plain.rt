@@ -1,17 +1,18 @@
 //! The calls that the tests make, with nothing said of them: no test needs it, and proofs of tests are faster without.
-use kfifo_live::{CloseFault, Given, Taken};
+use kfifo_live::{CloseFault, Given, SPARE_TOKENS, Sizes, Taken};
 use kfifo_renewing::{RenewFault, RenewingHandle};
 use kfifo_words::Shape;
 use std::alloc::Global;
 
-/// The handles of a queue whose reserve is half of its versions.
+/// The handles of a queue whose reserve is half of its versions. Each has so many tokens and its spare ones.
 pub fn open<T: Drop>(
     alloc: Global,
     shape: Shape,
     threads: u32,
     tokens: u32,
 ) -> Result<Vec<RenewingHandle<T>>, RenewFault> {
-    kfifo_renewing::open(alloc, shape, threads, tokens, shape.last() / 2)
+    let tokens = tokens.saturating_add(SPARE_TOKENS);
+    open_with(alloc, shape, threads, tokens, shape.last() / 2)
 }
 
 pub fn open_with<T: Drop>(
@@ -21,7 +22,12 @@ pub fn open_with<T: Drop>(
     tokens: u32,
     reserve: u64,
 ) -> Result<Vec<RenewingHandle<T>>, RenewFault> {
-    kfifo_renewing::open(alloc, shape, threads, tokens, reserve)
+    let sizes = Sizes {
+        shape,
+        threads,
+        tokens,
+    };
+    kfifo_renewing::open_with(alloc, sizes, reserve)
 }
 
 pub fn give<T: Drop>(handle: &mut RenewingHandle<T>, payload: T) -> Given<T> {

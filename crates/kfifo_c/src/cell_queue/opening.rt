@@ -2,7 +2,6 @@
 ghost use Rattle.std.specs.Prelude.{◌≡◌, ◌≢◌, ◌<◌, ◌≤◌, ◌⊎◌, ◌↔◌, None, Some, IfSome, IfOk, IsErrOf, All, length, map, true};
 ghost use Rattle.std.specs.Prelude.{reverse};
 ghost use Rattle.kfifo_model.specs.declared.calls.TheConstants.{MAX_THREADS};
-ghost use Rattle.kfifo_live.specs.declared.payload.opening.TheConstants.{MAX_TOKENS};
 ghost use denote.RawPtr.{Ptr};
 ghost use Rattle.kfifo_words.specs.Sizes.{fault_of};
 ghost use Rattle.kfifo_live.specs.Pass.{IsPassOf, OpenQueue};
@@ -13,6 +12,7 @@ ghost use Rattle.kfifo_c.specs.CellHandles.{cells_behind};
 ghost use Rattle.kfifo_c.specs.CellSeats.{all_free};
 ghost use Rattle.kfifo_c.specs.CellQueues.{IsOpenedLike, OpensCells, OpensCellSizes, seats_with, tokens_of};
 ghost use Rattle.kfifo_c.specs.Exports.{shape_number};
+ghost use Rattle.kfifo_c.specs.Values.{BadTokens};
 
 use crate::address::no_address;
 use crate::cell_queue::free::FreeCells;
@@ -172,7 +172,7 @@ fn open_seats(
         × ((sizes.threads ≡ 0) ⊎ (MAX_THREADS < sizes.threads))) }
     ensures tokens { IsErrOf result (Open TokensOutOfRange)
         ↔ ((reserve < sizes.shape.last) × (1 ≤ sizes.threads) × (sizes.threads ≤ MAX_THREADS)
-        × ((sizes.tokens ≡ 0) ⊎ (MAX_TOKENS < sizes.tokens))) }
+        × BadTokens sizes.threads sizes.tokens) }
 {
     let handles = match open_renewing(alloc, sizes.shape, sizes.threads, sizes.tokens, reserve) {
         Ok(handles) => handles,
@@ -209,7 +209,7 @@ fn put_all(handles: &mut [CellHandle], mut seats: Vec<Box<CellSeat, Global>>, ad
 /// behind each, in their order. It renews as a queue of values does. What was behind the handles is lost. A refusal
 /// does nothing: BAD_K, BAD_SEGMENTS, BAD_LAST or BAD_PROBES where there is no such shape, BAD_RESERVE where the
 /// reserve is not below the greatest version, BAD_THREADS where the handles are not 1 to 64, BAD_TOKENS where the cells
-/// of a thread are not 1 to 1,024, NO_MEMORY where an allocation failed.
+/// of a thread are not 1 to 1,024 or the threads have too many tokens together, NO_MEMORY where an allocation failed.
 #[unsafe(no_mangle)]
 pub extern "C" fn kfifo_c_open_cells(
     alloc: Global,
@@ -231,9 +231,9 @@ pub extern "C" fn kfifo_c_open_cells(
         ⊎ (MAX_THREADS < length passes.old)
         → result ≡ 8 }
     ensures tokens { fault_of k segments last probes ≡ None → reserve < last → 1 ≤ length passes.old
-        → length passes.old ≤ MAX_THREADS → (tokens ≡ 0) ⊎ (MAX_TOKENS < tokens) → result ≡ 15 }
+        → length passes.old ≤ MAX_THREADS → BadTokens (length passes.old) tokens → result ≡ 15 }
     ensures memory { fault_of k segments last probes ≡ None → reserve < last → 1 ≤ length passes.old
-        → length passes.old ≤ MAX_THREADS → 1 ≤ tokens → tokens ≤ MAX_TOKENS
+        → length passes.old ≤ MAX_THREADS → ¬ BadTokens (length passes.old) tokens
         → (result ≡ 0) ⊎ (result ≡ 7) }
 {
     let shape = match shape_of(k, segments, last, probes) {

@@ -3,7 +3,7 @@ ghost use Rattle.std.specs.Prelude.{◌≡◌, ◌<◌, ◌≤◌, ◌*◌, ◌^
 ghost use Rattle.kfifo_c.specs.CellSeats.{CellSeated, all_free, cell_seated};
 ghost use Rattle.kfifo_c.specs.Cells.{KeepsCell, MayCancel, MayPublish, MayRelease, ReceivesCell, ReservesCell};
 ghost use Rattle.kfifo_c.specs.Cells.{TakesCell, cell_in, cells_of, token_given_back, token_taken};
-ghost use Rattle.kfifo_c.specs.Values.{given_number};
+ghost use Rattle.kfifo_c.specs.Values.{given_number, without_spare};
 
 use crate::cell_queue::address::cell_address_of;
 use crate::cell_queue::free::FreeCells;
@@ -43,7 +43,7 @@ impl Model for CellSeat {
     } };
 
     ghost invariant = { λ s. (s.shape ≡ s.handle.opened.shape) × (s.threads ≡ s.handle.opened.threads)
-        × (s.tokens ≡ s.handle.opened.tokens) × (s.tokens ≤ s.free.most) };
+        × (s.tokens ≡ without_spare s.handle.opened) × (s.tokens ≤ s.free.most) };
 }
 
 /// The cell of a token, if there is one.
@@ -94,7 +94,7 @@ impl CellSeat {
         free: FreeCells,
     ) -> CellSeat
         requires sizes { (shape ≡ handle.opened.shape) × (threads ≡ handle.opened.threads)
-            × (tokens ≡ handle.opened.tokens) }
+            × (tokens ≡ without_spare handle.opened) }
         requires most { tokens ≤ free.most }
         ensures { result ≡ cell_seated handle (all_free free) }
     {
@@ -126,8 +126,8 @@ impl CellSeat {
 
     /// The number of the queue's cells, if it is one of 64 bits.
     pub(crate) fn count(&self) -> Option<usize>
-        ensures { SomeIff result (self.now.held.opened.threads * self.now.held.opened.tokens < 2 ^ 64)
-            (self.now.held.opened.threads * self.now.held.opened.tokens) }
+        ensures { SomeIff result (self.now.held.opened.threads * without_spare self.now.held.opened < 2 ^ 64)
+            (self.now.held.opened.threads * without_spare self.now.held.opened) }
     {
         (self.threads as usize).checked_mul(self.tokens as usize)
     }

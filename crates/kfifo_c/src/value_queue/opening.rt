@@ -2,14 +2,13 @@
 ghost use Rattle.std.specs.Prelude.{◌≡◌, ◌≢◌, ◌<◌, ◌≤◌, ◌⊎◌, ◌↔◌, None, Some, IfSome, IfOk, IsErrOf, All, length, map, true};
 ghost use Rattle.std.specs.Prelude.{reverse};
 ghost use Rattle.kfifo_model.specs.declared.calls.TheConstants.{MAX_THREADS};
-ghost use Rattle.kfifo_live.specs.declared.payload.opening.TheConstants.{MAX_TOKENS};
 ghost use denote.RawPtr.{Ptr};
 ghost use Rattle.kfifo_words.specs.Sizes.{fault_of};
 ghost use Rattle.kfifo_live.specs.declared.fault.OpenFault.TheVariants.{ThreadsOutOfRange, TokensOutOfRange};
 ghost use Rattle.kfifo_renewing.specs.declared.fault.RenewFault.TheVariants.{Open, ReserveOutOfRange};
 ghost use Rattle.kfifo_c.specs.ValueHandles.{values_behind};
 ghost use Rattle.kfifo_c.specs.Exports.{shape_number};
-ghost use Rattle.kfifo_c.specs.Values.{OpensValues, OpensValueSizes};
+ghost use Rattle.kfifo_c.specs.Values.{BadTokens, OpensValues, OpensValueSizes};
 
 use crate::address::no_address;
 use crate::shape::{open_renewing, shape_of};
@@ -55,7 +54,7 @@ fn open_seats(
     ensures threads { IsErrOf result (Open ThreadsOutOfRange) ↔ ((reserve < shape.last)
         × ((threads ≡ 0) ⊎ (MAX_THREADS < threads))) }
     ensures tokens { IsErrOf result (Open TokensOutOfRange)
-        ↔ ((reserve < shape.last) × (1 ≤ threads) × (threads ≤ MAX_THREADS) × ((tokens ≡ 0) ⊎ (MAX_TOKENS < tokens))) }
+        ↔ ((reserve < shape.last) × (1 ≤ threads) × (threads ≤ MAX_THREADS) × BadTokens threads tokens) }
 {
     let handles = match open_renewing(alloc, shape, threads, tokens, reserve) {
         Ok(handles) => handles,
@@ -88,12 +87,12 @@ fn put_all(handles: &mut [ValueHandle], mut seats: Vec<Box<ValueSeat, Global>>, 
     }
 }
 
-/// Opens a queue of values for as many threads as there are handles, with so many tokens each, as
-/// `kfifo_renewing::open`, and puts a handle of it behind each, in their order. With fewer versions left than the
+/// Opens a queue of values for as many threads as there are handles, with so many tokens for each, as
+/// `kfifo_renewing::open_with`, and puts a handle of it behind each, in their order. With fewer versions left than the
 /// reserve, a generation is followed by the next one; with a reserve of 0 it is not. What was behind the handles is
 /// lost. A refusal does nothing: BAD_K, BAD_SEGMENTS, BAD_LAST or BAD_PROBES where there is no such shape, BAD_RESERVE
 /// where the reserve is not below the greatest version, BAD_THREADS where the handles are not 1 to 64, BAD_TOKENS where
-/// the tokens are not 1 to 1,024, NO_MEMORY where an allocation failed.
+/// the tokens are not 1 to 1,024 or the threads have too many together, NO_MEMORY where an allocation failed.
 #[unsafe(no_mangle)]
 pub extern "C" fn kfifo_c_open_values(
     alloc: Global,
@@ -115,9 +114,9 @@ pub extern "C" fn kfifo_c_open_values(
         ⊎ (MAX_THREADS < length passes.old)
         → result ≡ 8 }
     ensures tokens { fault_of k segments last probes ≡ None → reserve < last → 1 ≤ length passes.old
-        → length passes.old ≤ MAX_THREADS → (tokens ≡ 0) ⊎ (MAX_TOKENS < tokens) → result ≡ 15 }
+        → length passes.old ≤ MAX_THREADS → BadTokens (length passes.old) tokens → result ≡ 15 }
     ensures memory { fault_of k segments last probes ≡ None → reserve < last → 1 ≤ length passes.old
-        → length passes.old ≤ MAX_THREADS → 1 ≤ tokens → tokens ≤ MAX_TOKENS
+        → length passes.old ≤ MAX_THREADS → ¬ BadTokens (length passes.old) tokens
         → (result ≡ 0) ⊎ (result ≡ 7) }
 {
     let shape = match shape_of(k, segments, last, probes) {

@@ -10,10 +10,10 @@ pub set_over-requires : goal.set_over-requires
 set_over-requires g t c over =
     let old = c.in_ok-generations.first.now in
     let new = c.take_here.new.self in (
-      old.held,
-      new.held,
+      old.handle,
+      new.handle,
       sym c.take_here.ensures.same.2.0,
-      subst (λ t. TakesThere t old.held new.held) c.in-Empty.is c.take_here.ensures.takes,
+      subst (λ t. TakesThere t old.handle new.handle) c.in-Empty.is c.take_here.ensures.takes,
     )
 
 pub returns-in-Empty-clause-same : goal.returns-in-Empty-clause-same
@@ -29,9 +29,9 @@ pub returns-in-Empty-clause-takes : goal.returns-in-Empty-clause-takes
 returns-in-Empty-clause-takes g t c =
     let T = g.row.T.Denot in
     let after = c.set_over.new.self in
-    let took : TakesThere K.Empty c.in_ok-generations.first.now.held after.held =
-    subst (λ (p : PartView T). TakesThere K.Empty c.in_ok-generations.first.now.held p.held) (sym c.set_over.ensures)
-    (subst (λ t. TakesThere t c.in_ok-generations.first.now.held c.take_here.new.self.held) c.in-Empty.is c.take_here.ensures.takes) in
+    let took : TakesThere K.Empty c.in_ok-generations.first.now.handle after.handle =
+    subst (λ (p : PartView T). TakesThere K.Empty c.in_ok-generations.first.now.handle p.handle) (sym c.set_over.ensures)
+    (subst (λ t. TakesThere t c.in_ok-generations.first.now.handle c.take_here.new.self.handle) c.in-Empty.is c.take_here.ensures.takes) in
     subst (λ (l : List (PartView T)). TakesFirst c.take_first.result (held_by l) (held_by (after ∷ c.take_first.new.generations)))
     (sym c.in_ok-generations.ensures.cases.0) (
       held_in after,

@@ -2,12 +2,12 @@
 use Rattle.std.proofs.Common.{All, List, sym, ap, ◌∙◌, subst}
 use Rattle.kfifo_renewing.specs.Joining.{PartView}
 use Rattle.kfifo_renewing.specs.Renewing.{ClosesEach, HeldIn, IsOpenedAs, opening_of}
-use Rattle.kfifo_renewing.specs.declared.generation.Sizes.{Sizes}
+use Rattle.kfifo_live.specs.declared.tokens.sizes.Sizes.{Sizes}
 use Rattle.kfifo_renewing.specs.declared.places.Lineage.{Lineage}
 use Rattle.kfifo_renewing.proofs.queue.close.Goals as goal
 
 pub close_each-requires : goal.close_each-requires
-close_each-requires g c = subst (λ (sizes : Sizes). All (λ (p : PartView g.row.T.Denot). IsOpenedAs (opening_of sizes) p.held) c.in_ok-shared.all.items)
+close_each-requires g c = subst (λ (sizes : Sizes). All (λ (p : PartView g.row.T.Denot). IsOpenedAs (opening_of sizes) p.handle) c.in_ok-shared.all.items)
     (sym (c.sizes-sizes.ensures ∙ ap (λ (l : Lineage). l.sizes) c.in-Some-into_inner.ensures)) c.in_ok-shared.ensures.of
 
 pub returns : goal.returns

@@ -17,7 +17,7 @@ loop-joined-preserved g c =
     let next = c.in-Some.ensures.steps.0 in
     record {
       same = refl;
-      rest = (all-next (λ (p : PartView T). IsOpenedAs (opening_of c.args.sizes.now) p.held) here c.next.new.self.rest.items
+      rest = (all-next (λ (p : PartView T). IsOpenedAs (opening_of c.args.sizes.now) p.handle) here c.next.new.self.rest.items
           c.loop-joined.joined-iterator.rest.items next i.rest).1;
       left = (
         done ++ here ∷ [],

@@ -3,7 +3,7 @@ use Rattle.kfifo_live.specs.Pass.{IsPassOf}
 use Rattle.kfifo_renewing.specs.Renewing.{other_threads}
 use Rattle.kfifo_renewing.proofs.generation.Generation.into_parts.Given as goal
 
--- the passes so far are those of the first threads, in their order
+-- the handles so far are those of the first threads, in their order
 abbrev pub invariant-loop-place : goal.invariant-loop-place
 invariant-loop-place g l = record {
   bound : l.threads ≡ l.fn.threads;
@@ -12,6 +12,6 @@ invariant-loop-place g l = record {
   count : length l.others.items ≤ l.thread;
   room : l.threads ≤ vec_capacity l.others;
   rest : All (λ q. q ≡ l.fn.self.queue) l.place-iterator.rest.items;
-  of : All (λ p. IsPassOf l.fn.self.queue p.pass) l.others.items;
-  others : map (λ p. p.pass.thread) l.others.items ≡ other_threads l.fn.own l.thread;
+  of : All (λ h. IsPassOf l.fn.self.queue h.held.pass.pass) l.others.items;
+  others : map (λ h. h.held.pass.pass.thread) l.others.items ≡ other_threads l.fn.own l.thread;
 }

@@ -17,7 +17,7 @@ returns-clause-part g c =
       number,
       same,
       record {
-        made = subst (λ n. IsMade log n joined.held.pass.pass.table) (number ∙ sym same)
+        made = subst (λ n. IsMade log n joined.handle.held.pass.pass.table) (number ∙ sym same)
             (subst (IsMade log generation.number) (search rules)
             (made-later c.history.result.now.log log generation.number generation.queue.table c.learn.ensures.3
             (subst (λ (v : Numbered). IsMade c.history.result.now.log v.number v.queue.table) c.deref-4.ensures c.history.ensures.made)));

@@ -55,7 +55,7 @@ returns-in_default-reserve-clause-later g c =
 
 pub returns-in_default-reserve-clause-opened : goal.returns-in_default-reserve-clause-opened
 returns-in_default-reserve-clause-opened g c =
-    subst (All (λ (p : PartView g.row.T.Denot). IsOpenedAs c.args.self.now.opened p.held)) (sym c.reserve.ensures.items) c.loop.invariant.opened
+    subst (All (λ (p : PartView g.row.T.Denot). IsOpenedAs c.args.self.now.opened p.handle)) (sym c.reserve.ensures.items) c.loop.invariant.opened
 
 pub returns-in_default-reserve-clause-parts : goal.returns-in_default-reserve-clause-parts
 returns-in_default-reserve-clause-parts g c =
@@ -91,7 +91,7 @@ loop-preserved g c =
       end = refl;
       book = c.enter.ensures.later.0 ∙ c.next_after.ensures.later.0 ∙ i.book;
       more = prefix-trans c.args.history.now.log first log i.more more;
-      opened = each (λ (p : PartView T). IsOpenedAs c.args.self.now.opened p.held) i.opened entered.of.0;
+      opened = each (λ (p : PartView T). IsOpenedAs c.args.self.now.opened p.handle) i.opened entered.of.0;
       parts = each (IsPart log) (parts-later first log c.loop.between.items more i.parts) entered.part.2;
       below = each (λ (p : PartView T). p.number < c.args.end) i.below
           (omega (arith, entered.part.1, c.in-Some.ensures.between.2));

@@ -11,7 +11,7 @@ invariant-loop g l = record {
   end : l.end ≡ l.fn.end;
   book : l.history.book ≡ l.fn.history.book;
   more : IsPrefix l.fn.history.log l.history.log;
-  opened : All (λ p. IsOpenedAs l.fn.self.opened p.held) l.between.items;
+  opened : All (λ p. IsOpenedAs l.fn.self.opened p.handle) l.between.items;
   parts : All (IsPart l.history.log) l.between.items;
   below : All (λ p. p.number < l.fn.end) l.between.items;
   from : l.fn.self.number ≤ l.number;

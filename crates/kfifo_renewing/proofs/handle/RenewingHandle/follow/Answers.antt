@@ -1,6 +1,6 @@
 -- A handle leaves what is gone, and then joins what is new.
 use Rattle.std.proofs.Common.{ap, ◌∙◌, subst, true, ◌≡◌}
-use Rattle.kfifo_live.specs.Handles.{PayHeld}
+use Rattle.kfifo_pool.specs.Pooled.{Pooled}
 use Rattle.kfifo_renewing.specs.Joining.{PartView}
 use Rattle.kfifo_renewing.specs.Renewing.{Generations, IsLater, LeavesGone, with_newest, with_older, with_seen}
 use Rattle.kfifo_renewing.proofs.Following.{both-before, follows-less, follows-seen, follows-trans}
@@ -11,8 +11,8 @@ loop-init g c =
     let T = g.row.T.Denot in
     let old = c.args.self.now in
     let mid = c.leave_gone.new.self in
-    let before = ap (λ (h : Generations T). with_newest h c.stop_giving.new.self.held) c.self.view_is
-    ∙ ap (λ (h : PayHeld T). with_newest old h) (ap (λ (p : PartView T). p.held) c.stop_giving.ensures
+    let before = ap (λ (h : Generations T). with_newest h c.stop_giving.new.self.handle) c.self.view_is
+    ∙ ap (λ (h : Pooled T). with_newest old h) (ap (λ (p : PartView T). p.handle) c.stop_giving.ensures
     ∙ ap (λ (h : Generations T). h.newest) c.self.view_is) in
     let later : IsLater old mid = subst (λ (h : Generations T). IsLater h mid) before c.leave_gone.ensures.later in
     let same : mid ≡ with_older (with_seen old mid.seen) mid.older =

@@ -1,7 +1,7 @@
 -- A look, and then the give, where it found no later generation.
 use Rattle.std.proofs.Common.{◌≡◌, inl, inr, refl, sym, ap, ◌∙◌, subst}
 use Rattle.kfifo_live.specs.declared.payload.Given.TheVariants as G
-use Rattle.kfifo_live.specs.Handles.{PayHeld, PicksUpAndGives}
+use Rattle.kfifo_pool.specs.Pooled.{GivesOne, Pooled}
 use Rattle.kfifo_live.specs.Pass.{IsSamePass}
 use Rattle.kfifo_renewing.specs.History.{Finds, sight_of}
 use Rattle.kfifo_renewing.specs.Renewing.{Generations, GivesToNewest, Numbered, opening_of, TriesAgain, TriesToGive, with_newest, with_seen}
@@ -18,9 +18,9 @@ returns-then-self-eq0 g c =
 pub invariant_of-self-then-look-ne0 : goal.invariant_of-self-then-look-ne0
 invariant_of-self-then-look-ne0 g c = joins-after (opening_of c.self.inside.shared.value.sizes) c.self.inside.shared.value.history.book
     c.self.inside.history.book c.look.new.history.book c.self.inside.history.log c.look.new.history.log
-    c.self.inside.generation.value c.self.inside.newest c.self.inside.newest c.self.inside.older.items (sight_of c.self.inside.newest.held.pass.pass)
+    c.self.inside.generation.value c.self.inside.newest c.self.inside.newest c.self.inside.older.items (sight_of c.self.inside.newest.handle.held.pass.pass)
     c.look.result c.self.invariant (subst
-    (λ k. Finds (sight_of c.self.inside.newest.held.pass.pass) k c.look.result c.self.inside.history.log c.look.new.history.log)
+    (λ k. Finds (sight_of c.self.inside.newest.handle.held.pass.pass) k c.look.result c.self.inside.history.log c.look.new.history.log)
     (c.next.ensures.0 ∙ ap (λ (v : Numbered). v.number) c.deref-generation.ensures) c.look.ensures.finds)
     c.look.ensures.book (refl, refl, (refl, refl, refl))
 
@@ -32,7 +32,7 @@ returns-then-look-ne0 g c =
     let new = c.look.new.history.log in
     let n = c.self.inside.generation.value.number in
     let found = c.look.result in
-    let finds = subst (λ k. Finds (sight_of c.self.inside.newest.held.pass.pass) k found log new)
+    let finds = subst (λ k. Finds (sight_of c.self.inside.newest.handle.held.pass.pass) k found log new)
     (c.next.ensures.0 ∙ ap (λ (v : Numbered). v.number) c.deref-generation.ensures) c.look.ensures.finds in
     let now = c.args.self.now in
     let looked = subst (Looked found new) c.self.view_is (
@@ -40,68 +40,32 @@ returns-then-look-ne0 g c =
       numbered-by (opening_of c.self.inside.shared.value.sizes) c.self.inside.shared.value.history.book c.self.inside.history.book
           log c.self.inside.generation.value c.self.inside.newest c.self.inside.older.items i,
     ) in
-    let h = c.self.inside.newest.held in
+    let h = c.self.inside.newest.handle in
     let r = c.give_late-then-look-ne0.result in
     let end = c.give_late-then-look-ne0.new.self in
     let is = same-but-seen new h now (ap (λ (v : Generations T). v.opened) c.self.view_is)
     (ap (λ (v : Generations T). v.thread) c.self.view_is)
     (c.look.ensures.book ∙ ap (λ (v : Generations T). v.book) c.self.view_is)
     (ap (λ (v : Generations T). v.older) c.self.view_is) (ap (λ (v : Generations T). v.number) c.self.view_is) in
-    let here = is ∙ ap (λ (x : PayHeld T). with_newest (with_seen now new) x) (ap (λ (v : Generations T). v.newest) c.self.view_is) in
+    let here = is ∙ ap (λ (x : Pooled T). with_newest (with_seen now new) x) (ap (λ (v : Generations T). v.newest) c.self.view_is) in
     gives-after c.args.payload r now (with_seen now new) end (looked-follows found new now looked)
     (subst (λ (v : Generations T). GivesToNewest c.args.payload r v end) here c.give_late-then-look-ne0.ensures)
-
-pub invariant_of-self-then-lacks_token : goal.invariant_of-self-then-lacks_token
-invariant_of-self-then-lacks_token g c = joins-after (opening_of c.self.inside.shared.value.sizes) c.self.inside.shared.value.history.book
-    c.self.inside.history.book c.look.new.history.book c.self.inside.history.log c.look.new.history.log
-    c.self.inside.generation.value c.self.inside.newest c.self.inside.newest c.self.inside.older.items (sight_of c.self.inside.newest.held.pass.pass)
-    c.look.result c.self.invariant (subst
-    (λ k. Finds (sight_of c.self.inside.newest.held.pass.pass) k c.look.result c.self.inside.history.log c.look.new.history.log)
-    (c.next.ensures.0 ∙ ap (λ (v : Numbered). v.number) c.deref-generation.ensures) c.look.ensures.finds)
-    c.look.ensures.book (refl, refl, (refl, refl, refl))
-
-pub returns-then-lacks_token : goal.returns-then-lacks_token
-returns-then-lacks_token g c =
-    let T = g.row.T.Denot in
-    let i = c.self.invariant in
-    let log = c.self.inside.history.log in
-    let new = c.look.new.history.log in
-    let n = c.self.inside.generation.value.number in
-    let found = c.look.result in
-    let finds = subst (λ k. Finds (sight_of c.self.inside.newest.held.pass.pass) k found log new)
-    (c.next.ensures.0 ∙ ap (λ (v : Numbered). v.number) c.deref-generation.ensures) c.look.ensures.finds in
-    let now = c.args.self.now in
-    let looked = subst (Looked found new) c.self.view_is (
-      finds,
-      numbered-by (opening_of c.self.inside.shared.value.sizes) c.self.inside.shared.value.history.book c.self.inside.history.book
-          log c.self.inside.generation.value c.self.inside.newest c.self.inside.older.items i,
-    ) in
-    let h = c.self.inside.newest.held in
-    let r = c.give_late-then-lacks_token.result in
-    let end = c.give_late-then-lacks_token.new.self in
-    let is = same-but-seen new h now (ap (λ (v : Generations T). v.opened) c.self.view_is)
-    (ap (λ (v : Generations T). v.thread) c.self.view_is)
-    (c.look.ensures.book ∙ ap (λ (v : Generations T). v.book) c.self.view_is)
-    (ap (λ (v : Generations T). v.older) c.self.view_is) (ap (λ (v : Generations T). v.number) c.self.view_is) in
-    let here = is ∙ ap (λ (x : PayHeld T). with_newest (with_seen now new) x) (ap (λ (v : Generations T). v.newest) c.self.view_is) in
-    gives-after c.args.payload r now (with_seen now new) end (looked-follows found new now looked)
-    (subst (λ (v : Generations T). GivesToNewest c.args.payload r v end) here c.give_late-then-lacks_token.ensures)
 
 pub invariant_of-self-in-Worn : goal.invariant_of-self-in-Worn
 invariant_of-self-in-Worn g c = joins-after (opening_of c.self.inside.shared.value.sizes) c.self.inside.shared.value.history.book
     c.self.inside.history.book c.look.new.history.book c.self.inside.history.log c.look.new.history.log
-    c.self.inside.generation.value c.self.inside.newest c.give.new.self c.self.inside.older.items (sight_of c.self.inside.newest.held.pass.pass)
+    c.self.inside.generation.value c.self.inside.newest c.give.new.self c.self.inside.older.items (sight_of c.self.inside.newest.handle.held.pass.pass)
     c.look.result c.self.invariant (subst
-    (λ k. Finds (sight_of c.self.inside.newest.held.pass.pass) k c.look.result c.self.inside.history.log c.look.new.history.log)
+    (λ k. Finds (sight_of c.self.inside.newest.handle.held.pass.pass) k c.look.result c.self.inside.history.log c.look.new.history.log)
     (c.next.ensures.0 ∙ ap (λ (v : Numbered). v.number) c.deref-generation.ensures) c.look.ensures.finds)
     c.look.ensures.book c.give.ensures.same
 
 pub invariant_of-self-in_default : goal.invariant_of-self-in_default
 invariant_of-self-in_default g c = joins-after (opening_of c.self.inside.shared.value.sizes) c.self.inside.shared.value.history.book
     c.self.inside.history.book c.look.new.history.book c.self.inside.history.log c.look.new.history.log
-    c.self.inside.generation.value c.self.inside.newest c.give.new.self c.self.inside.older.items (sight_of c.self.inside.newest.held.pass.pass)
+    c.self.inside.generation.value c.self.inside.newest c.give.new.self c.self.inside.older.items (sight_of c.self.inside.newest.handle.held.pass.pass)
     c.look.result c.self.invariant (subst
-    (λ k. Finds (sight_of c.self.inside.newest.held.pass.pass) k c.look.result c.self.inside.history.log c.look.new.history.log)
+    (λ k. Finds (sight_of c.self.inside.newest.handle.held.pass.pass) k c.look.result c.self.inside.history.log c.look.new.history.log)
     (c.next.ensures.0 ∙ ap (λ (v : Numbered). v.number) c.deref-generation.ensures) c.look.ensures.finds)
     c.look.ensures.book c.give.ensures.same
 
@@ -113,7 +77,7 @@ returns-in-Worn g c =
     let new = c.look.new.history.log in
     let n = c.self.inside.generation.value.number in
     let found = c.look.result in
-    let finds = subst (λ k. Finds (sight_of c.self.inside.newest.held.pass.pass) k found log new)
+    let finds = subst (λ k. Finds (sight_of c.self.inside.newest.handle.held.pass.pass) k found log new)
     (c.next.ensures.0 ∙ ap (λ (v : Numbered). v.number) c.deref-generation.ensures) c.look.ensures.finds in
     let now = c.args.self.now in
     let looked = subst (Looked found new) c.self.view_is (
@@ -121,9 +85,9 @@ returns-in-Worn g c =
       numbered-by (opening_of c.self.inside.shared.value.sizes) c.self.inside.shared.value.history.book c.self.inside.history.book
           log c.self.inside.generation.value c.self.inside.newest c.self.inside.older.items i,
     ) in
-    let h = c.give.new.self.held in
+    let h = c.give.new.self.handle in
     let none : found ≡ 0 = c.if-look-ne0.false in
-    let same = subst (λ (v : Generations T). IsSamePass v.newest.pass.pass h.pass.pass) c.self.view_is c.give.ensures.same.2 in
+    let same = subst (λ (v : Generations T). IsSamePass v.newest.held.pass.pass h.held.pass.pass) c.self.view_is c.give.ensures.same.2 in
     let is = same-but-seen new h now (ap (λ (v : Generations T). v.opened) c.self.view_is)
     (ap (λ (v : Generations T). v.thread) c.self.view_is)
     (c.look.ensures.book ∙ ap (λ (v : Generations T). v.book) c.self.view_is)
@@ -132,8 +96,8 @@ returns-in-Worn g c =
     let back = c.in-Worn.back in
     let here = with_newest (with_seen now new) h in
     let end = c.give_to_next.new.self in
-    let gives = subst (λ (v : Generations T). PicksUpAndGives payload (G.Worn back) v.newest h) c.self.view_is c.in-Worn.ensures.gives in
-    let first = gave-here payload (G.Worn back) now found new h looked none same gives c.give.ensures.promise in
+    let gives = subst (λ (v : Generations T). GivesOne payload (G.Worn back) v.newest h) c.self.view_is c.in-Worn.ensures.gives in
+    let first = gave-here payload (G.Worn back) now found new h looked none same gives in
     let worn = worn-back payload back now here first in
     inr (
       here,
@@ -150,7 +114,7 @@ returns-in_default g c =
     let new = c.look.new.history.log in
     let n = c.self.inside.generation.value.number in
     let found = c.look.result in
-    let finds = subst (λ k. Finds (sight_of c.self.inside.newest.held.pass.pass) k found log new)
+    let finds = subst (λ k. Finds (sight_of c.self.inside.newest.handle.held.pass.pass) k found log new)
     (c.next.ensures.0 ∙ ap (λ (v : Numbered). v.number) c.deref-generation.ensures) c.look.ensures.finds in
     let now = c.args.self.now in
     let looked = subst (Looked found new) c.self.view_is (
@@ -158,16 +122,16 @@ returns-in_default g c =
       numbered-by (opening_of c.self.inside.shared.value.sizes) c.self.inside.shared.value.history.book c.self.inside.history.book
           log c.self.inside.generation.value c.self.inside.newest c.self.inside.older.items i,
     ) in
-    let h = c.give.new.self.held in
+    let h = c.give.new.self.handle in
     let none : found ≡ 0 = c.if-look-ne0.false in
-    let same = subst (λ (v : Generations T). IsSamePass v.newest.pass.pass h.pass.pass) c.self.view_is c.give.ensures.same.2 in
+    let same = subst (λ (v : Generations T). IsSamePass v.newest.held.pass.pass h.held.pass.pass) c.self.view_is c.give.ensures.same.2 in
     let is = same-but-seen new h now (ap (λ (v : Generations T). v.opened) c.self.view_is)
     (ap (λ (v : Generations T). v.thread) c.self.view_is)
     (c.look.ensures.book ∙ ap (λ (v : Generations T). v.book) c.self.view_is)
     (ap (λ (v : Generations T). v.older) c.self.view_is) (ap (λ (v : Generations T). v.number) c.self.view_is) in
     let payload = c.args.payload in
-    let gives = subst (λ (v : Generations T). PicksUpAndGives payload c.give.result v.newest h) c.self.view_is c.give.ensures.gives in
+    let gives = subst (λ (v : Generations T). GivesOne payload c.give.result v.newest h) c.self.view_is c.give.ensures.gives in
     subst (λ (v : Generations T). GivesToNewest payload c.give.result now v) (sym is) (inl (
-      gave-here payload c.give.result now found new h looked none same gives c.give.ensures.promise,
+      gave-here payload c.give.result now found new h looked none same gives,
       c.in_default.not-Worn payload,
     ))

@@ -29,13 +29,13 @@ invariant_of-self-2 g c =
     s.generation.value next s.newest k s.older.items c.args.between.items c.append.new.self.items c.self.invariant c.learn.ensures.0
     c.learn.ensures.2 c.learn.ensures.4.1 (kept-risen c.learn.ensures.4.0 log c.learn.ensures.4.1)
     (subst (λ (x : Generations T). next.book ≡ x.book) v c.requires.books.1)
-    (subst (λ (p : PartView T). IsOpenedAs o p.held) after (subst (λ (x : Generations T). IsOpenedAs x.opened c.args.newest.held) v c.requires.of.0))
-    (subst (λ (p : PartView T). IsPassOf next.queue p.held.pass.pass) after c.requires.of.1)
+    (subst (λ (p : PartView T). IsOpenedAs o p.handle) after (subst (λ (x : Generations T). IsOpenedAs x.opened c.args.newest.handle) v c.requires.of.0))
+    (subst (λ (p : PartView T). IsPassOf next.queue p.handle.held.pass.pass) after c.requires.of.1)
     (subst (λ (p : PartView T). p.number ≡ next.number) after c.requires.part.0)
     (subst (IsPart log) after (part-later seen log c.args.newest c.learn.ensures.3 c.requires.part.1))
     (subst (λ (x : Generations T). x.number < next.number) v c.requires.later)
     (subst (λ (x : Generations T). WasNewest x.seen next.number) v c.requires.was)
-    (subst (λ (x : Generations T). All (λ (p : PartView T). IsOpenedAs x.opened p.held) c.args.between.items) v c.requires.opened)
+    (subst (λ (x : Generations T). All (λ (p : PartView T). IsOpenedAs x.opened p.handle) c.args.between.items) v c.requires.opened)
     (parts-later seen log c.args.between.items c.learn.ensures.3 c.requires.parts)
     c.requires.below
     (among-later s.generation.value.number next.number c.args.between.items s.history.log seen log c.learn.ensures.3
@@ -63,10 +63,10 @@ returns g c =
     let part : IsPart log k = subst (IsPart log) (sym c.replace-before.ensures.after)
     (part-later c.args.history.now.log log c.args.newest c.learn.ensures.3 c.requires.part.1) in
     let number : k.number ≡ next.number = subst (λ (p : PartView T). p.number ≡ next.number) (sym c.replace-before.ensures.after) c.requires.part.0 in
-    let last : P (record { held = k.held; number = next.number }) = (
+    let last : P (record { handle = k.handle; number = next.number }) = (
       c.requires.later,
-      subst (λ n. IsMade log n k.held.pass.pass.table) number part.made,
-      subst (λ (p : PartView T). HasNoEvent p.held.pass.pass) (sym c.replace-before.ensures.after) c.requires.unused.0,
+      subst (λ n. IsMade log n k.handle.held.pass.pass.table) number part.made,
+      subst (λ (p : PartView T). HasNoEvent p.handle.held.pass.pass) (sym c.replace-before.ensures.after) c.requires.unused.0,
     ) in
     follows-jump now _ (held_by between) (record {
       opened = ap (λ (h : Generations T). h.opened) view_is;
@@ -80,9 +80,9 @@ returns g c =
     c.push_reserved.ensures.items c.replace-before.ensures.value c.make_room.ensures.items)
     ∙ map-append (λ (p : PartView T). held_in p) (s.older.items ++ s.newest ∷ []) between
     ∙ ap (λ l. l ++ held_by between) (map-append (λ (p : PartView T). held_in p) s.older.items (s.newest ∷ [])
-    ∙ ap (λ n. held_by s.older.items ++ record { held = s.newest.held; number = n } ∷ []) c.self.invariant.number
+    ∙ ap (λ n. held_by s.older.items ++ record { handle = s.newest.handle; number = n } ∷ []) c.self.invariant.number
     ∙ ap (λ (h : Generations T). all_of h) view_is))
-    (All-push P (held_by between) (record { held = k.held; number = next.number }) each last)
+    (All-push P (held_by between) (record { handle = k.handle; number = next.number }) each last)
 
 pub leave_unused-requires : goal.leave_unused-requires
 leave_unused-requires g c i d inside = (c.requires.unused.1 i d inside).1

@@ -15,7 +15,7 @@ invariant_of-self g c =
     let mid = c.look-found.new.history.log in
     let new = c.newest.new.history.log in
     let finds = c.look-found.ensures.finds in
-    let more = prefix-trans log mid new (was-prefix (sight_of c.self.inside.newest.held.pass.pass) finds.number log mid finds.was) c.newest.ensures.later.1 in
+    let more = prefix-trans log mid new (was-prefix (sight_of c.self.inside.newest.handle.held.pass.pass) finds.number log mid finds.was) c.newest.ensures.later.1 in
     joined-later (opening_of c.self.inside.shared.value.sizes) c.self.inside.shared.value.history.book c.self.inside.history.book
     c.newest.new.history.book log new c.self.inside.generation.value c.self.inside.newest c.self.inside.older.items i
     (c.newest.ensures.later.0 ∙ c.look-found.ensures.book) more c.newest.ensures.risen
@@ -26,7 +26,7 @@ returns-clause-later g c =
     let mid = c.look-found.new.history.log in
     let new = c.newest.new.history.log in
     let finds = c.look-found.ensures.finds in
-    let more = prefix-trans log mid new (was-prefix (sight_of c.self.inside.newest.held.pass.pass) finds.number log mid finds.was) c.newest.ensures.later.1 in
+    let more = prefix-trans log mid new (was-prefix (sight_of c.self.inside.newest.handle.held.pass.pass) finds.number log mid finds.was) c.newest.ensures.later.1 in
     let seen = ap (λ (h : Generations g.row.T.Denot). h.seen) c.self.view_is in
     record {
       opened = ap (λ (h : Generations g.row.T.Denot). h.opened) c.self.view_is;

@@ -11,7 +11,7 @@ invariant-loop-index g l = record {
   thread : l.self-inside.thread ≡ l.fn.self.thread;
   book : l.self-inside.history.book ≡ l.fn.self.book;
   more : IsPrefix l.fn.self.seen l.self-inside.history.log;
-  newest : l.self-inside.newest.held ≡ l.fn.self.newest;
+  newest : l.self-inside.newest.handle ≡ l.fn.self.newest;
   number : l.self-inside.generation.value.number ≡ l.fn.self.number;
   older : LeavesGone l.self-inside.history.log l.fn.self.older (held_by l.self-inside.older.items);
   joined : HasJoined (opening_of l.self-inside.shared.value.sizes) l.self-inside.shared.value.history.book l.self-inside.history.book

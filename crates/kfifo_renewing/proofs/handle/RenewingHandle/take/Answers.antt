@@ -2,7 +2,7 @@
 use Rattle.std.proofs.Common.{refl, ◌≡◌, arith, sym, ap, ◌∙◌, subst}
 use Rattle.std.proofs.lemmas.List.{nil_from_length}
 use Rattle.kfifo_live.specs.declared.payload.Taken.TheVariants as K
-use Rattle.kfifo_live.specs.Handles.{PayHeld}
+use Rattle.kfifo_pool.specs.Pooled.{Pooled}
 use Rattle.kfifo_renewing.specs.History.{Finds, sight_of}
 use Rattle.kfifo_renewing.specs.Renewing.{Generations, IsLater, LooksAgain, Numbered, opening_of, TakesFromOldest, TakesThere, with_newest, with_seen}
 use Rattle.kfifo_renewing.specs.Joining.{held_by}
@@ -14,9 +14,9 @@ use Rattle.kfifo_renewing.proofs.handle.RenewingHandle.take.Goals as goal
 pub invariant_of-self : goal.invariant_of-self
 invariant_of-self g c = joins-after (opening_of c.self.inside.shared.value.sizes) c.self.inside.shared.value.history.book
     c.self.inside.history.book c.look-later.new.history.book c.self.inside.history.log c.look-later.new.history.log
-    c.self.inside.generation.value c.self.inside.newest c.self.inside.newest c.self.inside.older.items (sight_of c.self.inside.newest.held.pass.pass)
+    c.self.inside.generation.value c.self.inside.newest c.self.inside.newest c.self.inside.older.items (sight_of c.self.inside.newest.handle.held.pass.pass)
     c.look-later.result c.self.invariant (subst
-    (λ k. Finds (sight_of c.self.inside.newest.held.pass.pass) k c.look-later.result c.self.inside.history.log c.look-later.new.history.log)
+    (λ k. Finds (sight_of c.self.inside.newest.handle.held.pass.pass) k c.look-later.result c.self.inside.history.log c.look-later.new.history.log)
     (c.next.ensures.0 ∙ ap (λ (v : Numbered). v.number) c.deref-generation.ensures) c.look-later.ensures.finds)
     c.look-later.ensures.book (refl, refl, (refl, refl, refl))
 
@@ -28,7 +28,7 @@ returns-then-later-len-ne0 g c =
     let new = c.look-later.new.history.log in
     let n = c.self.inside.generation.value.number in
     let found = c.look-later.result in
-    let finds = subst (λ k. Finds (sight_of c.self.inside.newest.held.pass.pass) k found log new)
+    let finds = subst (λ k. Finds (sight_of c.self.inside.newest.handle.held.pass.pass) k found log new)
     (c.next.ensures.0 ∙ ap (λ (v : Numbered). v.number) c.deref-generation.ensures) c.look-later.ensures.finds in
     let now = c.args.self.now in
     let looked = subst (Looked found new) c.self.view_is (
@@ -36,32 +36,32 @@ returns-then-later-len-ne0 g c =
       numbered-by (opening_of c.self.inside.shared.value.sizes) c.self.inside.shared.value.history.book c.self.inside.history.book
           log c.self.inside.generation.value c.self.inside.newest c.self.inside.older.items i,
     ) in
-    let h = c.self.inside.newest.held in
+    let h = c.self.inside.newest.handle in
     let r = c.take_late.result in
     let end = c.take_late.new.self in
     let is = same-but-seen new h now (ap (λ (v : Generations T). v.opened) c.self.view_is)
     (ap (λ (v : Generations T). v.thread) c.self.view_is)
     (c.look-later.ensures.book ∙ ap (λ (v : Generations T). v.book) c.self.view_is)
     (ap (λ (v : Generations T). v.older) c.self.view_is) (ap (λ (v : Generations T). v.number) c.self.view_is) in
-    let here = is ∙ ap (λ (x : PayHeld T). with_newest (with_seen now new) x) (ap (λ (v : Generations T). v.newest) c.self.view_is) in
+    let here = is ∙ ap (λ (x : Pooled T). with_newest (with_seen now new) x) (ap (λ (v : Generations T). v.newest) c.self.view_is) in
     takes-from-after r now (with_seen now new) end (looked-follows found new now looked)
     (subst (λ (v : Generations T). TakesFromOldest r v end) here c.take_late.ensures)
 
 pub invariant_of-self-in-Got : goal.invariant_of-self-in-Got
 invariant_of-self-in-Got g c = joins-after (opening_of c.self.inside.shared.value.sizes) c.self.inside.shared.value.history.book
     c.self.inside.history.book c.look-later.new.history.book c.self.inside.history.log c.look-later.new.history.log
-    c.self.inside.generation.value c.self.inside.newest c.take.new.self c.self.inside.older.items (sight_of c.self.inside.newest.held.pass.pass)
+    c.self.inside.generation.value c.self.inside.newest c.take.new.self c.self.inside.older.items (sight_of c.self.inside.newest.handle.held.pass.pass)
     c.look-later.result c.self.invariant (subst
-    (λ k. Finds (sight_of c.self.inside.newest.held.pass.pass) k c.look-later.result c.self.inside.history.log c.look-later.new.history.log)
+    (λ k. Finds (sight_of c.self.inside.newest.handle.held.pass.pass) k c.look-later.result c.self.inside.history.log c.look-later.new.history.log)
     (c.next.ensures.0 ∙ ap (λ (v : Numbered). v.number) c.deref-generation.ensures) c.look-later.ensures.finds)
     c.look-later.ensures.book c.take.ensures.same
 
 pub invariant_of-self-in_default : goal.invariant_of-self-in_default
 invariant_of-self-in_default g c = joins-after (opening_of c.self.inside.shared.value.sizes) c.self.inside.shared.value.history.book
     c.self.inside.history.book c.look-later.new.history.book c.self.inside.history.log c.look-later.new.history.log
-    c.self.inside.generation.value c.self.inside.newest c.take.new.self c.self.inside.older.items (sight_of c.self.inside.newest.held.pass.pass)
+    c.self.inside.generation.value c.self.inside.newest c.take.new.self c.self.inside.older.items (sight_of c.self.inside.newest.handle.held.pass.pass)
     c.look-later.result c.self.invariant (subst
-    (λ k. Finds (sight_of c.self.inside.newest.held.pass.pass) k c.look-later.result c.self.inside.history.log c.look-later.new.history.log)
+    (λ k. Finds (sight_of c.self.inside.newest.handle.held.pass.pass) k c.look-later.result c.self.inside.history.log c.look-later.new.history.log)
     (c.next.ensures.0 ∙ ap (λ (v : Numbered). v.number) c.deref-generation.ensures) c.look-later.ensures.finds)
     c.look-later.ensures.book c.take.ensures.same
 
@@ -73,7 +73,7 @@ returns-in-Got g c =
     let new = c.look-later.new.history.log in
     let n = c.self.inside.generation.value.number in
     let found = c.look-later.result in
-    let finds = subst (λ k. Finds (sight_of c.self.inside.newest.held.pass.pass) k found log new)
+    let finds = subst (λ k. Finds (sight_of c.self.inside.newest.handle.held.pass.pass) k found log new)
     (c.next.ensures.0 ∙ ap (λ (v : Numbered). v.number) c.deref-generation.ensures) c.look-later.ensures.finds in
     let now = c.args.self.now in
     let looked = subst (Looked found new) c.self.view_is (
@@ -81,7 +81,7 @@ returns-in-Got g c =
       numbered-by (opening_of c.self.inside.shared.value.sizes) c.self.inside.shared.value.history.book c.self.inside.history.book
           log c.self.inside.generation.value c.self.inside.newest c.self.inside.older.items i,
     ) in
-    let h = c.take.new.self.held in
+    let h = c.take.new.self.handle in
     let none : found ≡ 0 = omega (arith, c.if-later-len-ne0.false) in
     let alone = sym (ap (λ (v : Generations T). v.older) c.self.view_is)
     ∙ ap held_by (nil_from_length c.self.inside.older.items (omega (arith, c.if-later-len-ne0.false, c.len.ensures, c.self.inside.older.ok.0))) in
@@ -89,7 +89,7 @@ returns-in-Got g c =
     c.self.inside.generation.value c.self.inside.newest c.self.inside.older.items (with_seen now new)
     (joins-after (opening_of c.self.inside.shared.value.sizes) c.self.inside.shared.value.history.book c.self.inside.history.book
     c.look-later.new.history.book log new c.self.inside.generation.value c.self.inside.newest c.self.inside.newest c.self.inside.older.items
-    (sight_of c.self.inside.newest.held.pass.pass) found i finds c.look-later.ensures.book (refl, refl, (refl, refl, refl)))
+    (sight_of c.self.inside.newest.handle.held.pass.pass) found i finds c.look-later.ensures.book (refl, refl, (refl, refl, refl)))
     (ap (λ (v : Generations T). v.older) c.self.view_is) (ap (λ (v : Generations T). v.newest) c.self.view_is)
     (ap (λ (v : Generations T). v.number) c.self.view_is) in
     let takes = subst (λ (v : Generations T). TakesThere c.take.result v.newest h) c.self.view_is c.take.ensures.takes in
@@ -108,7 +108,7 @@ returns-in_default g c =
     let new = c.look-later.new.history.log in
     let n = c.self.inside.generation.value.number in
     let found = c.look-later.result in
-    let finds = subst (λ k. Finds (sight_of c.self.inside.newest.held.pass.pass) k found log new)
+    let finds = subst (λ k. Finds (sight_of c.self.inside.newest.handle.held.pass.pass) k found log new)
     (c.next.ensures.0 ∙ ap (λ (v : Numbered). v.number) c.deref-generation.ensures) c.look-later.ensures.finds in
     let now = c.args.self.now in
     let looked = subst (Looked found new) c.self.view_is (
@@ -116,7 +116,7 @@ returns-in_default g c =
       numbered-by (opening_of c.self.inside.shared.value.sizes) c.self.inside.shared.value.history.book c.self.inside.history.book
           log c.self.inside.generation.value c.self.inside.newest c.self.inside.older.items i,
     ) in
-    let h = c.take.new.self.held in
+    let h = c.take.new.self.handle in
     let none : found ≡ 0 = omega (arith, c.if-later-len-ne0.false) in
     let alone = sym (ap (λ (v : Generations T). v.older) c.self.view_is)
     ∙ ap held_by (nil_from_length c.self.inside.older.items (omega (arith, c.if-later-len-ne0.false, c.len.ensures, c.self.inside.older.ok.0))) in
@@ -124,7 +124,7 @@ returns-in_default g c =
     c.self.inside.generation.value c.self.inside.newest c.self.inside.older.items (with_seen now new)
     (joins-after (opening_of c.self.inside.shared.value.sizes) c.self.inside.shared.value.history.book c.self.inside.history.book
     c.look-later.new.history.book log new c.self.inside.generation.value c.self.inside.newest c.self.inside.newest c.self.inside.older.items
-    (sight_of c.self.inside.newest.held.pass.pass) found i finds c.look-later.ensures.book (refl, refl, (refl, refl, refl)))
+    (sight_of c.self.inside.newest.handle.held.pass.pass) found i finds c.look-later.ensures.book (refl, refl, (refl, refl, refl)))
     (ap (λ (v : Generations T). v.older) c.self.view_is) (ap (λ (v : Generations T). v.newest) c.self.view_is)
     (ap (λ (v : Generations T). v.number) c.self.view_is) in
     let takes = subst (λ (v : Generations T). TakesThere c.take.result v.newest h) c.self.view_is c.take.ensures.takes in

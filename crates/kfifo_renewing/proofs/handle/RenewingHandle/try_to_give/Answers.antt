@@ -1,6 +1,6 @@
 -- The handle follows others, and then gives.
 use Rattle.std.proofs.Common.{ap, inl, inr, refl, subst}
-use Rattle.kfifo_live.specs.Handles.{PayHeld, PicksUpAndGives}
+use Rattle.kfifo_pool.specs.Pooled.{GivesOne, Pooled}
 use Rattle.kfifo_live.specs.Pass.{IsSamePass}
 use Rattle.kfifo_renewing.specs.Renewing.{Generations, with_newest}
 use Rattle.kfifo_renewing.proofs.handle.RenewingHandle.try_to_give.Goals as goal
@@ -17,11 +17,10 @@ returns g c =
       inl (
         c.if-not-keep_up.ensures.newest,
         record {
-          others = ap (λ (h : Generations g.row.T.Denot). with_newest h c.give.new.self.held) c.self.view_is;
-          same = subst (λ (h : PayHeld g.row.T.Denot). IsSamePass h.pass.pass c.give.new.self.held.pass.pass) newest c.give.ensures.same.2;
-          gives = subst (λ (h : PayHeld g.row.T.Denot). PicksUpAndGives c.args.payload c.give.result h c.give.new.self.held) newest
+          others = ap (λ (h : Generations g.row.T.Denot). with_newest h c.give.new.self.handle) c.self.view_is;
+          same = subst (λ (h : Pooled g.row.T.Denot). IsSamePass h.held.pass.pass c.give.new.self.handle.held.pass.pass) newest c.give.ensures.same.2;
+          gives = subst (λ (h : Pooled g.row.T.Denot). GivesOne c.args.payload c.give.result h c.give.new.self.handle) newest
               c.give.ensures.gives;
-          promise = c.give.ensures.promise;
         },
       ),
     )

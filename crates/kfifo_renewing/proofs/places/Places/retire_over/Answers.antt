@@ -27,8 +27,8 @@ retire-requires-clause-empty g c was =
     let part : IsPart c.args.history.now.log p = subst (IsPart c.args.history.now.log) (sym c.part-item.is)
     (c.requires.parts c.loop-part.part-index p (omega (arith, c.loop-part-test.true, c.loop-part.auto.part-index-end))) in
     inr (
-      p.held.pass.pass.table,
-      subst (λ n. IsMade c.loop-part.history.log n p.held.pass.pass.table) (sym c.number.ensures)
-          (made-later c.args.history.now.log c.loop-part.history.log p.number p.held.pass.pass.table i.more part.made),
+      p.handle.held.pass.pass.table,
+      subst (λ n. IsMade c.loop-part.history.log n p.handle.held.pass.pass.table) (sym c.number.ensures)
+          (made-later c.args.history.now.log c.loop-part.history.log p.number p.handle.held.pass.pass.table i.more part.made),
       c.if-not-is_over.ensures refl,
     )
