@@ -53,7 +53,7 @@ typedef enum kfifo_status {
     KFIFO_BAD_SEGMENTS = 12, /* the number of segments is not 2 to 1,024 */
     KFIFO_BAD_LAST = 13,     /* the greatest version is not 2 to 2^40 - 1 */
     KFIFO_BAD_PROBES = 14,   /* the number of probes is not 1 to k */
-    KFIFO_BAD_TOKENS = 15,   /* the number of tokens a thread is not 1 to 1,024 */
+    KFIFO_BAD_TOKENS = 15,   /* the number of tokens a thread is not 1 to 1,024, or all threads have too many */
     KFIFO_TIMED_OUT = 16,    /* of a call that waits: its time was up; nothing was put or taken */
     KFIFO_FINISHED = 17,     /* of a queue whose threads wait: it was finished; nothing was put, or it was empty then */
     KFIFO_BAD_RESERVE = 18   /* the reserve is not below the greatest version */
@@ -101,7 +101,7 @@ static inline const char *kfifo_status_text(kfifo_status status) {
     case KFIFO_BAD_SEGMENTS: return "the number of segments is not 2 to 1,024";
     case KFIFO_BAD_LAST: return "the greatest version is not 2 to 2^40 - 1";
     case KFIFO_BAD_PROBES: return "the number of probes is not 1 to k";
-    case KFIFO_BAD_TOKENS: return "the number of tokens a thread is not 1 to 1,024";
+    case KFIFO_BAD_TOKENS: return "the number of tokens a thread is not 1 to 1,024, or all threads have too many";
     case KFIFO_TIMED_OUT: return "the time was up";
     case KFIFO_FINISHED: return "the queue is finished";
     case KFIFO_BAD_RESERVE: return "the reserve is not below the greatest version";

@@ -9,7 +9,7 @@ ghost use Rattle.example_values.specs.declared.worker.TheConstants.{TEXTS};
 mod worker;
 
 use kfifo_live::Sizes;
-use kfifo_renewing::{DEFAULT_RESERVE, RenewingHandle, close, open_with};
+use kfifo_renewing::{DEFAULT_RESERVE, Renewals, RenewingHandle, close, open_with};
 use kfifo_words::MAX_VERSION;
 use std::alloc::Global;
 use std::thread::{Threads, map_vec};
@@ -64,7 +64,11 @@ fn run<R: Threads + Sync>(
     reserve: u64,
 ) -> anyhow::Result<Totals> {
     let sizes = Sizes::for_capacity(2, CAPACITY, THREADS, versions)?; // k, capacity, threads, greatest version
-    let handles = open_with(alloc, sizes, reserve)?;
+    let renewals = Renewals {
+        reserve,
+        generations: 1, // it does not grow
+    };
+    let handles = open_with(alloc, sizes, renewals)?;
     let workers = map_vec(rt, handles, &|handle| work(alloc, handle))?;
     finish(alloc, workers)
 }

@@ -12,8 +12,9 @@ use Rattle.kfifo_live.specs.declared.payload.opening.TheConstants.{MAX_TOKENS, M
 use Rattle.kfifo_live.specs.declared.tokens.sizes.TheConstants.{SPARE_TOKENS}
 use Rattle.kfifo_live.specs.declared.view.Opening.{Opening}
 use Rattle.kfifo_renewing.specs.declared.fault.RenewFault.{RenewFault}
-use Rattle.kfifo_renewing.specs.declared.fault.RenewFault.TheVariants.{Open, ReserveOutOfRange}
-use Rattle.kfifo_renewing.specs.Renewing.{ClosesAll, Follows, HaveOne, all_of}
+use Rattle.kfifo_renewing.specs.declared.fault.RenewFault.TheVariants.{GenerationsOutOfRange, Open, ReserveOutOfRange}
+use Rattle.kfifo_live.specs.Refusals.{IsOutOf}
+use Rattle.kfifo_renewing.specs.Renewing.{ClosesAll, Follows, HaveOne, all_of, generations_for}
 use Rattle.kfifo_c.specs.Exports.{open_number}
 use Rattle.kfifo_c.specs.ValueSeats.{ValueSeated}
 
@@ -39,6 +40,7 @@ module _ {T : Type 0} where
 abbrev pub renew_number : RenewFault → ℕ
 renew_number (Open fault) = open_number fault
 renew_number ReserveOutOfRange = 18
+renew_number (GenerationsOutOfRange most) = 6
 
 -- what a take leaves in the variable of its value
 abbrev pub value_after : ℕ → Option (Taken ℕ) → ℕ
@@ -56,6 +58,10 @@ without_spare o = o.tokens - SPARE_TOKENS
 -- there is no queue with so many tokens for each of these threads
 abbrev pub BadTokens : ℕ → ℕ → Type 0
 BadTokens threads tokens = (tokens ≡ 0) ⊎ (MAX_TOKENS < tokens) ⊎ (MOST_TOKENS < threads * with_spare tokens)
+
+-- so many threads cannot have so many generations
+abbrev pub BadGenerations : ℕ → ℕ → Type 0
+BadGenerations threads generations = IsOutOf (generations_for threads) generations
 
 -- a queue of these sizes was opened, and these are its new seats: all that the renewing queue says of an opening
 pub record OpensValues (shape : Shape) (threads tokens : ℕ) (seats : List ValueSeated) : Type 0 where

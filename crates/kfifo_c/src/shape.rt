@@ -1,16 +1,16 @@
 //! The shape of the queues of C, and the queues of that shape that renew.
-ghost use Rattle.std.specs.Prelude.{◌≡◌, ◌<◌, ◌≤◌, ◌⊎◌, ◌↔◌, IfOk, IsErrOf, Some, true, MatchResult, length};
+ghost use Rattle.std.specs.Prelude.{◌≡◌, ◌<◌, ◌≤◌, ◌⊎◌, ◌↔◌, ℕ, IfOk, IsErrOf, Some, true, MatchResult, length};
 ghost use Rattle.kfifo_model.specs.declared.calls.TheConstants.{MAX_THREADS};
 ghost use Rattle.kfifo_words.specs.Sizes.{fault_of};
 ghost use Rattle.kfifo_live.specs.Payloads.{pay_opening};
 ghost use Rattle.kfifo_live.specs.declared.fault.OpenFault.TheVariants.{ThreadsOutOfRange, TokensOutOfRange};
-ghost use Rattle.kfifo_renewing.specs.Renewing.{HaveOne};
-ghost use Rattle.kfifo_renewing.specs.declared.fault.RenewFault.TheVariants.{Open, ReserveOutOfRange};
-ghost use Rattle.kfifo_c.specs.Values.{BadTokens, with_spare};
+ghost use Rattle.kfifo_renewing.specs.Renewing.{HaveOne, generations_for};
+ghost use Rattle.kfifo_renewing.specs.declared.fault.RenewFault.TheVariants.{GenerationsOutOfRange, Open, ReserveOutOfRange};
+ghost use Rattle.kfifo_c.specs.Values.{BadGenerations, BadTokens, with_spare};
 
 use kfifo_live::{MAX_TOKENS, OpenFault, SPARE_TOKENS, Sizes};
 use kfifo_model::MAX_THREADS;
-use kfifo_renewing::{RenewFault, RenewingHandle, open_with};
+use kfifo_renewing::{RenewFault, Renewals, RenewingHandle, open_with};
 use kfifo_words::{Shape, ShapeFault};
 use std::alloc::Global;
 
@@ -32,18 +32,24 @@ pub(crate) fn open_renewing<T: Drop>(
     shape: Shape,
     threads: u32,
     tokens: u32,
-    reserve: u64,
+    renewals: Renewals,
 ) -> Result<Vec<RenewingHandle<T>>, RenewFault>
     requires again { shape.holds_again ≡ true }
     ensures ok { IfOk result (λ handles. HaveOne (pay_opening shape threads (with_spare tokens)) handles.items
         × (length handles.items ≡ threads)) }
-    ensures reserve { IsErrOf result ReserveOutOfRange ↔ (shape.last ≤ reserve) }
-    ensures threads { IsErrOf result (Open ThreadsOutOfRange) ↔ ((reserve < shape.last)
+    ensures reserve { IsErrOf result ReserveOutOfRange ↔ (shape.last ≤ renewals.reserve) }
+    ensures threads { IsErrOf result (Open ThreadsOutOfRange) ↔ ((renewals.reserve < shape.last)
         × ((threads ≡ 0) ⊎ (MAX_THREADS < threads))) }
     ensures tokens { IsErrOf result (Open TokensOutOfRange)
-        ↔ ((reserve < shape.last) × (1 ≤ threads) × (threads ≤ MAX_THREADS) × BadTokens threads tokens) }
+        ↔ ((renewals.reserve < shape.last) × (1 ≤ threads) × (threads ≤ MAX_THREADS) × BadTokens threads tokens) }
+    ensures generations { (most : ℕ) → IsErrOf result (GenerationsOutOfRange most)
+        → (renewals.reserve < shape.last) × (1 ≤ threads) × (threads ≤ MAX_THREADS) × (¬ BadTokens threads tokens)
+        × BadGenerations threads renewals.generations }
+    ensures bad_generations { renewals.reserve < shape.last → 1 ≤ threads → threads ≤ MAX_THREADS
+        → ¬ BadTokens threads tokens → BadGenerations threads renewals.generations
+        → IsErrOf result (GenerationsOutOfRange (generations_for threads)) }
 {
-    if reserve >= shape.last() {
+    if renewals.reserve >= shape.last() {
         return Err(RenewFault::ReserveOutOfRange);
     }
     if threads == 0 || threads > MAX_THREADS {
@@ -57,5 +63,5 @@ pub(crate) fn open_renewing<T: Drop>(
         threads,
         tokens: tokens + SPARE_TOKENS,
     };
-    open_with(alloc, sizes, reserve)
+    open_with(alloc, sizes, renewals)
 }

@@ -1,5 +1,5 @@
 -- The generations of a renewing queue, as a handle has joined them, and what its calls do to each.
-use Rattle.std.specs.Prelude.{◌≡◌, ◌≢◌, ◌⊎◌, ◌<◌, ◌≤◌, ◌==◌, ◌*◌, ℕ, not, false, true, List, [], ◌∷◌, ◌++◌, All, filter, length, map, Option, Some, None}
+use Rattle.std.specs.Prelude.{◌≡◌, ◌≢◌, ◌⊎◌, ◌<◌, ◌≤◌, ◌==◌, ◌+◌, ◌-◌, ◌*◌, ℕ, not, false, true, List, [], ◌∷◌, ◌++◌, All, filter, length, map, Option, Some, None}
 use Rattle.std.specs.List.{Contains}
 use mathlib.Core.List.{IsPrefix}
 use Rattle.logbook.specs.Pages.{Book}
@@ -20,7 +20,7 @@ use Rattle.kfifo_live.specs.declared.payload.opening.TheConstants.{MOST_TOKENS}
 use Rattle.kfifo_live.specs.declared.tokens.sizes.Sizes.{Sizes}
 use Rattle.kfifo_live.specs.declared.view.Opening.{Opening}
 use Rattle.kfifo_pool.specs.Pooled.{GivesOne, Pooled, ReceivesOne}
-use Rattle.kfifo_renewing.specs.History.{HasLeft, IsGone, IsMade, NewestWas, WasNewest, newest_of, sight_of}
+use Rattle.kfifo_renewing.specs.History.{HasLeft, IsGone, IsMade, NewestWas, WasNewest, newest_of, place_count, sight_of}
 use Rattle.kfifo_renewing.specs.declared.change.Change.{Change}
 use Rattle.kfifo_renewing.specs.declared.change.Sight.{Sight}
 use Rattle.kfifo_renewing.specs.declared.places.Lineage.{Lineage}
@@ -53,6 +53,11 @@ sizes_again s = record { shape = holding_again s.shape; threads = s.threads; tok
 
 abbrev pub opening_again : Sizes → Opening
 opening_again s = opening_of (sizes_again s)
+
+-- How many generations a queue for so many threads may have at the same time because it grows, at most: it has places
+-- for so many, and for those that its threads may keep
+abbrev pub generations_for : ℕ → ℕ
+generations_for threads = place_count - (2 * threads + 1)
 
 -- there are threads and tokens, and not too many
 pub record AreInRange (s : Sizes) : Type 0 where
@@ -228,18 +233,31 @@ module _ {T : Type 0} where
       × ((IsAtNewest old here × GivesThere payload answer here new)
       ⊎ (IsBehind old here × (answer ≡ G.Busy payload) × (new ≡ here)))
 
-  -- A try after one that came to a generation with no version left. Worn: it came to the same one, which was still the
-  -- newest. Where it came to another one with no version left, Busy stands for Worn
-  pub record TriesAgain (payload : T) (answer : Given T) (worn new : Generations T) : Type 0 where
+  -- A try after one that was refused: Worn comes only where it came to the same generation, which was still the newest.
+  -- Where it came to another one with no version left, Busy stands for Worn
+  pub record TriesAgain (payload : T) (answer : Given T) (refused new : Generations T) : Type 0 where
     pub tried : Given T
-    pub tries : TriesToGive payload tried worn new
-    pub then : ((answer ≡ tried) × (answer ≡ G.Worn payload → new.number ≡ worn.number))
-        ⊎ ((tried ≡ G.Worn payload) × (answer ≡ G.Busy payload) × (new.number ≢ worn.number))
+    pub tries : TriesToGive payload tried refused new
+    pub then : ((answer ≡ tried) × (answer ≡ G.Worn payload → new.number ≡ refused.number))
+        ⊎ ((tried ≡ G.Worn payload) × (answer ≡ G.Busy payload) × (new.number ≢ refused.number))
 
-  -- What `give` did: one try, or a second one where the first came to a generation with no version left
+  -- What is returned of a first try, and nothing else is done
+  abbrev pub Stops : Given T → Given T → Generations T → Generations T → Type 0
+  Stops first answer old new = (answer ≡ first) × (new ≡ old)
+
+  -- How a give goes on after a first try, by what that came to. With no version left it tries again; with no room it
+  -- tries again where the queue may grow
+  abbrev pub GoesOn : Given T → Given T → Generations T → Generations T → Type 0
+  GoesOn G.Done answer old new = Stops G.Done answer old new
+  GoesOn (G.Busy back) answer old new = Stops (G.Busy back) answer old new
+  GoesOn (G.Worn back) answer old new = TriesAgain back answer old new
+  GoesOn (G.Full back) answer old new = TriesAgain back answer old new ⊎ Stops (G.Full back) answer old new
+  GoesOn (G.NoToken back) answer old new = TriesAgain back answer old new ⊎ Stops (G.NoToken back) answer old new
+
+  -- what `give` did: one try, or two
   abbrev pub GivesToNewest : T → Given T → Generations T → Generations T → Type 0
-  GivesToNewest payload answer old new = (TriesToGive payload answer old new × (answer ≢ G.Worn payload))
-      ⊎ ((worn : Generations T) × TriesToGive payload (G.Worn payload) old worn × TriesAgain payload answer worn new)
+  GivesToNewest payload answer old new = (first : Given T) × (here : Generations T)
+      × TriesToGive payload first old here × GoesOn first answer here new
 
   -- one take from a generation, whose promise is then kept
   pub record TakesThere (answer : Taken T) (old new : Pooled T) : Type 0 where

@@ -12,6 +12,9 @@ pub enum RenewFault {
     /// The reserve is not below the greatest version.
     #[error("the reserve is not below the greatest version")]
     ReserveOutOfRange,
+    /// The number of generations is not 1 to this number, the greatest for so many threads.
+    #[error("the number of generations is not 1 to {0}")]
+    GenerationsOutOfRange(u32),
 }
 
 impl From<AllocError> for RenewFault {

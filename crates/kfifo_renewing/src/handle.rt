@@ -6,7 +6,7 @@ ghost use mathlib.Core.List.{IsPrefix};
 ghost use Rattle.kfifo_live.specs.Pass.{HasNoEvent, IsPassOf};
 ghost use Rattle.kfifo_renewing.specs.History.{HasRisen, WasNewest, place_count};
 ghost use Rattle.kfifo_renewing.specs.Joining.{AreAmong, AreSameParts, HasJoined, IsPart, IsUnused, held_by};
-ghost use Rattle.kfifo_renewing.specs.Renewing.{Follows, Generations, GivesToNewest, HasAll, HeldIn, IsAtNewest, IsBehind, IsLater, LooksAgain};
+ghost use Rattle.kfifo_renewing.specs.Renewing.{Follows, Generations, GivesToNewest, GoesOn, HasAll, HeldIn, IsAtNewest, IsBehind, IsLater, LooksAgain};
 ghost use Rattle.kfifo_renewing.specs.Renewing.{IsOpenedAs, LeavesGone, TakesFirst, TakesFromOldest, TakesNewest};
 ghost use Rattle.kfifo_renewing.specs.Renewing.{TakesOldest, TriesAgain, TriesToGive, all_of, opening_of, with_older, with_seen};
 
@@ -423,22 +423,68 @@ impl<T: Drop> RenewingHandle<T> {
         self.newest.give(self.generation.queue(), payload)
     }
 
-    /// Gives a payload for which the newest generation had no version left, to the next one.
-    #[cold]
-    #[inline(never)]
-    fn give_to_next(&mut self, payload: T) -> Given<T>
+    /// Gives a payload that this generation has refused, the one that the handle joined last, where there is a next one
+    /// to that.
+    fn try_next(&mut self, refused: u32, payload: T) -> Given<T>
+        requires { refused ≡ self.old.number }
         ensures { TriesAgain payload result self.old self.new }
     {
-        let worn = self.number();
-        self.renew();
         let given = self.try_to_give(payload);
-        if self.number() == worn {
+        if self.number() == refused {
             return given;
         }
         match given {
             // Others have used up the next one meanwhile, so there may be one behind it.
             Given::Worn(back) => Given::Busy(back),
             given => given,
+        }
+    }
+
+    /// Gives a payload for which the newest generation had no version left, to the next one.
+    fn give_to_next(&mut self, payload: T) -> Given<T>
+        ensures { TriesAgain payload result self.old self.new }
+    {
+        let worn = self.number();
+        self.renew();
+        self.try_next(worn, payload)
+    }
+
+    /// Gives a payload for which the newest generation had no room, to the next one, which it opens where the queue has
+    /// fewer generations than it may have.
+    fn give_to_more(&mut self, payload: T) -> Given<T>
+        ensures { TriesAgain payload result self.old self.new }
+    {
+        let full = self.number();
+        self.leave_gone();
+        if self.older.len() < self.shared.most_older() {
+            self.renew();
+        }
+        self.try_next(full, payload)
+    }
+
+    /// What a give returns whose first try came to this.
+    // Out of line, it leaves a give that was done a single test.
+    #[cold]
+    #[inline(never)]
+    fn go_on(&mut self, first: Given<T>) -> Given<T>
+        ensures { GoesOn first result self.old self.new }
+    {
+        match first {
+            Given::Worn(back) => self.give_to_next(back),
+            Given::Full(back) => {
+                if self.shared.grows() {
+                    return self.give_to_more(back);
+                }
+                Given::Full(back)
+            }
+            Given::NoToken(back) => {
+                if self.shared.grows() {
+                    return self.give_to_more(back);
+                }
+                Given::NoToken(back)
+            }
+            Given::Busy(back) => Given::Busy(back),
+            Given::Done => Given::Done,
         }
     }
 
@@ -450,10 +496,8 @@ impl<T: Drop> RenewingHandle<T> {
         ensures { GivesToNewest payload result self.old self.new }
     {
         self.look_at_versions();
-        match self.try_to_give(payload) {
-            Given::Worn(back) => self.give_to_next(back),
-            given => given,
-        }
+        let first = self.try_to_give(payload);
+        self.go_on(first)
     }
 
     /// Gives a payload to the newest generation, as `PooledHandle::give` does.
@@ -461,7 +505,7 @@ impl<T: Drop> RenewingHandle<T> {
     /// The handle first follows others that have opened a newer one, so its generation was the newest of the queue at a
     /// moment of the call. Each 4,096th call looks at the versions that the generation has left, and opens the next
     /// one where they are fewer than the reserve. So does a call that comes to a generation with no version left, which
-    /// then tries once more.
+    /// then tries once more. Where the queue may grow, a call that finds no room does the same.
     ///
     /// Returns Done, or NoToken, Full, Busy or Worn with the payload. Busy comes where others changed the queue during
     /// the call. Worn comes only where the generation had no version left in both tries and was still the newest:
@@ -482,8 +526,8 @@ impl<T: Drop> RenewingHandle<T> {
             return self.give_late(payload);
         }
         match self.newest.give(generation.queue(), payload) {
-            Given::Worn(back) => self.give_to_next(back),
-            given => given,
+            Given::Done => Given::Done,
+            first => self.go_on(first),
         }
     }
 

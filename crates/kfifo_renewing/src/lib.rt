@@ -16,4 +16,4 @@ mod queue;
 pub use fault::{CapacityFault, RenewFault};
 pub use handle::RenewingHandle;
 pub use kfifo_exclusive::Exclusive;
-pub use queue::{DEFAULT_RESERVE, NO_RENEWAL, close, open, open_with};
+pub use queue::{DEFAULT_RESERVE, NO_RENEWAL, Renewals, close, open, open_with};

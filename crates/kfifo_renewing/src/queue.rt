@@ -1,8 +1,9 @@
 //! What the handles of a renewing queue share, its opening and its end.
-ghost use Rattle.std.specs.Prelude.{◌≡◌, ◌<◌, ◌≤◌, ◌*◌, ◌++◌, ◌⊎◌, ◌↔◌, All, IfOk, IfSome, IsErrOf, List, [], ◌∷◌};
-ghost use Rattle.std.specs.Prelude.{Some, length};
+ghost use Rattle.std.specs.Prelude.{◌≡◌, ◌<◌, ◌≤◌, ◌*◌, ◌++◌, ◌⊎◌, ◌↔◌, All, IfOk, IfSome, IsErrOf, ℕ, List, [], ◌∷◌};
+ghost use Rattle.std.specs.Prelude.{Some, length, map};
 ghost use Rattle.kfifo_live.specs.Capacities.{sizes_fault};
 ghost use Rattle.kfifo_live.specs.Pass.{HasNoEvent, IsPassOf};
+ghost use Rattle.kfifo_live.specs.Refusals.{IsOutOf};
 ghost use Rattle.kfifo_live.specs.Schedule.{count_up};
 ghost use Rattle.kfifo_live.specs.declared.fault.OpenFault.TheVariants.{ThreadsOutOfRange, TokensOutOfRange};
 ghost use Rattle.kfifo_live.specs.declared.payload.opening.TheConstants.{MOST_TOKENS};
@@ -11,18 +12,20 @@ ghost use Rattle.kfifo_words.specs.declared.word.TheConstants.{MAX_VERSION};
 ghost use Rattle.logbook.specs.Pages.{may_write, nib};
 ghost use Rattle.kfifo_renewing.specs.History.{AreLabels, IsPlaced, WasNewest, key_of, place_count};
 ghost use Rattle.kfifo_renewing.specs.declared.fault.CapacityFault.TheVariants.{Sizes as NoSizes};
-ghost use Rattle.kfifo_renewing.specs.declared.fault.RenewFault.TheVariants.{Open, ReserveOutOfRange};
+ghost use Rattle.kfifo_renewing.specs.declared.fault.RenewFault.TheVariants.{GenerationsOutOfRange, Open, ReserveOutOfRange};
 ghost use Rattle.kfifo_renewing.specs.declared.places.Lineage.{Lineage};
 ghost use Rattle.kfifo_renewing.specs.Joining.{held_by};
 ghost use Rattle.kfifo_renewing.specs.Renewing.{AreInRange, ClosesAll, ClosesEach, Generations, HasOne, HaveOne, IsOfLineage};
-ghost use Rattle.kfifo_renewing.specs.Renewing.{IsOpenedAs, OpensFor, WereLeft, opening_again, opening_of, sizes_again};
+ghost use Rattle.kfifo_renewing.specs.Renewing.{IsOpenedAs, OpensFor, WereLeft, generations_for, opening_again, opening_of};
+ghost use Rattle.kfifo_renewing.specs.Renewing.{sizes_again};
+ghost use Rattle.kfifo_renewing.specs.declared.queue.TheConstants.{DEFAULT_RESERVE};
 
 use crate::fault::{CapacityFault, RenewFault};
 use crate::generation::Generation;
 use crate::handle::RenewingHandle;
 use crate::history::{History, Numbers};
 use crate::joined::Joined;
-use crate::label::Label;
+use crate::label::{Label, PLACES};
 use crate::leaving::Leaving;
 use crate::places::{Lineage, Places};
 use kfifo_live::{CloseFault, MOST_TOKENS, OpenFault, Sizes};
@@ -50,6 +53,8 @@ pub(crate) struct Shared<T: Drop> {
     places: Places<T>,
     numbers: Numbers,
     reserve: u64,
+    /// How many generations the queue may have before its newest one while it grows.
+    most_older: u32,
     alloc: Global,
 }
 
@@ -95,7 +100,17 @@ impl<T: Drop> Shared<T> {
         self.alloc
     }
 
-    /// Whether the queue opens a next generation.
+    /// Whether the queue opens a next generation while the newest one has versions left, but no room.
+    pub(crate) fn grows(&self) -> bool {
+        self.most_older != 0
+    }
+
+    /// How many generations the queue may have before its newest one while it grows.
+    pub(crate) fn most_older(&self) -> usize {
+        self.most_older as usize
+    }
+
+    /// Whether the queue opens a next generation where the newest one has too few versions left.
     fn renews(&self) -> bool {
         self.reserve != NO_RENEWAL
     }
@@ -141,7 +156,7 @@ impl<T: Drop> Shared<T> {
     {
         let seen = history.again();
         let is_newest = newest.next().look(part, &mut history) == 0;
-        if !self.renews() || !is_newest || !self.places.has_room() {
+        if !(self.renews() || self.grows()) || !is_newest || !self.places.has_room() {
             return;
         }
         let Some((generation, mut pen)) = self.make(&mut history) else {
@@ -176,6 +191,39 @@ impl<T: Drop> Shared<T> {
     }
 }
 
+/// When a queue opens its next generation.
+#[derive(Clone, Copy, PartialEq, Eq, Debug)]
+pub struct Renewals {
+    /// With fewer versions left than this, the newest generation is followed by the next one: `DEFAULT_RESERVE`, or less
+    /// for tests. It has to last until the generation is empty, which takes a version for each segment and each call
+    /// that is under way. With `NO_RENEWAL` it is not followed for its versions.
+    pub reserve: u64,
+    /// How many generations the queue may have at the same time because it grows: where the newest one has no room, it
+    /// is followed by the next one as long as there are fewer. With 1 the queue does not grow.
+    pub generations: u32,
+}
+
+impl Renewals {
+    /// Those of a queue with `DEFAULT_RESERVE` that does not grow.
+    pub fn none() -> Renewals
+        ensures { (result.reserve ≡ DEFAULT_RESERVE) × (result.generations ≡ 1) }
+    {
+        Renewals {
+            reserve: DEFAULT_RESERVE,
+            generations: 1,
+        }
+    }
+}
+
+/// How many generations a queue for so many threads may have at the same time because it grows, at most. It has places
+/// for so many, and for those that its threads may keep.
+fn most_generations(threads: u32) -> u32
+    requires { threads ≤ MAX_THREADS }
+    ensures { result ≡ generations_for threads }
+{
+    PLACES - 1 - 2 * threads
+}
+
 /// The state that the handles share, with a first generation, the place of that, and what was seen of the history.
 fn share<T: Drop>(
     alloc: Global,
@@ -183,9 +231,10 @@ fn share<T: Drop>(
     numbers: Numbers,
     labels: Vec<Label>,
     sizes: Sizes,
-    reserve: u64,
+    renewals: Renewals,
 ) -> Result<(Arc<Shared<T>, Global>, usize, History), AllocError>
     requires sizes { AreInRange sizes }
+    requires generations { (1 ≤ renewals.generations) × (renewals.generations ≤ generations_for sizes.threads) }
     requires of { generation.now.value.queue.opened ≡ opening_of sizes }
     requires numbers { (numbers ≡ generation.now.value.book) × AreLabels numbers labels.items }
     ensures shared { IfOk result (λ r. (r.0.value.sizes ≡ sizes)
@@ -200,7 +249,8 @@ fn share<T: Drop>(
     // Handles keep at most one old generation each, and two are there while a change goes on: so there is room for a
     // generation that comes too late too.
     let mut history = generation.history().again();
-    let places = Places::new(alloc, lineage, labels, 2 * sizes.threads as usize + 2)?;
+    let count = renewals.generations + 2 * sizes.threads + 1;
+    let places = Places::new(alloc, lineage, labels, count as usize)?;
     let place = places
         .put(
             generation.number(),
@@ -211,7 +261,8 @@ fn share<T: Drop>(
     let shared = Shared {
         places,
         numbers,
-        reserve,
+        reserve: renewals.reserve,
+        most_older: renewals.generations - 1,
         alloc,
     };
     Ok((Arc::new(alloc, shared)?, place, history))
@@ -249,9 +300,10 @@ fn join_all<T: Drop>(
     numbers: Numbers,
     labels: Vec<Label>,
     sizes: Sizes,
-    reserve: u64,
+    renewals: Renewals,
 ) -> Result<Vec<RenewingHandle<T>>, AllocError>
     requires sizes { AreInRange sizes }
+    requires generations { (1 ≤ renewals.generations) × (renewals.generations ≤ generations_for sizes.threads) }
     requires of { generation.queue.opened ≡ opening_of sizes }
     requires numbers { (numbers ≡ generation.book) × AreLabels numbers labels.items }
     requires first { generation.number ≡ 0 }
@@ -260,7 +312,7 @@ fn join_all<T: Drop>(
     ensures count { IfOk result (λ handles. length handles.items ≡ sizes.threads) }
 {
     let generation = Arc::new(alloc, generation)?;
-    let (shared, place, seen) = share(alloc, &generation, numbers, labels, sizes, reserve)?;
+    let (shared, place, seen) = share(alloc, &generation, numbers, labels, sizes, renewals)?;
     let mut handles = Vec::with_capacity(alloc, sizes.threads as usize)?;
     for thread in 0..sizes.threads {
         let handle = join_first(alloc, &shared, &generation, place, &seen, thread)?;
@@ -273,16 +325,17 @@ fn join_all<T: Drop>(
 fn open_first<T: Drop>(
     alloc: Global,
     sizes: Sizes,
-    reserve: u64,
+    renewals: Renewals,
 ) -> Result<Vec<RenewingHandle<T>>, AllocError>
-    requires { AreInRange sizes }
+    requires sizes { AreInRange sizes }
+    requires generations { (1 ≤ renewals.generations) × (renewals.generations ≤ generations_for sizes.threads) }
     ensures { IfOk result (λ handles. HaveOne (opening_of sizes) handles.items
         × (length handles.items ≡ sizes.threads)) }
 {
     let (queue, waiting) = open_queue(alloc, &sizes)?;
     let (numbers, labels, next, history) = Numbers::open(alloc, &queue)?;
     let generation = Generation::new(alloc, queue, waiting, next, history)?;
-    let handles = join_all(alloc, generation, numbers, labels, sizes, reserve)?;
+    let handles = join_all(alloc, generation, numbers, labels, sizes, renewals)?;
     Ok(handles)
 }
 
@@ -297,38 +350,42 @@ fn hold_again(sizes: Sizes) -> Sizes
     }
 }
 
-/// Opens a queue of owned payloads that does not wear out, with these sizes and this reserve, and returns a handle for
-/// each thread. `open` finds the sizes by a capacity.
+/// Opens a queue of owned payloads that does not wear out, with these sizes, and returns a handle for each thread. `open`
+/// finds the sizes by a capacity.
 ///
 /// Its first generation is a queue with a pool of tokens, as `PooledQueue::open_with_payloads` opens it. Its shape is
 /// that of the sizes with enqueues that hold again, whatever it says of that: with more segments than threads the queue
-/// is then lock-free. Each later one is opened like it, once the newest has fewer versions left than the reserve:
-/// `DEFAULT_RESERVE`, or less for tests. A reserve has to last until the generation is empty, which takes a version for
-/// each segment and each call that is under way. With `NO_RENEWAL` there is no later one.
+/// is then lock-free. Each later one is opened like it, when `renewals` says. A handle keeps up to `SPARE_TOKENS` tokens
+/// for itself, so a queue has room for what the threads have beyond these, as `Sizes::for_capacity` counts.
 ///
 /// ```rust
-/// let sizes = Sizes::for_capacity(16, 1_024, 4, 1 << 30)?; // k, capacity, threads, greatest version
-/// let mut handles = open_with::<u64>(alloc, sizes, 1 << 20)?; // reserve
+/// let sizes = Sizes::for_capacity(16, 1_024, 4, MAX_VERSION)?; // k, capacity, threads, greatest version
+/// let renewals = Renewals { reserve: DEFAULT_RESERVE, generations: 64 }; // it grows to 64 times the capacity
+/// let mut handles = open_with::<u64>(alloc, sizes, renewals)?;
 /// ```
 ///
 /// ReserveOutOfRange where the reserve is not below the shape's greatest version; then Open with ThreadsOutOfRange
 /// where the number of threads is not 1 to 64; then Open with TokensOutOfRange where each thread has no token, or all
-/// together have more than 65,536; Open with Memory where an allocation failed. Nothing is kept after a refusal.
+/// together have more than 65,536; then GenerationsOutOfRange, with the greatest number, where the generations are not 1
+/// to 129 - 2 * threads; Open with Memory where an allocation failed. Nothing is kept after a refusal.
 pub fn open_with<T: Drop>(
     alloc: Global,
     sizes: Sizes,
-    reserve: u64,
+    renewals: Renewals,
 ) -> Result<Vec<RenewingHandle<T>>, RenewFault>
     ensures ok { IfOk result (λ handles. HaveOne (opening_again sizes) handles.items
         × (length handles.items ≡ sizes.threads)) }
-    ensures reserve { IsErrOf result ReserveOutOfRange ↔ (sizes.shape.last ≤ reserve) }
-    ensures threads { IsErrOf result (Open ThreadsOutOfRange) ↔ ((reserve < sizes.shape.last)
-        × ((sizes.threads ≡ 0) ⊎ (MAX_THREADS < sizes.threads))) }
+    ensures reserve { IsErrOf result ReserveOutOfRange ↔ (sizes.shape.last ≤ renewals.reserve) }
+    ensures threads { IsErrOf result (Open ThreadsOutOfRange) ↔ ((renewals.reserve < sizes.shape.last)
+        × IsOutOf MAX_THREADS sizes.threads) }
     ensures tokens { IsErrOf result (Open TokensOutOfRange)
-        ↔ ((reserve < sizes.shape.last) × (1 ≤ sizes.threads) × (sizes.threads ≤ MAX_THREADS)
+        ↔ ((renewals.reserve < sizes.shape.last) × (1 ≤ sizes.threads) × (sizes.threads ≤ MAX_THREADS)
         × ((sizes.tokens ≡ 0) ⊎ (MOST_TOKENS < sizes.threads * sizes.tokens))) }
+    ensures generations { (most : ℕ) → IsErrOf result (GenerationsOutOfRange most)
+        ↔ ((renewals.reserve < sizes.shape.last) × AreInRange sizes
+        × (most ≡ generations_for sizes.threads) × IsOutOf most renewals.generations) }
 {
-    if reserve >= sizes.shape.last() {
+    if renewals.reserve >= sizes.shape.last() {
         return Err(RenewFault::ReserveOutOfRange);
     }
     if sizes.threads == 0 || sizes.threads > MAX_THREADS {
@@ -337,7 +394,11 @@ pub fn open_with<T: Drop>(
     if sizes.tokens == 0 || sizes.tokens > MOST_TOKENS / sizes.threads {
         return Err(RenewFault::Open(OpenFault::TokensOutOfRange));
     }
-    let handles = open_first(alloc, hold_again(sizes), reserve)?;
+    let most = most_generations(sizes.threads);
+    if renewals.generations == 0 || renewals.generations > most {
+        return Err(RenewFault::GenerationsOutOfRange(most));
+    }
+    let handles = open_first(alloc, hold_again(sizes), renewals)?;
     Ok(handles)
 }
 
@@ -365,7 +426,7 @@ pub fn open<T: Drop>(
         ↔ (sizes_fault k capacity threads MAX_VERSION ≡ Some fault) }
 {
     let sizes = Sizes::for_capacity(k, capacity, threads, MAX_VERSION)?;
-    let handles = open_first(alloc, hold_again(sizes), DEFAULT_RESERVE)?;
+    let handles = open_first(alloc, hold_again(sizes), Renewals::none())?;
     Ok(handles)
 }
 

@@ -3,7 +3,7 @@ ghost use Rattle.std.specs.Prelude.{◌≡◌, All};
 
 use crate::plain::{close, give, open, open_with, take};
 use kfifo_live::{CloseFault, Given, OpenFault, Sizes, Taken};
-use kfifo_renewing::{RenewFault, RenewingHandle};
+use kfifo_renewing::{RenewFault, Renewals, RenewingHandle};
 use kfifo_words::{MAX_VERSION, Shape};
 use std::process::Abort;
 use std::test::Fail;
@@ -61,7 +61,11 @@ fn are_both_beside(handles: &[RenewingHandle<u64>]) -> bool
 #[test]
 fn begins_in_one_generation(rt: HostRuntime) -> Result<(), Fail> {
     let sizes = Sizes::for_capacity(1, 4, 2, 8)?;
-    let handles = kfifo_renewing::open_with::<u64>(rt.alloc(), sizes, 4)?;
+    let renewals = Renewals {
+        reserve: 4,
+        generations: 1,
+    };
+    let handles = kfifo_renewing::open_with::<u64>(rt.alloc(), sizes, renewals)?;
     assert!(rt; are_both_beside(handles.as_slice()));
     Ok(())
 }

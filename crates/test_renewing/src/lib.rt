@@ -3,6 +3,7 @@
 
 #[cfg(test)]
 mod changes;
+mod growth;
 #[cfg(test)]
 mod pages;
 #[cfg(test)]

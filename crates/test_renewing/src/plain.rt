@@ -1,6 +1,6 @@
 //! The calls that the tests make, with nothing said of them: no test needs it, and proofs of tests are faster without.
 use kfifo_live::{CloseFault, Given, SPARE_TOKENS, Sizes, Taken};
-use kfifo_renewing::{RenewFault, RenewingHandle};
+use kfifo_renewing::{RenewFault, Renewals, RenewingHandle};
 use kfifo_words::Shape;
 use std::alloc::Global;
 
@@ -27,7 +27,11 @@ pub fn open_with<T: Drop>(
         threads,
         tokens,
     };
-    kfifo_renewing::open_with(alloc, sizes, reserve)
+    let renewals = Renewals {
+        reserve,
+        generations: 1,
+    };
+    kfifo_renewing::open_with(alloc, sizes, renewals)
 }
 
 pub fn give<T: Drop>(handle: &mut RenewingHandle<T>, payload: T) -> Given<T> {

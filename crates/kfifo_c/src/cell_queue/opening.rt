@@ -1,5 +1,5 @@
 //! Opening a queue of cells.
-ghost use Rattle.std.specs.Prelude.{◌≡◌, ◌≢◌, ◌<◌, ◌≤◌, ◌⊎◌, ◌↔◌, None, Some, IfSome, IfOk, IsErrOf, All, length, map, true};
+ghost use Rattle.std.specs.Prelude.{◌≡◌, ◌≢◌, ◌<◌, ◌≤◌, ◌⊎◌, ◌↔◌, ℕ, None, Some, IfSome, IfOk, IsErrOf, All, length, map, true};
 ghost use Rattle.std.specs.Prelude.{reverse};
 ghost use Rattle.kfifo_model.specs.declared.calls.TheConstants.{MAX_THREADS};
 ghost use denote.RawPtr.{Ptr};
@@ -7,7 +7,7 @@ ghost use Rattle.kfifo_words.specs.Sizes.{fault_of};
 ghost use Rattle.kfifo_live.specs.Pass.{IsPassOf, OpenQueue};
 ghost use Rattle.kfifo_live.specs.Payloads.{new_pay_passes, pay_opening};
 ghost use Rattle.kfifo_live.specs.declared.fault.OpenFault.TheVariants.{ThreadsOutOfRange, TokensOutOfRange};
-ghost use Rattle.kfifo_renewing.specs.declared.fault.RenewFault.TheVariants.{Open, ReserveOutOfRange};
+ghost use Rattle.kfifo_renewing.specs.declared.fault.RenewFault.TheVariants.{GenerationsOutOfRange, Open, ReserveOutOfRange};
 ghost use Rattle.kfifo_c.specs.CellHandles.{cells_behind};
 ghost use Rattle.kfifo_c.specs.CellSeats.{all_free};
 ghost use Rattle.kfifo_c.specs.CellQueues.{IsOpenedLike, OpensCells, OpensCellSizes, seats_with, tokens_of};
@@ -25,7 +25,7 @@ use crate::shape::{open_renewing, shape_of};
 use crate::status::{BAD_RESERVE, BAD_THREADS, DONE, shape_status};
 use crate::value_queue::status::renew_status;
 use kfifo_live::{OpenFault, PayPass, PayQueue};
-use kfifo_renewing::{RenewFault, RenewingHandle};
+use kfifo_renewing::{RenewFault, Renewals, RenewingHandle};
 use kfifo_words::Shape;
 use std::alloc::{AllocError, Global};
 use std::sync::Arc;
@@ -173,8 +173,13 @@ fn open_seats(
     ensures tokens { IsErrOf result (Open TokensOutOfRange)
         ↔ ((reserve < sizes.shape.last) × (1 ≤ sizes.threads) × (sizes.threads ≤ MAX_THREADS)
         × BadTokens sizes.threads sizes.tokens) }
+    ensures generations { (most : ℕ) → ¬ IsErrOf result (GenerationsOutOfRange most) }
 {
-    let handles = match open_renewing(alloc, sizes.shape, sizes.threads, sizes.tokens, reserve) {
+    let renewals = Renewals {
+        reserve,
+        generations: 1,
+    };
+    let handles = match open_renewing(alloc, sizes.shape, sizes.threads, sizes.tokens, renewals) {
         Ok(handles) => handles,
         Err(fault) => return Err(fault),
     };

@@ -1,14 +1,15 @@
 //! Opening a queue of values.
-ghost use Rattle.std.specs.Prelude.{◌≡◌, ◌≢◌, ◌<◌, ◌≤◌, ◌⊎◌, ◌↔◌, None, Some, IfSome, IfOk, IsErrOf, All, length, map, true};
+ghost use Rattle.std.specs.Prelude.{◌≡◌, ◌≢◌, ◌<◌, ◌≤◌, ◌⊎◌, ◌↔◌, ℕ, None, Some, IfSome, IfOk, IsErrOf, All, length, map, true};
 ghost use Rattle.std.specs.Prelude.{reverse};
 ghost use Rattle.kfifo_model.specs.declared.calls.TheConstants.{MAX_THREADS};
 ghost use denote.RawPtr.{Ptr};
 ghost use Rattle.kfifo_words.specs.Sizes.{fault_of};
 ghost use Rattle.kfifo_live.specs.declared.fault.OpenFault.TheVariants.{ThreadsOutOfRange, TokensOutOfRange};
-ghost use Rattle.kfifo_renewing.specs.declared.fault.RenewFault.TheVariants.{Open, ReserveOutOfRange};
+ghost use Rattle.kfifo_renewing.specs.declared.fault.RenewFault.TheVariants.{GenerationsOutOfRange, Open, ReserveOutOfRange};
 ghost use Rattle.kfifo_c.specs.ValueHandles.{values_behind};
 ghost use Rattle.kfifo_c.specs.Exports.{shape_number};
-ghost use Rattle.kfifo_c.specs.Values.{BadTokens, OpensValues, OpensValueSizes};
+ghost use Rattle.kfifo_renewing.specs.Renewing.{generations_for};
+ghost use Rattle.kfifo_c.specs.Values.{BadGenerations, BadTokens, OpensValues, OpensValueSizes};
 
 use crate::address::no_address;
 use crate::shape::{open_renewing, shape_of};
@@ -17,7 +18,7 @@ use crate::value_queue::handle::ValueHandle;
 use crate::value_queue::seat::ValueSeat;
 use crate::value_queue::status::renew_status;
 use kfifo_live::OpenFault;
-use kfifo_renewing::{RenewFault, RenewingHandle};
+use kfifo_renewing::{RenewFault, Renewals, RenewingHandle};
 use kfifo_words::Shape;
 use std::alloc::{AllocError, Global};
 
@@ -45,18 +46,24 @@ fn open_seats(
     shape: Shape,
     threads: u32,
     tokens: u32,
-    reserve: u64,
+    renewals: Renewals,
 ) -> Result<Vec<Box<ValueSeat, Global>>, RenewFault>
     requires again { shape.holds_again ≡ true }
     ensures ok { IfOk result (λ seats. OpensValues shape threads tokens
         (reverse (map (λ seat. seat.value) seats.items))) }
-    ensures reserve { IsErrOf result ReserveOutOfRange ↔ (shape.last ≤ reserve) }
-    ensures threads { IsErrOf result (Open ThreadsOutOfRange) ↔ ((reserve < shape.last)
+    ensures reserve { IsErrOf result ReserveOutOfRange ↔ (shape.last ≤ renewals.reserve) }
+    ensures threads { IsErrOf result (Open ThreadsOutOfRange) ↔ ((renewals.reserve < shape.last)
         × ((threads ≡ 0) ⊎ (MAX_THREADS < threads))) }
     ensures tokens { IsErrOf result (Open TokensOutOfRange)
-        ↔ ((reserve < shape.last) × (1 ≤ threads) × (threads ≤ MAX_THREADS) × BadTokens threads tokens) }
+        ↔ ((renewals.reserve < shape.last) × (1 ≤ threads) × (threads ≤ MAX_THREADS) × BadTokens threads tokens) }
+    ensures generations { (most : ℕ) → IsErrOf result (GenerationsOutOfRange most)
+        → (renewals.reserve < shape.last) × (1 ≤ threads) × (threads ≤ MAX_THREADS) × (¬ BadTokens threads tokens)
+        × BadGenerations threads renewals.generations }
+    ensures bad_generations { renewals.reserve < shape.last → 1 ≤ threads → threads ≤ MAX_THREADS
+        → ¬ BadTokens threads tokens → BadGenerations threads renewals.generations
+        → IsErrOf result (GenerationsOutOfRange (generations_for threads)) }
 {
-    let handles = match open_renewing(alloc, shape, threads, tokens, reserve) {
+    let handles = match open_renewing(alloc, shape, threads, tokens, renewals) {
         Ok(handles) => handles,
         Err(fault) => return Err(fault),
     };
@@ -89,10 +96,11 @@ fn put_all(handles: &mut [ValueHandle], mut seats: Vec<Box<ValueSeat, Global>>, 
 
 /// Opens a queue of values for as many threads as there are handles, with so many tokens for each, as
 /// `kfifo_renewing::open_with`, and puts a handle of it behind each, in their order. With fewer versions left than the
-/// reserve, a generation is followed by the next one; with a reserve of 0 it is not. What was behind the handles is
-/// lost. A refusal does nothing: BAD_K, BAD_SEGMENTS, BAD_LAST or BAD_PROBES where there is no such shape, BAD_RESERVE
-/// where the reserve is not below the greatest version, BAD_THREADS where the handles are not 1 to 64, BAD_TOKENS where
-/// the tokens are not 1 to 1,024 or the threads have too many together, NO_MEMORY where an allocation failed.
+/// reserve, a generation is followed by the next one; with a reserve of 0 it is not. So is one with no room while there
+/// are fewer than `generations`. What was behind the handles is lost. A refusal does nothing: BAD_K, BAD_SEGMENTS,
+/// BAD_LAST or BAD_PROBES where there is no such shape, BAD_RESERVE where the reserve is not below the greatest version,
+/// BAD_THREADS where the handles are not 1 to 64, BAD_TOKENS where the tokens are not 1 to 1,024 or the threads have too
+/// many together, BAD_CALL where the generations are not 1 to 129 - 2 * threads, NO_MEMORY where an allocation failed.
 #[unsafe(no_mangle)]
 pub extern "C" fn kfifo_c_open_values(
     alloc: Global,
@@ -102,6 +110,7 @@ pub extern "C" fn kfifo_c_open_values(
     last: u64,
     tokens: u32,
     reserve: u64,
+    generations: u32,
     passes: &mut [ValueHandle],
 ) -> u32
     ensures ok { result ≡ 0 → OpensValueSizes k segments last probes (length passes.old) tokens
@@ -117,7 +126,10 @@ pub extern "C" fn kfifo_c_open_values(
         → length passes.old ≤ MAX_THREADS → BadTokens (length passes.old) tokens → result ≡ 15 }
     ensures memory { fault_of k segments last probes ≡ None → reserve < last → 1 ≤ length passes.old
         → length passes.old ≤ MAX_THREADS → ¬ BadTokens (length passes.old) tokens
-        → (result ≡ 0) ⊎ (result ≡ 7) }
+        → ¬ BadGenerations (length passes.old) generations → (result ≡ 0) ⊎ (result ≡ 7) }
+    ensures generations { fault_of k segments last probes ≡ None → reserve < last → 1 ≤ length passes.old
+        → length passes.old ≤ MAX_THREADS → ¬ BadTokens (length passes.old) tokens
+        → BadGenerations (length passes.old) generations → result ≡ 6 }
 {
     let shape = match shape_of(k, segments, last, probes) {
         Ok(shape) => shape,
@@ -129,7 +141,11 @@ pub extern "C" fn kfifo_c_open_values(
     if passes.len() > 64 {
         return BAD_THREADS;
     }
-    match open_seats(alloc, shape, passes.len() as u32, tokens, reserve) {
+    let renewals = Renewals {
+        reserve,
+        generations,
+    };
+    match open_seats(alloc, shape, passes.len() as u32, tokens, renewals) {
         Ok(seats) => {
             let address = address_of_all(seats.as_slice());
             put_all(passes, seats, address);

@@ -2,7 +2,7 @@
 ghost use Rattle.std.specs.Prelude.{◌≡◌, Some};
 ghost use Rattle.kfifo_c.specs.Values.{given_number, renew_number, taken_number};
 
-use crate::status::{BAD_RESERVE, DONE, NO_TOKEN, open_status};
+use crate::status::{BAD_CALL, BAD_RESERVE, DONE, NO_TOKEN, open_status};
 use kfifo_live::{Given, Taken};
 use kfifo_renewing::RenewFault;
 
@@ -13,6 +13,7 @@ pub(crate) fn renew_status(fault: RenewFault) -> u32
     match fault {
         RenewFault::Open(fault) => open_status(fault),
         RenewFault::ReserveOutOfRange => BAD_RESERVE,
+        RenewFault::GenerationsOutOfRange(_) => BAD_CALL,
     }
 }
 

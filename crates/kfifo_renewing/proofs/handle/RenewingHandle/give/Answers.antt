@@ -1,13 +1,13 @@
 -- A look, and then the give, where it found no later generation.
-use Rattle.std.proofs.Common.{◌≡◌, inl, inr, refl, sym, ap, ◌∙◌, subst}
+use Rattle.std.proofs.Common.{◌≡◌, refl, sym, ap, ◌∙◌, subst}
 use Rattle.kfifo_live.specs.declared.payload.Given.TheVariants as G
 use Rattle.kfifo_pool.specs.Pooled.{GivesOne, Pooled}
 use Rattle.kfifo_live.specs.Pass.{IsSamePass}
 use Rattle.kfifo_renewing.specs.History.{Finds, sight_of}
-use Rattle.kfifo_renewing.specs.Renewing.{Generations, GivesToNewest, Numbered, opening_of, TriesAgain, TriesToGive, with_newest, with_seen}
+use Rattle.kfifo_renewing.specs.Renewing.{Generations, GivesToNewest, GoesOn, Numbered, opening_of, with_newest, with_seen}
 use Rattle.kfifo_renewing.proofs.Joining.{numbered-by}
 use Rattle.kfifo_renewing.proofs.Following.{Looked, joins-after, looked-follows, same-but-seen}
-use Rattle.kfifo_renewing.proofs.Giving.{gave-here, gives-after, worn-back}
+use Rattle.kfifo_renewing.proofs.Giving.{gave-here, gives-after}
 use Rattle.kfifo_renewing.proofs.handle.RenewingHandle.give.Goals as goal
 
 pub returns-then-self-eq0 : goal.returns-then-self-eq0
@@ -51,8 +51,8 @@ returns-then-look-ne0 g c =
     gives-after c.args.payload r now (with_seen now new) end (looked-follows found new now looked)
     (subst (λ (v : Generations T). GivesToNewest c.args.payload r v end) here c.give_late-then-look-ne0.ensures)
 
-pub invariant_of-self-in-Worn : goal.invariant_of-self-in-Worn
-invariant_of-self-in-Worn g c = joins-after (opening_of c.self.inside.shared.value.sizes) c.self.inside.shared.value.history.book
+pub invariant_of-self-in-Done : goal.invariant_of-self-in-Done
+invariant_of-self-in-Done g c = joins-after (opening_of c.self.inside.shared.value.sizes) c.self.inside.shared.value.history.book
     c.self.inside.history.book c.look.new.history.book c.self.inside.history.log c.look.new.history.log
     c.self.inside.generation.value c.self.inside.newest c.give.new.self c.self.inside.older.items (sight_of c.self.inside.newest.handle.held.pass.pass)
     c.look.result c.self.invariant (subst
@@ -69,8 +69,8 @@ invariant_of-self-in_default g c = joins-after (opening_of c.self.inside.shared.
     (c.next.ensures.0 ∙ ap (λ (v : Numbered). v.number) c.deref-generation.ensures) c.look.ensures.finds)
     c.look.ensures.book c.give.ensures.same
 
-pub returns-in-Worn : goal.returns-in-Worn
-returns-in-Worn g c =
+pub returns-in-Done : goal.returns-in-Done
+returns-in-Done g c =
     let T = g.row.T.Denot in
     let i = c.self.invariant in
     let log = c.self.inside.history.log in
@@ -93,18 +93,8 @@ returns-in-Worn g c =
     (c.look.ensures.book ∙ ap (λ (v : Generations T). v.book) c.self.view_is)
     (ap (λ (v : Generations T). v.older) c.self.view_is) (ap (λ (v : Generations T). v.number) c.self.view_is) in
     let payload = c.args.payload in
-    let back = c.in-Worn.back in
-    let here = with_newest (with_seen now new) h in
-    let end = c.give_to_next.new.self in
-    let gives = subst (λ (v : Generations T). GivesOne payload (G.Worn back) v.newest h) c.self.view_is c.in-Worn.ensures.gives in
-    let first = gave-here payload (G.Worn back) now found new h looked none same gives in
-    let worn = worn-back payload back now here first in
-    inr (
-      here,
-      subst (λ b. TriesToGive payload (G.Worn b) now here) worn first,
-      subst (λ b. TriesAgain b c.give_to_next.result here end) worn
-          (subst (λ (v : Generations T). TriesAgain back c.give_to_next.result v end) is c.give_to_next.ensures),
-    )
+    let gives = subst (λ (v : Generations T). GivesOne payload G.Done v.newest h) c.self.view_is c.in-Done.ensures.gives in
+    (G.Done, with_newest (with_seen now new) h, gave-here payload G.Done now found new h looked none same gives, refl, is)
 
 pub returns-in_default : goal.returns-in_default
 returns-in_default g c =
@@ -130,8 +120,12 @@ returns-in_default g c =
     (c.look.ensures.book ∙ ap (λ (v : Generations T). v.book) c.self.view_is)
     (ap (λ (v : Generations T). v.older) c.self.view_is) (ap (λ (v : Generations T). v.number) c.self.view_is) in
     let payload = c.args.payload in
-    let gives = subst (λ (v : Generations T). GivesOne payload c.give.result v.newest h) c.self.view_is c.give.ensures.gives in
-    subst (λ (v : Generations T). GivesToNewest payload c.give.result now v) (sym is) (inl (
-      gave-here payload c.give.result now found new h looked none same gives,
-      c.in_default.not-Worn payload,
-    ))
+    let first = c.give.result in
+    let here = with_newest (with_seen now new) h in
+    let end = c.go_on.new.self in
+    let gives = subst (λ (v : Generations T). GivesOne payload first v.newest h) c.self.view_is c.give.ensures.gives in (
+      first,
+      here,
+      gave-here payload first now found new h looked none same gives,
+      subst (λ (v : Generations T). GoesOn first c.go_on.result v end) is c.go_on.ensures,
+    )

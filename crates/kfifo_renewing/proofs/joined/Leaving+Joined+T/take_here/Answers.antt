@@ -22,5 +22,5 @@ returns-clause-takes g c =
     let T = g.row.T.Denot in
     let e = c.receive.ensures in
     let here = ap (λ (i : Inside (Joined T)). i.part.handle) c.self-inside.view_is ∙ ap (λ (p : PartView T). p.handle) c.self.view_is in
-    subst (λ (h : Pooled T). TakesThere c.receive.result h c.receive.new.handle) here
+    subst (λ (h : Pooled T). TakesThere c.receive.result h c.receive.new.self) here
     (record { same = e.same; takes = e.receives; busy = e.busy; starts = e.starts; promise = e.promise })

@@ -1,0 +1,133 @@
+//! Queues that grow where they have no room, and shrink.
+use crate::plain::{close, give, take};
+use kfifo_live::{Given, Sizes, Taken};
+use kfifo_renewing::{DEFAULT_RESERVE, NO_RENEWAL, RenewFault, Renewals, RenewingHandle, open_with};
+use kfifo_words::MAX_VERSION;
+use std::alloc::Global;
+use std::process::Abort;
+use std::test::Fail;
+
+/// The handles of a queue with k = 1 and room for 8 values, which may grow to so many generations.
+fn open_growing(
+    alloc: Global,
+    threads: u32,
+    reserve: u64,
+    generations: u32,
+) -> Result<Vec<RenewingHandle<u64>>, Fail> {
+    let sizes = Sizes::for_capacity(1, 8, threads, MAX_VERSION)?;
+    let renewals = Renewals {
+        reserve,
+        generations,
+    };
+    Ok(open_with(alloc, sizes, renewals)?)
+}
+
+/// Gives values from 0 on until one is refused. Returns how many were not.
+fn fill(handle: &mut RenewingHandle<u64>, most: u64) -> u64 {
+    for value in 0..most {
+        if give(handle, value) != Given::Done {
+            return value;
+        }
+    }
+    most
+}
+
+/// Takes so many values, which come out in their order.
+fn empty(rt: &impl Abort, handle: &mut RenewingHandle<u64>, count: u64) {
+    for value in 0..count {
+        assert_eq!(rt; take(handle), Taken::Got(value), "take {value}");
+    }
+    assert_eq!(rt; take(handle), Taken::Empty);
+}
+
+/// One thread gives 3,000 values to a queue with room for 8, and takes them in their order. Then there is one generation
+/// again.
+#[test]
+fn grows_and_shrinks(rt: HostRuntime) -> Result<(), Fail> {
+    let mut handles = open_growing(rt.alloc(), 1, DEFAULT_RESERVE, 127)?;
+    if let Some(handle) = handles.first_mut() {
+        for _round in 0..3 {
+            assert_eq!(rt; fill(handle, 3_000), 3_000);
+            empty(&rt, handle, 3_000);
+            assert_eq!(rt; handle.generations(), Some(1));
+        }
+    }
+    assert_eq!(rt; close(rt.alloc(), handles)?.len(), 0);
+    Ok(())
+}
+
+/// A queue grows to its bound and no further. It has room again once an old generation is gone.
+#[test]
+fn stops_at_its_bound(rt: HostRuntime) -> Result<(), Fail> {
+    let mut handles = open_growing(rt.alloc(), 1, NO_RENEWAL, 3)?;
+    if let Some(handle) = handles.first_mut() {
+        let count = fill(handle, 10_000);
+        assert!(rt; count >= 3 * 8);
+        assert!(rt; count < 10_000);
+        assert_ne!(rt; give(handle, count), Given::Done);
+        let mut next = count;
+        for value in 0..count {
+            assert_eq!(rt; take(handle), Taken::Got(value), "take {value}");
+            if give(handle, next) == Given::Done {
+                next = next.wrapping_add(1);
+            }
+        }
+        assert!(rt; count < next);
+        for value in count..next {
+            assert_eq!(rt; take(handle), Taken::Got(value), "take {value}");
+        }
+        assert_eq!(rt; take(handle), Taken::Empty);
+        assert_eq!(rt; handle.generations(), Some(1));
+    }
+    assert_eq!(rt; close(rt.alloc(), handles)?.len(), 0);
+    Ok(())
+}
+
+/// One handle only gives and another one only takes. The queue grows again and again.
+#[test]
+fn grows_between_two_handles(rt: HostRuntime) -> Result<(), Fail> {
+    let mut handles = open_growing(rt.alloc(), 2, DEFAULT_RESERVE, 60)?;
+    if let [giver, taker] = handles.as_mut_slice() {
+        for _round in 0..5 {
+            assert_eq!(rt; fill(giver, 1_000), 1_000);
+            empty(&rt, taker, 1_000);
+        }
+        assert_eq!(rt; give(giver, 7), Given::Done);
+        assert_eq!(rt; take(taker), Taken::Got(7));
+        assert_eq!(rt; taker.generations(), Some(1));
+    }
+    assert_eq!(rt; close(rt.alloc(), handles)?.len(), 0);
+    Ok(())
+}
+
+/// What is left of all generations comes back from a close, in its order.
+#[test]
+fn returns_what_is_left_of_all_generations(rt: HostRuntime) -> Result<(), Fail> {
+    let mut handles = open_growing(rt.alloc(), 1, DEFAULT_RESERVE, 20)?;
+    if let Some(handle) = handles.first_mut() {
+        assert_eq!(rt; fill(handle, 500), 500);
+    }
+    let left = close(rt.alloc(), handles)?;
+    assert_eq!(rt; left.len(), 500);
+    for (place, value) in left.iter().enumerate() {
+        assert_eq!(rt; *value, place as u64);
+    }
+    Ok(())
+}
+
+#[test]
+fn refuses_too_many_generations(rt: HostRuntime) -> Result<(), Fail> {
+    for (threads, generations, most) in [(1, 0, 127), (1, 128, 127), (64, 2, 1)] {
+        let sizes = Sizes::for_capacity(1, 8, threads, MAX_VERSION);
+        let Ok(sizes) = sizes else {
+            continue;
+        };
+        let renewals = Renewals {
+            reserve: DEFAULT_RESERVE,
+            generations,
+        };
+        let fault = open_with::<u64>(rt.alloc(), sizes, renewals).err();
+        assert_eq!(rt; fault, Some(RenewFault::GenerationsOutOfRange(most)));
+    }
+    Ok(())
+}
