@@ -288,8 +288,8 @@ def grid(head, columns, rows):
 def page_parts():
     """The tables of docs/PERFORMANCE.md: the head, the queues, and the title of each row's workload."""
 
-    def calls(kind, capacity):
-        names = [(name, work) for work in WORK for name, *_ in CALLS]
+    def calls(kind, capacity, works=WORK):
+        names = [(name, work) for work in works for name, *_ in CALLS]
         return {name + ", with work" * bool(work): f"{kind}{name}, {capacity}{between(work)}" for name, work in names}
 
     ours = (4, 16, 64)
@@ -298,7 +298,7 @@ def page_parts():
     trees = {n: f"spanning tree by {n} threads, capacity {TREE_CAPACITY:,}" for n in TREES}
     return [
         ("Workload", numbers, calls("", f"capacity {CAPACITIES[0]:,}")),
-        ("Values of 16 bytes", values, calls("values of 16 bytes, ", f"capacity {VALUES_CAPACITY:,}")),
+        ("Values of 16 bytes", values, calls("values of 16 bytes, ", f"capacity {VALUES_CAPACITY:,}", WORK[:1])),
         ("Threads", [("kfifo", 16), ("kfifo", 64), ("tbb", 0), ("vyukov", 0), ("mutex", 0)], trees),
     ]
 
