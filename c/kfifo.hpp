@@ -132,12 +132,12 @@ template <typename Opens> struct [[nodiscard]] Opened {
 
 // What a call that gives each value of a range came to.
 template <typename Iterator> struct [[nodiscard]] GaveAll {
-    std::size_t given;   // so many are in the queue
+    std::size_t given;   // how many are in the queue
     Iterator rest;       // the first one that is not: it and those after it are the caller's
     Put why = Put::done; // done: all are; else what that one came to
 };
 
-// What a call that takes up to so many came to.
+// What a call that takes many at once came to.
 struct [[nodiscard]] TookUpTo {
     std::size_t taken = 0;
     std::optional<Miss> why; // why it took no more; none where it took as many as it was to
@@ -1130,7 +1130,7 @@ template <typename T> class ValueQueue {
             bool operator!=(End end) const { return !(*this == end); }
 
           private:
-            // What is behind an iterator that nobody asks stays in the queue, as with std::views::take.
+            // What comes after an iterator that nobody asks stays in the queue, as with std::views::take.
             void look() const {
                 if (has_looked) return;
                 handle->receive(
