@@ -426,7 +426,7 @@ impl<T> Handle<T> {
         }
     }
 
-    /// As [`Handle::push_wait`], for that time at most: then it is refused as `TimedOut`. With no time it does not sleep.
+    /// As [`Handle::push_wait`], for that time at most: then refused as `TimedOut`. With no time it does not sleep.
     ///
     /// Cost: as [`Handle::push_wait`].
     ///
