@@ -1,4 +1,4 @@
-/* Concurrency Kit's ring for many producers and consumers behind plain calls, since its header is C alone. */
+/* Concurrency Kit's ring for many producers and consumers, as plain calls, since its header is C alone. */
 #include <ck_ring.h>
 #include <stdint.h>
 #include <stdlib.h>

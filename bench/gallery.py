@@ -3,7 +3,7 @@
 
     bench/gallery.py [--program PATH] [--out FOLDER] [--runs N]
 
-Four threads put and take in turn, and at the end one thread takes until the queue is empty. Where a verdict is a matter of
+Four threads alternate puts and takes, and at the end one thread takes until the queue is empty. Where a verdict is a matter of
 luck, the queue is run again, at most N times, until it comes. For each queue the script prints a row of the page's table,
 with the processor time of `kfifo judge`; FOLDER gets the logs, and a picture of each piece of evidence: of a k-relaxed queue
 that it is no queue of k - 1. The last line is 'N passed, M failed'.

@@ -1,7 +1,7 @@
 // Logs a run of a queue as CSV, for kfifo to judge: one thread puts items before the others begin, then each of these
-// puts an item and takes one in turn, and at the end the one thread takes until the queue is empty. The arguments are
-// the queue (a name of queues.hpp, or paused-ring), k (of kfifo and segmented alone), the threads, how often each puts
-// and takes, and how many items come before. The capacity is 1,024.
+// puts an item and takes one, alternating, and at the end the one thread takes until the queue is empty. The arguments
+// are the queue (a name of queues.hpp, or paused-ring), k (of kfifo and segmented alone), the threads, how often each
+// puts and takes, and how many items come before. The capacity is 1,024.
 #include "../loggers/kfifo_log.h"
 
 #include "queues.hpp"

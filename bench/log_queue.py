@@ -10,7 +10,7 @@ import kfifo_log
 
 
 def in_turn(shared, log, start, items):
-    """Puts each item, and takes one behind it."""
+    """Puts each item, and takes one after it."""
     start.wait()
     for item in items:
         log.enqueue(item, shared.put_nowait)

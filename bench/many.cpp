@@ -1,7 +1,7 @@
 // Many at once beside single calls. The arguments are what is given and taken ("values in C", "items in C", "values in
 // C++" or "items in C++"), how many at once (1 is a single call, and at most 64), k, the segments, the threads (1 gives
-// and takes in turn, 2 are a producer and a consumer), and for how many milliseconds. It prints how many were given and
-// taken, a second; status 1 where what came out is not what went in.
+// and takes, alternating, 2 are a producer and a consumer), and for how many milliseconds. It prints how many were
+// given and taken, a second; status 1 where what came out is not what went in.
 #include "kfifo.hpp"
 
 #include <array>
@@ -130,7 +130,7 @@ struct alignas(128) Side {
     std::uint64_t count = 0, sum = 0;
 };
 
-// Gives 64 numbers, so many at once. The numbers are 1 to 2^23 again and again.
+// Gives 64 numbers, that many at once. The numbers are 1 to 2^23 again and again.
 template <typename Kind> void give_some(Kind &kind, std::size_t most, Side &side) {
     for (std::size_t left = 64; left > 0;) {
         std::uint32_t first = 1 + std::uint32_t(side.count & 0x7fffff);

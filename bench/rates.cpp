@@ -1,6 +1,6 @@
 // One run of one queue: threads put and take for some time, and what went in has to come out. The arguments are the
 // queue (a name of queues.hpp), k (of kfifo and segmented alone), the capacity, the threads that put only, those that
-// take only, those that do both in turn, the nanoseconds of work between two calls, and how many milliseconds the run
+// take only, those that alternate both, the nanoseconds of work between two calls, and how many milliseconds the run
 // lasts. It prints the calls that put or took an item, a second; status 1 where an item is missing or double. With no
 // thread that calls, one thread works without calls, and it prints how often it did so, a second.
 #include "queues.hpp"

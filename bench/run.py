@@ -32,7 +32,7 @@ import textwrap
 HERE = os.path.dirname(os.path.abspath(__file__))
 OUT = f"{HERE}/out"
 PROGRAMS = ["rates", "spanning_tree", "waiting", "time_in_queue", "waking"]
-# name, producers, consumers, threads that do both in turn
+# name, producers, consumers, threads that alternate both
 CALLS = [
     ("one thread", 0, 0, 1),
     ("1 producer, 1 consumer", 1, 1, 0),
@@ -83,7 +83,7 @@ OF_VALUES = ["array", "mutex", "boost", "tbb", "vyukov", "tbb-unbounded", "moody
 NAMES |= {f"{name}-{size}": NAMES[name] for name in [*OF_VALUES, "kfifo"] for size in SIZES}
 ORDERS |= {f"{name}-{size}": order for name, order in ORDERS.items() for size in SIZES}
 OURS = [("kfifo", 1), ("kfifo", 4), ("kfifo", 16), ("kfifo", 64), ("kfifo-at-random", 16), ("kfifo-at-random", 64)]
-# Calls that look for threads that wait, each behind the plain ones that it is compared with.
+# Calls that look for threads that wait, each after the plain ones that it is compared with.
 LOOKING = [[(name, 16), (f"{name}-looking", 16)] for name in ("kfifo-in-c", "kfifo-values-in-c")]
 # Calls that wait: the producers, the consumers, and the nanoseconds of work between the calls of either.
 WAITING_TITLE = "calls that wait"
@@ -288,8 +288,8 @@ def grid(head, columns, rows):
 def page_parts():
     """The tables of docs/PERFORMANCE.md: the head, the queues, and the title of each row's workload."""
 
-    def calls(kind, capacity):
-        names = [(name, work) for work in WORK for name, *_ in CALLS]
+    def calls(kind, capacity, works=WORK):
+        names = [(name, work) for work in works for name, *_ in CALLS]
         return {name + ", with work" * bool(work): f"{kind}{name}, {capacity}{between(work)}" for name, work in names}
 
     ours = (4, 16, 64)
@@ -298,7 +298,7 @@ def page_parts():
     trees = {n: f"spanning tree by {n} threads, capacity {TREE_CAPACITY:,}" for n in TREES}
     return [
         ("Workload", numbers, calls("", f"capacity {CAPACITIES[0]:,}")),
-        ("Values of 16 bytes", values, calls("values of 16 bytes, ", f"capacity {VALUES_CAPACITY:,}")),
+        ("Values of 16 bytes", values, calls("values of 16 bytes, ", f"capacity {VALUES_CAPACITY:,}", WORK[:1])),
         ("Threads", [("kfifo", 16), ("kfifo", 64), ("tbb", 0), ("vyukov", 0), ("mutex", 0)], trees),
     ]
 

@@ -27,7 +27,7 @@ struct Graph {
     const Vertex *end(Vertex v) const { return neighbours.data() + first[v + 1]; }
 };
 
-// So many edges, each between two vertices that are drawn at random.
+// That many edges, each between two vertices that are drawn at random.
 Graph random_graph(std::size_t vertices, std::size_t edges) {
     std::mt19937 random(1);
     std::uniform_int_distribution<Vertex> draw(1, Vertex(vertices));

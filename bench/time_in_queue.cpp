@@ -1,7 +1,7 @@
 // How long a value is in a queue, from before its put to after its take, where values come at random and the takers are
-// busy for a part of the time. Each thread that takes works so many nanoseconds on a value; values come by exponential
-// gaps, so that the takers together are busy for `load` percent of the time. The arguments are the queue of values of
-// 16 bytes (kfifo, array, moodycamel, channel or mutex), k (of kfifo alone), the capacity, the producers, the
+// busy for a part of the time. Each thread that takes works that many nanoseconds on a value; values come by
+// exponential gaps, so that the takers together are busy for `load` percent of the time. The arguments are the queue of
+// values of 16 bytes (kfifo, array, moodycamel, channel or mutex), k (of kfifo alone), the capacity, the producers, the
 // consumers, the threads that do both, the load in percent, the nanoseconds of work on a value, and how many
 // milliseconds the run lasts, 4,000 at most. It prints the median, the 99th and the 99.9th percentile of the
 // nanoseconds, and the values a second; status 1 where a value is missing or double.

@@ -2,7 +2,7 @@
 #ifndef KFIFO_HPP
 #define KFIFO_HPP
 
-// Where the compiler does not optimise, a second call by a handle while one runs is told on stderr, and the program
+// Where the compiler does not optimise, a second call by a handle while one runs is reported on stderr, and the program
 // aborts: kfifo.h says how. Where that was included before, it has decided.
 #if !defined(KFIFO_H) && !defined(NDEBUG) && !defined(__OPTIMIZE__) && !defined(KFIFO_DEBUG)
 #define KFIFO_DEBUG
@@ -132,12 +132,12 @@ template <typename Opens> struct [[nodiscard]] Opened {
 
 // What a call that gives each value of a range came to.
 template <typename Iterator> struct [[nodiscard]] GaveAll {
-    std::size_t given;   // so many are in the queue
+    std::size_t given;   // how many are in the queue
     Iterator rest;       // the first one that is not: it and those after it are the caller's
     Put why = Put::done; // done: all are; else what that one came to
 };
 
-// What a call that takes up to so many came to.
+// What a call that takes many at once came to.
 struct [[nodiscard]] TookUpTo {
     std::size_t taken = 0;
     std::optional<Miss> why; // why it took no more; none where it took as many as it was to
@@ -390,7 +390,7 @@ struct UnlessBusy {
     }
 };
 
-// Again and again, with sleep between, for so long at most in all, also of several calls.
+// Again and again, with sleep between, for that time at most in all, also of several calls.
 class Within {
   public:
     Within(kfifo_waits *waits, std::uint32_t kind, std::uint64_t nanoseconds)
@@ -792,7 +792,7 @@ template <typename T> class ValueQueue {
                 [&](Reserved &cell) { cell.make(std::forward<Arguments>(arguments)...); }, [](T &) {});
         }
 
-        // As emplace_wait, for so long at most: also timed_out.
+        // As emplace_wait, for that time at most: also timed_out.
         // Cost: as emplace where it need not sleep.
         //
         //     if (giver.emplace_for(std::chrono::seconds(1), 3, 'z') != kfifo::Put::done) return 1;
@@ -809,7 +809,7 @@ template <typename T> class ValueQueue {
         //     while (auto value = taker.take_wait().value) all += *value;
         TakenValue<T> take_wait() { return take_by(within(KFIFO_WAITS_TAKER, KFIFO_FOREVER)); }
 
-        // The same for so long at most: also timed_out. A negative time is 0, with which the call does not sleep.
+        // The same for that time at most: also timed_out. A negative time is 0, with which the call does not sleep.
         // Cost: as give and take where it need not sleep.
         //
         //     if (giver.give_for("soon", std::chrono::seconds(1)) != kfifo::Put::done) return 1;
@@ -1130,7 +1130,7 @@ template <typename T> class ValueQueue {
             bool operator!=(End end) const { return !(*this == end); }
 
           private:
-            // What is behind an iterator that nobody asks stays in the queue, as with std::views::take.
+            // What comes after an iterator that nobody asks stays in the queue, as with std::views::take.
             void look() const {
                 if (has_looked) return;
                 handle->receive(

@@ -628,8 +628,8 @@ template <class Target, class Put, class Get> constexpr bool can_call() {
     return false;
 }
 
-// Whether the functions of a check can be called as it calls them. What cannot is told by one line, and nothing of it
-// is compiled further.
+// Whether the functions of a check can be called as it calls them. What cannot is reported in one line, and nothing of
+// it is compiled further.
 template <class Make, class Handle, class Put, class Get> constexpr bool can_check() {
     constexpr bool makes = std::is_invocable_v<Make &, std::size_t> || std::is_invocable_v<Make &>;
     static_assert(makes, "the maker has to take (std::size_t capacity) or nothing, and to return a new queue, or a "

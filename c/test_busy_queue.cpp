@@ -26,7 +26,7 @@ bool is_busy() {
     return true;
 }
 
-// Whether a call is done after it came to BUSY so often, and looked once more for each of so many values.
+// Whether a call is done after it came to BUSY that often, and looked once more for each of that many values.
 template <typename Call> bool looks(unsigned values, Call call) {
     left = times, calls = 0;
     return call() && left == 0 && calls == times + values;

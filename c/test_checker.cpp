@@ -113,7 +113,7 @@ Used &used() {
     return shared;
 }
 
-// So many changes each check of such a queue has at least.
+// How many changes each check of such a queue has at least.
 constexpr double LEAST_CHANGES = 20;
 
 // The tokens of a handle: as many as the others may keep for themselves, and more than values are inside.

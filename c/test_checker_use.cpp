@@ -255,7 +255,7 @@ void callers(bool one_puts, bool one_gets) {
                                                                  return handle.queue.push(item);
                                                              },
                                                              [=](Handle &handle) {
-                                                                 // Thread 0 empties the queue behind a round.
+                                                                 // Thread 0 empties the queue after a round.
                                                                  if (one_gets && handle.thread != 0)
                                                                      throw std::logic_error("a second thread gets");
                                                                  if (one_puts && handle.thread == last)

@@ -339,7 +339,7 @@ static void does_not_renew(int kind) {
     free(left);
 }
 
-/* One of three handles is abandoned after so many calls, at each moment of a change and between two. The others go on
+/* One of three handles is abandoned after that many calls, at each moment of a change and between two. The others go on
    through many more changes: each value comes out once, in the order in which they were given, also what the one that
    left had given. */
 static void one_leaves(int kind) {
@@ -433,7 +433,7 @@ struct side {
     enum role role;
     uint64_t to_give, given, taken, wrong, full;
     int waited;         /* how often in a row it took none since there were few inside */
-    uint64_t leaves_at; /* it abandons its handle after so many rounds; 0: never */
+    uint64_t leaves_at; /* it abandons its handle after that many rounds; 0: never */
     int stops_at;       /* the request for memory or the free before which it stops; 0: none */
     uint64_t *greatest; /* of each producer, the greatest indices that this thread has taken */
 };
@@ -447,7 +447,7 @@ static struct stamps *stamps;       /* of each value, in the same order; NULL: t
 static atomic_uint_fast64_t ended;  /* the clock of the stamps: gives and takes that have ended */
 static atomic_uint_fast64_t inside; /* values that are in the queue, or are about to be */
 static atomic_uint_fast64_t left_to_take;
-static atomic_uint_fast64_t most_inside; /* with so many inside none is given; 0: no more are given */
+static atomic_uint_fast64_t most_inside; /* with that many inside none is given; 0: no more are given */
 static atomic_int is_over;               /* all threads end after the call that they are in */
 
 static uint64_t value_of(uint64_t producer, uint64_t index) { return (producer + 1) << 40 | index; }
@@ -577,13 +577,13 @@ static void join(uint32_t from, uint32_t end) {
     for (uint32_t i = from; i < end; i++) pthread_join(sides[i].id, NULL);
 }
 
-/* Waits until the threads have taken so many values more. */
+/* Waits until the threads have taken that many values more. */
 static void wait_for_takes(uint64_t count) {
     uint64_t before = atomic_load(&left_to_take);
     while (before - atomic_load(&left_to_take) < count) sched_yield();
 }
 
-/* No more values are given, and this returns when no more than so many are left inside. */
+/* No more values are given, and this returns when no more than that many are left inside. */
 static void wait_until_left(uint64_t count) {
     atomic_store(&most_inside, 0);
     while (atomic_load(&inside) > count) sched_yield();
@@ -708,8 +708,8 @@ static uint64_t givers_of(const struct crew *crew) {
     return givers;
 }
 
-/* A crew gives and takes so many values in all, with few inside. The reserve is 16 versions for each thread: more than
-   those inside, and what is under way, need. */
+/* A crew gives and takes that many values in all, with few inside. The reserve is 16 versions for each thread: more
+   than those inside, and what is under way, need. */
 static struct plan plan_of(int kind, uint32_t k, const struct crew *crew, uint64_t values) {
     return (struct plan){.kind = kind,
                          .k = k,
@@ -731,7 +731,7 @@ static void run(const struct plan *of) {
     expect(end_run(), wanted, "values given");
 }
 
-/* The same with stamps: counts over all threads which values have overtaken one. So many are inside all the time that
+/* The same with stamps: counts over all threads which values have overtaken one. That many are inside all the time that
    more than the bound could. */
 static void run_stamped(int kind, uint32_t k, const struct crew *crew) {
     struct plan stamped = plan_of(kind, k, crew, VALUES * times);
@@ -877,7 +877,7 @@ static void begin_stops(int kind, uint32_t k) {
     begin_run(&stopping);
 }
 
-/* The others go through so many changes: a generation has its versions for at most k values each. */
+/* The others go through that many changes: a generation has its versions for at most k values each. */
 static void go_through_changes(void) { wait_for_takes(CHANGES * plan.k * plan.last); }
 
 /* A thread stops within its calls again and again, each time while the others go through a hundred changes, and goes on
@@ -927,7 +927,7 @@ static void stops_for_good(int kind) {
     }
 }
 
-/* A thread that goes through changes alone stops before a request for memory or a free: each of them in turn, of
+/* A thread that goes through changes alone stops before a request for memory or a free: each of them once, of
    several changes. Then the others begin. */
 static void stops_at_each_request(int kind) {
     for (int i = 1; i <= 50; i++) {

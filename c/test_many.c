@@ -54,11 +54,11 @@ static void of_values(void) {
     expect(many, 0, "none of the rest are given");
     expect(kfifo_take_up_to(&passes[1], out, 5, &many), KFIFO_DONE, "a take of five");
     expect(many, 5, "five are taken");
-    expect(out[5], 1005, "the array behind them");
+    expect(out[5], 1005, "the array after them");
     expect(kfifo_take_up_to(&passes[1], out + 5, MOST - 5, &many), KFIFO_DONE, "a take of more than there are");
     expect(many, SLOTS - 5, "all that were left");
     for (size_t i = 0; i < SLOTS; i++) expect(out[i], in[i], "a value in its order");
-    expect(out[SLOTS], 1000 + SLOTS, "the array behind the last one");
+    expect(out[SLOTS], 1000 + SLOTS, "the array after the last one");
     expect(kfifo_take_up_to(&passes[1], out, 0, &many), KFIFO_DONE, "a take of no values");
     expect(kfifo_take_up_to(&passes[1], NULL, 0, &many), KFIFO_DONE, "a take of no values without an array");
     expect(kfifo_take_up_to(&passes[1], out, 1, &many), KFIFO_EMPTY, "none is left");
@@ -109,7 +109,7 @@ static void of_items(void) {
     expect(kfifo_get_up_to(&passes[1], out, MOST, &many), KFIFO_DONE, "a get of more than there are");
     expect(many, SLOTS, "all are got");
     for (size_t i = 0; i < SLOTS; i++) expect(out[i], in[i], "an item in its order");
-    expect(out[SLOTS], 0, "the array behind the last item");
+    expect(out[SLOTS], 0, "the array after the last item");
     expect(kfifo_finish(&passes[0]), KFIFO_DONE, "the end");
     expect(kfifo_put_all(&passes[0], in, 1, &many), KFIFO_FINISHED, "a put after the end");
     expect(kfifo_get_up_to(&passes[1], out, 1, &many), KFIFO_FINISHED, "a get after the end");

@@ -51,7 +51,7 @@ struct Copied {
 std::atomic<long> Copied::alive{0};
 int Copied::throws_at = -1;
 
-// A container that has room for so many values.
+// A container that has room for that many values.
 template <typename T> struct Bounded {
     std::size_t room;
     std::vector<T> values = {};

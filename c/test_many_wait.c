@@ -65,7 +65,7 @@ static void what_values_come_to(void) {
            "a take of the rest");
     expect(many, 1, "it does not wait for more than are there");
     for (size_t i = 0; i < 3; i++) expect(out[i], in[i], "a value in its order");
-    expect(out[3], 1003, "the array behind the last one");
+    expect(out[3], 1003, "the array after the last one");
 
     expect(kfifo_give_all_wait(&passes[0], in, MOST, &many, 0), KFIFO_TIMED_OUT, "a give without time");
     expect(many, SLOTS, "as many as there are slots are given");
@@ -112,7 +112,7 @@ static void what_items_come_to(void) {
     expect(kfifo_get_up_to_wait(&passes[1], out, MOST, &many, KFIFO_FOREVER), KFIFO_DONE, "a get of what is there");
     expect(many, SLOTS, "all are got");
     for (size_t i = 0; i < SLOTS; i++) expect(out[i], in[i], "an item in its order");
-    expect(out[SLOTS], 0, "the array behind the last item");
+    expect(out[SLOTS], 0, "the array after the last item");
     expect(kfifo_finish(&passes[0]), KFIFO_DONE, "the end");
     expect(kfifo_put_all_wait(&passes[0], in, 1, &many, KFIFO_FOREVER), KFIFO_FINISHED, "a put after the end");
     expect(kfifo_get_up_to_wait(&passes[1], out, 1, &many, KFIFO_FOREVER), KFIFO_FINISHED, "a get after the end");
@@ -182,8 +182,8 @@ static void *give_each(void *argument) {
     return NULL;
 }
 
-/* Starts a thread for each of so many handles from the second on, which makes this call for `count` values, and returns
-   when all have announced that they wait. */
+/* Starts a thread for each of that many handles from the second on, which makes this call for `count` values, and
+   returns when all have announced that they wait. */
 static void start(kfifo_value_pass *passes, struct side *sides, pthread_t *threads, size_t number_of_them,
                   void *(*call)(void *), uint64_t count) {
     for (size_t i = 1; i <= number_of_them; i++) {
@@ -249,7 +249,7 @@ static void takes_get_all(void) {
     expect(kfifo_abandon_values(passes, THREADS), KFIFO_DONE, "an abandon");
 }
 
-/* One call takes a value for each of so many threads that wait for room, and wakes them all: no thread makes another
+/* One call takes a value for each of several threads that wait for room, and wakes them all: no thread makes another
    call. */
 static void one_take_wakes(size_t givers) {
     kfifo_value_pass passes[THREADS];

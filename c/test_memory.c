@@ -1,4 +1,4 @@
-/* Each request of an open, of a close and of a change of generations for memory is refused in turn: it is answered,
+/* Each request of an open, of a close and of a change of generations for memory is refused once: it is answered,
    nothing is half done, and nothing leaks. And generations go: through hundreds of changes the memory does not grow. */
 #include "kfifo.h"
 #include <stdio.h>
@@ -25,7 +25,7 @@ static int is_refused(void) {
     return requests == refused || (all_after && refused && requests > refused);
 }
 
-/* Each block begins with its size. Behind that it is aligned as malloc aligns. */
+/* Each block begins with its size. After that it is aligned as malloc aligns. */
 enum { HEAD = 16 };
 
 static size_t size_of(const void *block) {
@@ -407,8 +407,8 @@ static long generations_go(int of_cells) {
     return made;
 }
 
-/* Opens a queue, gives and takes so many values by two handles, and leaves six inside. The third handle is still in the
-   first generation. Returns how many bytes more there are than after the opening. */
+/* Opens a queue, gives and takes that many values by two handles, and leaves six inside. The third handle is still in
+   the first generation. Returns how many bytes more there are than after the opening. */
 static long opens_several(struct queue *queue, int of_cells, uint64_t before) {
     uint64_t next = 0;
     opens_few(queue, of_cells);
@@ -419,7 +419,7 @@ static long opens_several(struct queue *queue, int of_cells, uint64_t before) {
     return bytes - opened;
 }
 
-/* Closes queues with several generations, and asks for their room, with each request in turn refused. Returns how many
+/* Closes queues with several generations, and asks for their room, with each request refused once. Returns how many
    of them had more than two generations. */
 static long closes_several(int of_cells) {
     static struct queue queue;
@@ -439,7 +439,7 @@ static long closes_several(int of_cells) {
     return cases;
 }
 
-/* Refuses each request of an open and of a close of values or of cells in turn. Writes how many of each there are. */
+/* Refuses each request of an open and of a close of values or of cells once. Writes how many of each there are. */
 static void each_request(int of_cells, long *of_open, long *of_close) {
     static struct queue queue;
     for (tried = 1; !opens_queue(&queue, of_cells, tried);) tried++;

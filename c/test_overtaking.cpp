@@ -45,7 +45,7 @@ struct Call {
     std::uint32_t handle = 0;
     bool is_give = false;
     std::uint64_t value = 0; // that it gives, or that it took
-    long steps = 0;          // after so many instructions it stops; 0: it does not
+    long steps = 0;          // after that many instructions it stops; 0: it does not
     bool has_stopped = false;
     kfifo_status status = KFIFO_BAD_CALL;
     std::uint64_t begins = 0, ends = 0;
@@ -157,7 +157,7 @@ class Run {
     }
     ~Run() { expect(kfifo_abandon_values(passes.data(), passes.size()), KFIFO_DONE, "abandon"); }
 
-    // A call by this handle begins in a thread of its own, and stops after so many instructions, or ends before.
+    // A call by this handle begins in a thread of its own, and stops after that many instructions, or ends before.
     std::unique_ptr<Call> begin(std::uint32_t handle, bool is_give, long steps) {
         auto call = std::make_unique<Call>();
         prepare(*call, handle, is_give);
@@ -280,7 +280,7 @@ class Run {
 
 // ---- Late gives ----
 
-// A give is late after so many instructions: it has found its generation to be the newest, and has not put its value.
+// A give is late after that many instructions: it has found its generation to be the newest, and has not put its value.
 long late_steps = 0;
 
 void find_late_steps() {
@@ -323,7 +323,7 @@ struct Outcome {
     }
 };
 
-// The first handle makes so many pairs of calls in the new generation, so that its take begins at another slot.
+// The first handle makes that many pairs of calls in the new generation, so that its take begins at another slot.
 Outcome run_late(const Plan &plan, std::uint32_t pairs, long take_steps) {
     std::vector<std::unique_ptr<Call>> gives, takes;
     Run run(plan.k, plan.takers + plan.givers);
@@ -369,8 +369,8 @@ void late_gives(const Plan &plan) {
 
 // ---- Calls that follow others ----
 
-// A call of a handle that has others to follow stops after so many instructions, and they go on to further generations.
-// Returns whether it ended before it would have stopped.
+// A call of a handle that has others to follow stops after that many instructions, and they go on to further
+// generations. Returns whether it ended before it would have stopped.
 bool run_behind(bool is_give, long steps) {
     Run run(1, 2);
     run.change(0);

@@ -1,5 +1,5 @@
 // The values of a queue as a range of C++20, where the compiler has ranges: a view takes as many values as it is asked
-// for, and those behind them stay in the queue.
+// for, and those after them stay in the queue.
 #include "kfifo.hpp"
 
 #include <cstdio>

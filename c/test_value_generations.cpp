@@ -46,7 +46,7 @@ std::atomic<long> Parcel::alive{0};
 
 using Parcels = kfifo::ValueQueue<Parcel>;
 
-// A queue whose generations have so many versions, and a reserve of half of them.
+// A queue whose generations have that many versions, and a reserve of half of them.
 Parcels few_versions(std::uint32_t k, std::uint32_t segments, std::size_t threads, std::uint64_t last) {
     return Parcels(k, segments, threads, k * segments + 1, {last, last / 2});
 }
@@ -289,7 +289,7 @@ struct Story {
 };
 
 // Gives while there is room, and then takes some. So there are many values inside, also when generations change. It
-// stops once all threads have made so many calls.
+// stops once all threads have made that many calls.
 Story give_and_take(Parcels::Handle handle, std::uint64_t thread, std::atomic<long> &calls) {
     Story story;
     std::uint64_t next = thread << 32;
@@ -311,7 +311,7 @@ Story give_and_take(Parcels::Handle handle, std::uint64_t thread, std::atomic<lo
     return story;
 }
 
-// Four threads that are stopped after so many calls in all.
+// Four threads that are stopped after that many calls in all.
 Story stopped_after(Parcels &queue, long calls_of_all) {
     std::atomic<long> calls{calls_of_all};
     Story stories[4];

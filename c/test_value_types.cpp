@@ -81,7 +81,7 @@ struct Thrown {};
 struct Counted {
     static constexpr std::uint64_t whole = 0x7768'6f6c'6521'2121;
     static std::atomic<long> alive, wrong;
-    static long throw_after; // so many more objects are made before one throws; below 0 none does
+    static long throw_after; // how many more objects are made before one throws; below 0 none does
 
     explicit Counted(int what) : number((may_throw(), new int(what))), is_whole(whole) { alive++; }
     Counted(const Counted &other) : number((may_throw(), other.copy())), is_whole(whole) { alive++; }
@@ -182,7 +182,7 @@ struct Slow : Counted {
     ~Slow() { std::this_thread::sleep_for(std::chrono::milliseconds(10)); }
 };
 
-// Whether a call throws Thrown when it has made so many objects.
+// Whether a call throws Thrown when it has made that many objects.
 template <typename Call> bool throws(long after, Call call) {
     Counted::throw_after = after;
     bool has_thrown = false;

@@ -77,8 +77,8 @@ static void *take_all(void *argument) {
     }
 }
 
-/* So many givers and takers over a small ring, where both sides sleep often. The queue is finished when all givers have
-   ended. */
+/* That many givers and takers over a small ring, where both sides sleep often. The queue is finished when all givers
+   have ended. */
 static void run(uint32_t givers, uint32_t takers, uint32_t k, int of_items, uint32_t values) {
     enum { SEGMENTS = 2 };
     static kfifo_value_pass of_values[MOST];
@@ -183,7 +183,7 @@ static pthread_t start(struct call *call, kfifo_value_pass *pass, int gives, uin
     return id;
 }
 
-/* Waits until so many threads have announced themselves, and a little longer, so that they sleep. */
+/* Waits until that many threads have announced themselves, and a little longer, so that they sleep. */
 static void until_asleep(const kfifo_value_pass *pass, uint32_t threads, uint32_t kind) {
     kfifo_waits *waits = KFIFO_WAITS(pass);
     while ((kfifo_waits_state(waits) & (kind == KFIFO_WAITS_TAKER ? KFIFO_WAITS_TAKERS : KFIFO_WAITS_GIVERS)) !=

@@ -53,7 +53,7 @@ struct Thread {
     Step step;
     bool gives;               // it gives values, else it takes them
     std::uint64_t left;       // how many values it still gives or takes, at most 7
-    bool finishes;            // it finishes the queue behind its calls
+    bool finishes;            // it finishes the queue after its calls
     bool until_end;           // it takes until the queue is finished
     bool is_announced;        // it is among those that wait
     bool is_current;          // the word that it would sleep on is what it read
@@ -74,8 +74,8 @@ struct Thread {
     }
 };
 
-// Two segments of k slots, with so many values in that which takes empty and in that which gives fill. As in the queue,
-// a give finds the ring full until the first of them is empty.
+// Two segments of k slots, with that many values in the one that takes empty and the one that gives fills. As in the
+// queue, a give finds the ring full until the first of them is empty.
 struct State {
     std::array<Thread, 3> threads;
     std::uint64_t k, head, tail;
@@ -137,7 +137,7 @@ class Search {
 
     static void leave(Thread &thread) { thread.is_announced = thread.is_current = false; }
 
-    // The next call, or what comes behind the last one.
+    // The next call, or what comes after the last one.
     static void begin(Thread &thread) {
         thread.sees_takers = thread.sees_givers = thread.has_slept = false;
         thread.done = 0;
@@ -183,7 +183,7 @@ class Search {
     // The next value of a call of many.
     static void go_on(Thread &thread) { thread.step = thread.gives ? see_end : look; }
 
-    // How many threads a call wakes that was of so many values: as many as wait, but one at least is looked for.
+    // How many threads a call wakes that was of that many values: as many as wait, but one at least is looked for.
     std::uint64_t wakes_of(const State &state, const Thread &thread) const {
         std::uint64_t most = state.waiting(!thread.gives);
         if (thread.done < most) most = thread.done;

@@ -41,7 +41,7 @@ std::atomic<long> Parcel::alive{0};
 
 using Parcels = kfifo::ValueQueue<Parcel>;
 
-// So many givers and takers over a ring of four slots, where both sides sleep often.
+// That many givers and takers over a ring of four slots, where both sides sleep often.
 void run(std::size_t givers, std::size_t takers) {
     Parcels queue(2, 2, givers + takers, 2);
     std::vector<std::atomic<unsigned char>> seen(VALUES);

@@ -8,9 +8,9 @@
 // With `again` an enqueue that loses its hold of the head tries again, with `once` it takes its item out. The first
 // form prints how many states there are, and `no endless schedule`, or one: its scripts, as `kfifo replay` takes them,
 // and a line for each step up to the cycle and of the cycle. A line is that of `kfifo replay --trace` without its
-// number and without the words. The second form prints a schedule of so many steps that is drawn at random. The third
+// number and without the words. The second form prints a schedule of that many steps that is drawn at random. The third
 // form prints how many steps, moves of head and tail and changes of words a stretch has at most in which no call ends
-// with an answer, or that one is endless. Its calls have so many turns, or any number with 0, and may return Busy,
+// with an answer, or that one is endless. Its calls have that many turns, or any number with 0, and may return Busy,
 // which is no answer.
 #include "states.hpp"
 

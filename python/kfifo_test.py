@@ -1077,7 +1077,7 @@ def _refuse(*_arguments: Any) -> None:
 
 def _stop(lanes: list[_Lane]) -> None:
     """Ends the workers of a round that hangs: one that spins in Python by an exception that is raised in it, and one
-    that is about to begin by its first call. One that sleeps stays behind.
+    that is about to begin by its first call. One that sleeps stays.
     """
     for lane in lanes:
         lane.put = lane.get = _refuse

@@ -30,7 +30,7 @@ THREADS = [1, 2, 4, 8, 16, 32, 64]
 WORK = [0, 120]
 QUEUES = [("kfifo", 1), ("kfifo", 4), ("kfifo", 16), ("kfifo", 64), ("ring", 0), ("tickets", 0), ("per-producer", 0)]
 NAMES = {"kfifo": "kfifo, k = {}", "ring": "Vyukov's ring", "tickets": "tickets", "per-producer": "queue per producer"}
-# What threads do: how many of n only put, only take, and do both in turn.
+# What threads do: how many of n only put, only take, and alternate both.
 LOADS = {
     "alternating": lambda n: (0, 0, n),
     "1 + n-1": lambda n: (1, n - 1, 0),

@@ -3,12 +3,12 @@
 //     scale rate QUEUE K CAPACITY PRODUCERS CONSUMERS BOTH WORK MICROSECONDS [NAME=VALUE ..]
 //     scale steps K SEGMENTS PRODUCERS CONSUMERS BOTH WORK CALLS TURNS FILLED [NAME=VALUE ..]
 //
-// Of the threads some only put, some only take, and some do both in turn, with so many nanoseconds of work between two
+// Of the threads some only put, some only take, and some alternate both, with that many nanoseconds of work between two
 // calls. The first form begins half full, and prints the calls that put or took an item in a microsecond, and the
 // transfers of a cache line for each. QUEUE is kfifo, ring, tickets or per-producer. The second form prints the scripts
 // of the threads, as `kfifo replay` takes them, and a line for each step of this repository's queue, as `kfifo replay
-// --trace` prints it: each thread makes so many calls, the first one some more to fill the queue. A cost of machine.hpp
-// can be set by its name, and `first_slot`, `stride`, `probes`, `wait` and `seed`.
+// --trace` prints it: each thread makes that many calls, the first one some more to fill the queue. A cost of
+// machine.hpp can be set by its name, and `first_slot`, `stride`, `probes`, `wait` and `seed`.
 #include "kfifo.hpp"
 #include "queues.hpp"
 
@@ -55,7 +55,7 @@ template <class Queue> Detached fill(Queue &queue, Core core, Word items) {
     for (Word item = 1; item <= items; item++) co_await queue.put(core, item);
 }
 
-// Makes calls until so many are made, and counts those that put or took an item.
+// Makes calls until that many are made, and counts those that put or took an item.
 template <class Queue>
 Detached run_thread(Queue &queue, Core core, Threads threads, std::uint64_t calls, std::uint64_t &count) {
     const bool puts = threads.puts(core.number), takes = threads.takes(core.number);
@@ -152,7 +152,7 @@ void print_steps(const std::vector<int> &words, const Settings &settings) {
     for (const std::string &step : queue.steps) std::cout << step << '\n';
 }
 
-// Returns the numbers from `begin` on, of which there are `count`, and what is set behind them.
+// Returns the numbers from `begin` on, of which there are `count`, and what is set after them.
 std::pair<std::vector<int>, Settings> parsed(const std::vector<std::string> &words, std::size_t begin,
                                              std::size_t count) {
     if (words.size() < begin + count) throw std::invalid_argument("there are too few words");

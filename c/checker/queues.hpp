@@ -259,7 +259,7 @@ template <RingFault fault> class Ring {
     alignas(64) std::atomic<std::uint64_t> head{0};
 };
 
-// ---- Queues of linked nodes, which are used again. A link is an index and a tag of so many bits ----
+// ---- Queues of linked nodes, which are used again. A link is an index and a tag of that many bits ----
 
 constexpr std::uint64_t NIL = 0xffffffff;
 

@@ -1,5 +1,5 @@
 // What the compiler says to a check whose functions are of the wrong types: `make -C c headers` compiles each case, and
-// compares the one error that it has to have with the text behind `says:`. Case 0 is right.
+// compares the one error that it has to have with the text after `says:`. Case 0 is right.
 #include "kfifo_test.hpp"
 
 #include <string>

@@ -61,7 +61,7 @@ template <class Work> std::thread start(std::shared_future<void> go, Work work) 
 void run(bool broken, bool is_short) {
     Queue queue(broken);
     std::vector<kfifo::ThreadLog> logs;
-    // The last log, that of the main thread, has room for all items and the Empty behind them.
+    // The last log, that of the main thread, has room for all items and the Empty after them.
     for (unsigned t = 0; t <= WORKERS; t++) logs.emplace_back(t, is_short ? 10 : 2 * ITEMS + 1);
 
     std::promise<void> start_now;

@@ -56,7 +56,7 @@ def consume(shared, log, start):
 def main():
     mode = sys.argv[1] if len(sys.argv) > 1 else ""
     shared = {"broken": BrokenQueue, "own": OwnQueue}.get(mode, queue.Queue)()
-    # The last log, that of the main thread, has room for all items and the Empty behind them.
+    # The last log, that of the main thread, has room for all items and the Empty after them.
     room = 10 if mode == "short" else 2 * ITEMS + 1
     logs = [kfifo_log.ThreadLog(thread, room) for thread in range(5)]
     start = threading.Barrier(4)  # so that the threads run side by side

@@ -62,7 +62,7 @@ fn consume(queue: &Queue, log: &mut ThreadLog, start: &Barrier) {
 fn main() -> io::Result<()> {
     let mode = std::env::args().nth(1).unwrap_or_default();
     let queue = &Queue::new(mode == "broken");
-    // The main thread has room for each item, the one that comes twice, and the Empty behind them.
+    // The main thread has room for each item, the one that comes twice, and the Empty after them.
     let room = if mode == "short" {
         10
     } else {

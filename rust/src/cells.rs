@@ -8,7 +8,7 @@ const APART: usize = 128;
 /// How many cells have their bits in a line of the cache.
 const BITS: usize = 512;
 
-/// The bits of so many cells, on a line of the cache.
+/// The bits of that many cells, on a line of the cache.
 #[repr(align(64))]
 #[derive(Clone, Copy, Default)]
 struct Bits([u64; BITS / 64]);
@@ -42,7 +42,7 @@ pub(crate) struct Cells<T> {
     gap: usize,
 }
 
-/// So many of what `make` makes; none where there is no memory for them.
+/// That many of what `make` makes; none where there is no memory for them.
 fn boxed<V>(count: usize, make: fn() -> V) -> Option<Box<[V]>> {
     let mut all = Vec::new();
     all.try_reserve_exact(count).ok()?;

@@ -426,7 +426,7 @@ impl<T> Handle<T> {
         }
     }
 
-    /// As [`Handle::push_wait`], for so long at most: then it is refused as `TimedOut`. With no time it does not sleep.
+    /// As [`Handle::push_wait`], for that time at most: then refused as `TimedOut`. With no time it does not sleep.
     ///
     /// Cost: as [`Handle::push_wait`].
     ///
@@ -503,7 +503,7 @@ impl<T> Handle<T> {
         unsafe { self.shared.pop(self.number, Looks::Within(ffi::FOREVER)) }
     }
 
-    /// As [`Handle::pop_wait`], for so long at most: then the error is `TimedOut`. With no time it does not sleep.
+    /// As [`Handle::pop_wait`], for that time at most: then the error is `TimedOut`. With no time it does not sleep.
     ///
     /// Cost: as [`Handle::pop_wait`].
     ///

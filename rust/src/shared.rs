@@ -411,7 +411,7 @@ impl<T> Shared<T> {
         }
     }
 
-    /// Puts a value, and looks for room so often.
+    /// Puts a value, and looks for room that often.
     ///
     /// # Safety
     ///
@@ -448,7 +448,7 @@ impl<T> Shared<T> {
         })
     }
 
-    /// Takes a value, and looks for one so often.
+    /// Takes a value, and looks for one that often.
     ///
     /// # Safety
     ///
@@ -462,7 +462,7 @@ impl<T> Shared<T> {
         }
     }
 
-    /// Receives a cell, and looks for one so often.
+    /// Receives a cell, and looks for one that often.
     ///
     /// # Safety
     ///

@@ -8,7 +8,7 @@ use std::sync::atomic::{AtomicBool, AtomicI64, AtomicU8, AtomicU64, Ordering};
 use std::thread;
 use std::time::Duration;
 
-/// A value that owns memory. All share `alive`, so many are alive, and one more.
+/// A value that owns memory. All share `alive`: as many are alive, and one more.
 struct Parcel {
     number: Box<u64>,
     _alive: Arc<()>,
@@ -23,7 +23,7 @@ impl Parcel {
     }
 }
 
-/// A queue whose generations have so many versions, and a reserve of half of them.
+/// A queue whose generations have that many versions, and a reserve of half of them.
 fn few_versions(k: u32, segments: u32, handles: usize, last: u64) -> Queue<Parcel> {
     let versions = Versions {
         last,
@@ -346,7 +346,7 @@ fn each_value_comes_out_once_and_in_order_up_to_the_bound() {
 }
 
 /// Pushes while there is room, and then pops some, so that there are many values inside, also when generations change.
-/// It stops once all threads have made so many calls. Returns what it has put, and what it has taken.
+/// It stops once all threads have made that many calls. Returns what it has put, and what it has taken.
 fn push_and_pop(
     handle: &Handle<Parcel>,
     alive: &Arc<()>,
@@ -377,7 +377,7 @@ fn push_and_pop(
     [pushed, popped]
 }
 
-/// What four threads have put and taken until they are stopped, after so many calls in all.
+/// What four threads have put and taken until they are stopped, after that many calls in all.
 fn stopped_after(queue: &Queue<Parcel>, alive: &Arc<()>, calls: i64) -> [Vec<u64>; 2] {
     let calls = AtomicI64::new(calls);
     let all = thread::scope(|scope| {

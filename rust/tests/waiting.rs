@@ -7,7 +7,7 @@ use std::time::{Duration, Instant};
 
 const VALUES: usize = 50_000;
 
-/// So many producers and consumers over a ring of four slots, where both sides sleep often.
+/// That many producers and consumers over a ring of four slots, where both sides sleep often.
 fn run(producers: usize, consumers: usize) {
     let queue = Queue::with_tokens(2, 2, producers + consumers, 2).expect("the sizes are in range");
     let still_pushing = AtomicUsize::new(producers);

@@ -16,7 +16,7 @@ const KEPT_ROUNDS: u32 = 2_000;
 /// How many puts bring a count of 16 bits back to 0, and how many of them are left for the rounds at most.
 const WRAP: u64 = 1 << 16;
 const SHORT_OF_WRAP: u64 = 2_048;
-/// One part in so many of the time goes into it.
+/// One part in this many of the time goes into it.
 const AGING_SHARE: u32 = 4;
 /// Of how many rounds one is looked at for overlapping calls, and of how many one for its least k.
 const SAMPLED: u64 = 8;

@@ -24,7 +24,7 @@
 //! # A call that hangs
 //!
 //! No thread can be ended from outside. [`check`] panics with the report in the thread that called it, and the worker
-//! threads that hang stay behind, with the queue and the closures, until the process ends. One that spins keeps its
+//! threads that hang stay, with the queue and the closures, until the process ends. One that spins keeps its
 //! processor busy meanwhile, so later tests of the same process are slower. A process whose main thread returns ends
 //! them.
 //!

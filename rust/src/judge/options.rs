@@ -40,7 +40,7 @@ pub struct Options {
     pub repeated: Option<u32>,
     /// Whether a round without a verdict fails: no. It is counted in any case.
     pub undecided_fails: bool,
-    /// A call hangs when it has used so many seconds of processor time, or has taken ten times as long on the clock:
+    /// A call hangs when it has used this many seconds of processor time, or has taken ten times as long on the clock:
     /// 0.5, and so 5 seconds.
     pub hang_seconds: f64,
     /// How many choices the search for an order may take back in a round: [`TRIES`].
@@ -86,7 +86,7 @@ impl Error for BadOption {}
 /// What decides whether a call is a put.
 #[derive(Clone, Copy, Debug)]
 pub(super) enum Mix {
-    /// Each thread puts and gets in turn.
+    /// Each thread alternates puts and gets.
     Alternating,
     /// Half of the threads put, the others get.
     Apart,

@@ -453,7 +453,7 @@ pub(super) struct Pool<Q, H> {
 }
 
 impl<Q: Send + Sync + 'static, H: 'static> Pool<Q, H> {
-    /// So many workers, each with room for so many calls as `room` says.
+    /// That many workers, each with room for as many calls as `room` says.
     pub(super) fn new(
         subject: Subject<Q, H>,
         threads: usize,

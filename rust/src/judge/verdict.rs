@@ -148,7 +148,7 @@ pub enum Verdict {
         text: String,
         /// How many calls there are, and how many items are left at their end.
         counts: Counts,
-        /// After how many tries the search gave up: so many choices it took back.
+        /// After how many tries the search gave up: how many choices it took back.
         tries: u64,
     },
 }
@@ -254,11 +254,11 @@ pub enum Style {
     Text = 1,
 }
 
-/// A text of a report: there is none behind a null pointer.
+/// A text of a report: a null pointer leads to none.
 ///
 /// # Safety
 ///
-/// Behind another there are so many bytes.
+/// Another leads to that many bytes.
 unsafe fn owned(text: *const c_char, length: usize) -> String {
     if text.is_null() {
         return String::new();
@@ -270,7 +270,7 @@ unsafe fn owned(text: *const c_char, length: usize) -> String {
 
 /// The text of a report.
 fn text_of(report: &ffi::Report) -> String {
-    // SAFETY: the library says that the text has so many bytes, and they live as long as the report.
+    // SAFETY: the library says that the text has that many bytes, and they live as long as the report.
     unsafe { owned(report.text, report.length) }
 }
 
@@ -410,7 +410,7 @@ fn to_c(calls: &[Call]) -> Vec<ffi::Call> {
 pub fn judge(calls: &[Call], k: u32, tries: u64) -> Result<Verdict, Fault> {
     let calls = to_c(calls);
     let mut report = ffi::Report::empty();
-    // SAFETY: there are so many calls, and the report is this function's own.
+    // SAFETY: there are that many calls, and the report is this function's own.
     let status =
         unsafe { ffi::kfifo_judge_calls(calls.as_ptr(), calls.len(), k, tries, &mut report) };
     verdict_of(status, &report)
@@ -430,7 +430,7 @@ pub fn judge(calls: &[Call], k: u32, tries: u64) -> Result<Verdict, Fault> {
 pub fn judge_text(text: &[u8], k: u32, tries: u64) -> Result<Verdict, Fault> {
     let mut report = ffi::Report::empty();
     let start = text.as_ptr().cast();
-    // SAFETY: the text has so many bytes, and the report is this function's own.
+    // SAFETY: the text has that many bytes, and the report is this function's own.
     let status = unsafe { ffi::kfifo_judge_text(start, text.len(), k, tries, &mut report) };
     verdict_of(status, &report)
 }

@@ -4,7 +4,7 @@ use crate::Versions;
 
 const TIMES: u32 = 20;
 
-/// What a call comes to that is busy so often before it is done, and how many looks it made.
+/// What a call comes to that is busy that often before it is done, and how many looks it made.
 fn busy_for(times: u32, looks: Looks) -> (u32, u32) {
     let shared =
         Shared::<u64>::open(1, 8, 1, 9, Versions::default()).expect("the sizes are in range");

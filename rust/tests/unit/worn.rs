@@ -11,7 +11,7 @@ type Value = (u64, Rc<()>);
 /// A queue with the versions 0 to `last` alone. One thread makes all calls here.
 struct Worn {
     shared: Shared<Value>,
-    /// What each value shares: so many values are alive, and one more.
+    /// What each value shares: as many values are alive, and one more.
     alive: Rc<()>,
 }
 
@@ -44,7 +44,7 @@ impl Worn {
         Rc::strong_count(&self.alive) - 1
     }
 
-    /// Puts values by all passes in turn, and takes one now and then, until a version is used up: what is left.
+    /// Puts values by one pass after the other, and takes one now and then, until a version is used up: what is left.
     fn wear(&self, takes_each: u64) -> Vec<u64> {
         let passes = self.shared.passes.0.len() as u64;
         let mut left = Vec::new();
