@@ -130,6 +130,10 @@ KFIFO_MUST_USE static inline int kfifo_may_retry(kfifo_status status) {
 /* The greatest number of tokens a thread. */
 #define KFIFO_MAX_TOKENS UINT32_C(1024)
 
+/* How many tokens a thread may keep for itself, and how many a queue of values or cells has at most. */
+#define KFIFO_SPARE_TOKENS UINT32_C(32)
+#define KFIFO_MOST_TOKENS UINT32_C(65536)
+
 /* A handle of a queue of items, one for each thread. All bytes 0 is a closed one. What it holds is the library's:
    neither read it nor write it. Hand it on by a pointer, and never use a copy. */
 typedef struct kfifo_pass {
@@ -168,7 +172,7 @@ uint32_t kfifo_c_word(kfifo_pass *pass, size_t index, uint64_t *word);
 uint32_t kfifo_c_close(kfifo_pass *passes, size_t threads, uint32_t *items, size_t room, size_t *count);
 void kfifo_c_abandon(kfifo_pass *passes, size_t threads);
 uint32_t kfifo_c_open_values(uint32_t k, uint32_t segments, uint32_t probes, uint64_t last, uint32_t tokens,
-                             uint64_t reserve, kfifo_value_pass *passes, size_t threads);
+                             uint64_t reserve, uint32_t generations, kfifo_value_pass *passes, size_t threads);
 uint32_t kfifo_c_give(kfifo_value_pass *pass, uint64_t value);
 uint32_t kfifo_c_take(kfifo_value_pass *pass, uint64_t *value);
 size_t kfifo_c_values_room(kfifo_value_pass *passes, size_t threads);
@@ -682,27 +686,39 @@ KFIFO_MUST_USE static inline kfifo_status kfifo_abandon(kfifo_pass *passes, size
    queue to have what is left, and open another. */
 
 /* How many tokens a thread it takes that a full ring returns FULL, not NO_TOKEN, whatever the other threads keep
-   between their calls: k * segments + 1 + 15 * (threads - 1), but KFIFO_MAX_TOKENS at most. A thread can always have
-   tokens - 15 * (threads - 1) values in the queue, and may find NO_TOKEN with more. Of cells those are missing besides
-   that others have reserved or received.
-   Cost: a multiplication.
+   between their calls: k * segments + 1 + 15 * (threads - 1), but KFIFO_MAX_TOKENS at most, and no more than the queue
+   may have for each of 63 or 64 threads. With fewer, a queue of values has room for threads * tokens values. Of cells a
+   thread can always have tokens - 15 * (threads - 1) in the queue, less those that others have reserved or received.
+   Cost: a multiplication and a division.
 
        uint32_t tokens = kfifo_enough_tokens(1, 4, 2);
 */
 KFIFO_MUST_USE static inline uint32_t kfifo_enough_tokens(uint32_t k, uint32_t segments, size_t threads) {
     uint64_t others = threads > 1 ? kfifo_at_most_one_over(threads) - 1 : 0;
     uint64_t enough = KFIFO_CAST(uint64_t, k) * segments + 1 + 15 * others;
-    return enough < KFIFO_MAX_TOKENS ? KFIFO_CAST(uint32_t, enough) : KFIFO_MAX_TOKENS;
+    uint64_t most = KFIFO_MOST_TOKENS / (others + 1) - KFIFO_SPARE_TOKENS;
+    if (most > KFIFO_MAX_TOKENS) most = KFIFO_MAX_TOKENS;
+    return KFIFO_CAST(uint32_t, enough < most ? enough : most);
+}
+
+static inline kfifo_status kfifo_open_values_as(uint32_t k, uint32_t segments, uint32_t tokens, uint64_t last,
+                                                uint64_t reserve, uint32_t generations, kfifo_value_pass *passes,
+                                                size_t threads) {
+    if (!passes) return KFIFO_BAD_CALL;
+    kfifo_zero(passes, sizeof *passes, threads);
+    KFIFO_OPEN(passes, threads,
+               kfifo_c_open_values(k, segments, k, last, tokens, reserve, generations, passes,
+                                   kfifo_at_most_one_over(threads)));
 }
 
 /* Opens a queue of values with versions up to `last`, 2 to KFIFO_LAST, and a `reserve`, KFIFO_RESERVE unless you test
    something: with fewer versions left, the queue goes on in its next generation. With reserve 0 it does not, and wears
    out as a queue of items does. A reserve has to last until the old generation is empty: half of a small `last` will
-   do. Each thread begins with `tokens` tokens, 1 to KFIFO_MAX_TOKENS: kfifo_enough_tokens says with how many a full
-   ring returns FULL, not NO_TOKEN. A value in the queue has a token, and the thread that takes the value gets it. A
-   thread that has a batch more than it began with, 16 or tokens / threads at most, returns a batch to the pool, where
-   others find it. DONE; BAD_CALL of a null pointer; BAD_K, BAD_SEGMENTS, BAD_LAST, BAD_RESERVE of one that is not below
-   `last`, BAD_THREADS, BAD_TOKENS, NO_MEMORY, and all handles are then closed, at most the first 64.
+   do. The queue has `tokens` tokens for each thread, 1 to KFIFO_MAX_TOKENS, and KFIFO_SPARE_TOKENS more, which a thread
+   may keep for itself: so it has room for threads * tokens values. It has KFIFO_MOST_TOKENS in all at most.
+   kfifo_enough_tokens says with how many a full ring returns FULL, not NO_TOKEN. DONE; BAD_CALL of a null pointer; BAD_K,
+   BAD_SEGMENTS, BAD_LAST, BAD_RESERVE of one that is not below `last`, BAD_THREADS, BAD_TOKENS, NO_MEMORY, and all
+   handles are then closed, at most the first 64.
    Cost: it asks for the memory of the queue and of its tokens, and writes to each word.
 
        if (kfifo_open_values_with(1, 4, 8, 64, 32, passes, 2) != KFIFO_DONE) return 1; // it changes all the time
@@ -710,10 +726,7 @@ KFIFO_MUST_USE static inline uint32_t kfifo_enough_tokens(uint32_t k, uint32_t s
 KFIFO_MUST_USE static inline kfifo_status kfifo_open_values_with(uint32_t k, uint32_t segments, uint32_t tokens,
                                                                  uint64_t last, uint64_t reserve,
                                                                  kfifo_value_pass *passes, size_t threads) {
-    if (!passes) return KFIFO_BAD_CALL;
-    kfifo_zero(passes, sizeof *passes, threads);
-    KFIFO_OPEN(passes, threads,
-               kfifo_c_open_values(k, segments, k, last, tokens, reserve, passes, kfifo_at_most_one_over(threads)));
+    return kfifo_open_values_as(k, segments, tokens, last, reserve, 1, passes, threads);
 }
 
 /* Opens a queue of values that does not wear out. Returns what kfifo_open_values_with does.
@@ -725,6 +738,22 @@ KFIFO_MUST_USE static inline kfifo_status kfifo_open_values_with(uint32_t k, uin
 KFIFO_MUST_USE static inline kfifo_status kfifo_open_values(uint32_t k, uint32_t segments, uint32_t tokens,
                                                             kfifo_value_pass *passes, size_t threads) {
     return kfifo_open_values_with(k, segments, tokens, KFIFO_LAST, KFIFO_RESERVE, passes, threads);
+}
+
+/* Opens a queue of values that does not wear out, and that grows: a give that finds no room opens the next generation,
+   as long as there are fewer than `generations`, 1 to 129 - 2 * threads. Takes empty the older ones first. One that is
+   empty goes with its memory, once each handle that gave to it has made another call. So the queue has room for
+   generations * threads * tokens values at most, and a give beyond that returns FULL or NO_TOKEN. It also does where
+   memory for a generation is missing. Returns what kfifo_open_values_with does; BAD_CALL of generations out of range.
+   Cost: as kfifo_open_values_with, and a give that opens a generation asks for as much again.
+
+       kfifo_value_pass growing[2];
+       if (kfifo_open_growing_values(1, 1024, 512, 100, growing, 2) != KFIFO_DONE) return 1; // up to 102,400 values
+*/
+KFIFO_MUST_USE static inline kfifo_status kfifo_open_growing_values(uint32_t k, uint32_t segments, uint32_t tokens,
+                                                                    uint32_t generations, kfifo_value_pass *passes,
+                                                                    size_t threads) {
+    return kfifo_open_values_as(k, segments, tokens, KFIFO_LAST, KFIFO_RESERVE, generations, passes, threads);
 }
 
 static inline kfifo_status kfifo_bare_give(kfifo_value_pass *pass, uint64_t value) {

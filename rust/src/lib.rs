@@ -158,7 +158,8 @@ impl<T> Queue<T> {
         Queue::with_tokens(k, segments, handles, enough_tokens(k, segments, handles))
     }
 
-    /// As [`Queue::new`], with a number of tokens a handle, 1 to 1,024.
+    /// As [`Queue::new`], with a number of tokens a handle, 1 to 1,024. For 63 handles the most are 1,008, and for 64
+    /// handles 992.
     ///
     /// A value in the queue has a token. The handle that takes the value gets the token. Where it then has 16 more than
     /// it began with (or `tokens / handles`, if that is less), it returns these to the pool, where others find them.
@@ -575,9 +576,11 @@ impl<T> Drop for FinishOnDrop<'_, T> {
 /// Tokens a handle with which a push finds one until the queue is full, or else as many as there can be.
 fn enough_tokens(k: u32, segments: u32, handles: usize) -> u32 {
     // Each other handle keeps up to 15 more than it began with. More than 64 handles are refused.
-    let kept = 15 * handles.clamp(1, 65) as u64 - 15;
-    let enough = u64::from(k) * u64::from(segments) + 1 + kept;
-    enough.min(u64::from(MAX_TOKENS)) as u32
+    let handles = handles.clamp(1, 65) as u64;
+    let enough = u64::from(k) * u64::from(segments) + 1 + 15 * (handles - 1);
+    // A queue has 65,536 at most, with 32 more for each handle.
+    let most = (65_536 / handles - 32).min(u64::from(MAX_TOKENS));
+    enough.min(most) as u32
 }
 
 /// A time in nanoseconds. One beyond the clock, some 584 years, is for ever.

@@ -184,7 +184,8 @@ fn sizes_out_of_range_are_refused() {
     );
     assert_eq!(refused(1, 2, 1, 0), Some(OpenError::TokensOutOfRange));
     assert_eq!(refused(1, 2, 1, 1025), Some(OpenError::TokensOutOfRange));
-    assert_eq!(refused(64, 1024, 64, 1024), None);
+    assert_eq!(refused(1, 2, 64, 993), Some(OpenError::TokensOutOfRange));
+    assert_eq!(refused(64, 1024, 64, 992), None);
 }
 
 #[test]

@@ -380,9 +380,9 @@ fn calls_are_values_too() {
 fn values_too_large_are_refused() {
     type Large = [u8; 1 << 46];
     type Larger = [u8; (1 << 47) - 4096];
-    let refused = Queue::<Large>::with_tokens(4, 16, 64, 1024).err();
+    let refused = Queue::<Large>::with_tokens(4, 16, 62, 1024).err();
     assert_eq!(refused, Some(OpenError::OutOfMemory));
-    let refused = Queue::<Larger>::with_tokens(4, 16, 64, 1024).err();
+    let refused = Queue::<Larger>::with_tokens(4, 16, 62, 1024).err();
     assert_eq!(refused, Some(OpenError::OutOfMemory));
     let refused = Queue::<Larger>::with_tokens(4, 16, 64, 1025).err();
     assert_eq!(refused, Some(OpenError::TokensOutOfRange));

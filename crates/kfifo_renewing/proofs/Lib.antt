@@ -8,3 +8,4 @@ pub mod Looking
 pub mod Giving
 pub mod Closing
 pub mod Departures
+pub mod Refusing

@@ -18,11 +18,14 @@ use Rattle.kfifo_live.specs.Schedule.{count_up}
 use Rattle.kfifo_live.specs.Tokens.{token_opening}
 use Rattle.kfifo_live.specs.declared.payload.opening.TheConstants.{MOST_TOKENS}
 use Rattle.kfifo_live.specs.declared.tokens.sizes.Sizes.{Sizes}
+use Rattle.kfifo_live.specs.declared.tokens.sizes.SizesFault.{SizesFault}
 use Rattle.kfifo_live.specs.declared.view.Opening.{Opening}
 use Rattle.kfifo_pool.specs.Pooled.{GivesOne, Pooled, ReceivesOne}
 use Rattle.kfifo_renewing.specs.History.{HasLeft, IsGone, IsMade, NewestWas, WasNewest, newest_of, place_count, sight_of}
 use Rattle.kfifo_renewing.specs.declared.change.Change.{Change}
 use Rattle.kfifo_renewing.specs.declared.change.Sight.{Sight}
+use Rattle.kfifo_renewing.specs.declared.fault.CapacityFault.{CapacityFault}
+use Rattle.kfifo_renewing.specs.declared.fault.CapacityFault.TheVariants as F
 use Rattle.kfifo_renewing.specs.declared.places.Lineage.{Lineage}
 
 -- the shape of the same sizes whose enqueues hold again
@@ -58,6 +61,11 @@ opening_again s = opening_of (sizes_again s)
 -- for so many, and for those that its threads may keep
 abbrev pub generations_for : ℕ → ℕ
 generations_for threads = place_count - (2 * threads + 1)
+
+-- why there is no queue for a capacity: no sizes, or no memory
+abbrev pub RefusesFor : CapacityFault → Option SizesFault → Type 0
+RefusesFor (F.Sizes fault) found = found ≡ Some fault
+RefusesFor F.Memory found = found ≡ None
 
 -- there are threads and tokens, and not too many
 pub record AreInRange (s : Sizes) : Type 0 where

@@ -96,10 +96,7 @@ fn seat_all<T: Drop>(
 }
 
 /// The handle of this thread, if it waits in this place.
-fn handle_in<T: Drop>(
-    place: Counted<Option<Waiting<T>>>,
-    thread: u32,
-) -> Option<PooledHandle<T>>
+fn handle_in<T: Drop>(place: Counted<Option<Waiting<T>>>, thread: u32) -> Option<PooledHandle<T>>
     ensures { IfSome result (λ h. IsPassOf place h.held.pass.pass × (h.held.pass.pass.thread ≡ thread)) }
 {
     let waiting = place.into_inner()?;

@@ -1,22 +1,20 @@
 //! What the handles of a renewing queue share, its opening and its end.
 ghost use Rattle.std.specs.Prelude.{◌≡◌, ◌<◌, ◌≤◌, ◌*◌, ◌++◌, ◌⊎◌, ◌↔◌, All, IfOk, IfSome, IsErrOf, ℕ, List, [], ◌∷◌};
-ghost use Rattle.std.specs.Prelude.{Some, length, map};
+ghost use Rattle.std.specs.Prelude.{MatchResult, None, length, map};
 ghost use Rattle.kfifo_live.specs.Capacities.{sizes_fault};
 ghost use Rattle.kfifo_live.specs.Pass.{HasNoEvent, IsPassOf};
 ghost use Rattle.kfifo_live.specs.Refusals.{IsOutOf};
 ghost use Rattle.kfifo_live.specs.Schedule.{count_up};
 ghost use Rattle.kfifo_live.specs.declared.fault.OpenFault.TheVariants.{ThreadsOutOfRange, TokensOutOfRange};
 ghost use Rattle.kfifo_live.specs.declared.payload.opening.TheConstants.{MOST_TOKENS};
-ghost use Rattle.kfifo_live.specs.declared.tokens.sizes.SizesFault.{SizesFault};
 ghost use Rattle.kfifo_words.specs.declared.word.TheConstants.{MAX_VERSION};
 ghost use Rattle.logbook.specs.Pages.{may_write, nib};
 ghost use Rattle.kfifo_renewing.specs.History.{AreLabels, IsPlaced, WasNewest, key_of, place_count};
-ghost use Rattle.kfifo_renewing.specs.declared.fault.CapacityFault.TheVariants.{Sizes as NoSizes};
 ghost use Rattle.kfifo_renewing.specs.declared.fault.RenewFault.TheVariants.{GenerationsOutOfRange, Open, ReserveOutOfRange};
 ghost use Rattle.kfifo_renewing.specs.declared.places.Lineage.{Lineage};
 ghost use Rattle.kfifo_renewing.specs.Joining.{held_by};
 ghost use Rattle.kfifo_renewing.specs.Renewing.{AreInRange, ClosesAll, ClosesEach, Generations, HasOne, HaveOne, IsOfLineage};
-ghost use Rattle.kfifo_renewing.specs.Renewing.{IsOpenedAs, OpensFor, WereLeft, generations_for, opening_again, opening_of};
+ghost use Rattle.kfifo_renewing.specs.Renewing.{IsOpenedAs, OpensFor, RefusesFor, WereLeft, generations_for, opening_again, opening_of};
 ghost use Rattle.kfifo_renewing.specs.Renewing.{sizes_again};
 ghost use Rattle.kfifo_renewing.specs.declared.queue.TheConstants.{DEFAULT_RESERVE};
 
@@ -350,6 +348,37 @@ fn hold_again(sizes: Sizes) -> Sizes
     }
 }
 
+/// Tests what a queue is opened with. The first fault is returned.
+fn test_sizes(sizes: &Sizes, renewals: &Renewals) -> Result<(), RenewFault>
+    ensures ok { IfOk result (λ _. AreInRange sizes.now × (renewals.now.reserve < sizes.now.shape.last)
+        × (1 ≤ renewals.now.generations) × (renewals.now.generations ≤ generations_for sizes.now.threads)) }
+    ensures reserve { IsErrOf result ReserveOutOfRange ↔ (sizes.now.shape.last ≤ renewals.now.reserve) }
+    ensures threads { IsErrOf result (Open ThreadsOutOfRange) ↔ ((renewals.now.reserve < sizes.now.shape.last)
+        × IsOutOf MAX_THREADS sizes.now.threads) }
+    ensures tokens { IsErrOf result (Open TokensOutOfRange)
+        ↔ ((renewals.now.reserve < sizes.now.shape.last) × (1 ≤ sizes.now.threads) × (sizes.now.threads ≤ MAX_THREADS)
+        × ((sizes.now.tokens ≡ 0) ⊎ (MOST_TOKENS < sizes.now.threads * sizes.now.tokens))) }
+    ensures generations { (most : ℕ) → IsErrOf result (GenerationsOutOfRange most)
+        ↔ ((renewals.now.reserve < sizes.now.shape.last) × AreInRange sizes.now
+        × (most ≡ generations_for sizes.now.threads) × IsOutOf most renewals.now.generations) }
+{
+    if renewals.reserve >= sizes.shape.last() {
+        return Err(RenewFault::ReserveOutOfRange);
+    }
+    if sizes.threads == 0 || sizes.threads > MAX_THREADS {
+        return Err(RenewFault::Open(OpenFault::ThreadsOutOfRange));
+    }
+    let tokens = u64::from(sizes.threads) * u64::from(sizes.tokens);
+    if sizes.tokens == 0 || tokens > u64::from(MOST_TOKENS) {
+        return Err(RenewFault::Open(OpenFault::TokensOutOfRange));
+    }
+    let most = most_generations(sizes.threads);
+    if renewals.generations == 0 || renewals.generations > most {
+        return Err(RenewFault::GenerationsOutOfRange(most));
+    }
+    Ok(())
+}
+
 /// Opens a queue of owned payloads that does not wear out, with these sizes, and returns a handle for each thread. `open`
 /// finds the sizes by a capacity.
 ///
@@ -385,21 +414,13 @@ pub fn open_with<T: Drop>(
         ↔ ((renewals.reserve < sizes.shape.last) × AreInRange sizes
         × (most ≡ generations_for sizes.threads) × IsOutOf most renewals.generations) }
 {
-    if renewals.reserve >= sizes.shape.last() {
-        return Err(RenewFault::ReserveOutOfRange);
+    if let Err(fault) = test_sizes(&sizes, &renewals) {
+        return Err(fault);
     }
-    if sizes.threads == 0 || sizes.threads > MAX_THREADS {
-        return Err(RenewFault::Open(OpenFault::ThreadsOutOfRange));
+    match open_first(alloc, hold_again(sizes), renewals) {
+        Ok(handles) => Ok(handles),
+        Err(_) => Err(RenewFault::Open(OpenFault::Memory)),
     }
-    if sizes.tokens == 0 || sizes.tokens > MOST_TOKENS / sizes.threads {
-        return Err(RenewFault::Open(OpenFault::TokensOutOfRange));
-    }
-    let most = most_generations(sizes.threads);
-    if renewals.generations == 0 || renewals.generations > most {
-        return Err(RenewFault::GenerationsOutOfRange(most));
-    }
-    let handles = open_first(alloc, hold_again(sizes), renewals)?;
-    Ok(handles)
 }
 
 /// Opens a queue of owned payloads that does not wear out, with room for so many payloads, and returns a handle for each
@@ -421,13 +442,18 @@ pub fn open<T: Drop>(
     capacity: u32,
     threads: u32,
 ) -> Result<Vec<RenewingHandle<T>>, CapacityFault>
-    ensures ok { IfOk result (λ handles. OpensFor k capacity threads handles.items) }
-    ensures refused { (fault : SizesFault) → IsErrOf result (NoSizes fault)
-        ↔ (sizes_fault k capacity threads MAX_VERSION ≡ Some fault) }
+    ensures { MatchResult result
+        (λ handles. (sizes_fault k capacity threads MAX_VERSION ≡ None) × OpensFor k capacity threads handles.items)
+        (λ fault. RefusesFor fault (sizes_fault k capacity threads MAX_VERSION)) }
 {
-    let sizes = Sizes::for_capacity(k, capacity, threads, MAX_VERSION)?;
-    let handles = open_first(alloc, hold_again(sizes), Renewals::none())?;
-    Ok(handles)
+    let sizes = match Sizes::for_capacity(k, capacity, threads, MAX_VERSION) {
+        Ok(sizes) => sizes,
+        Err(fault) => return Err(CapacityFault::Sizes(fault)),
+    };
+    match open_first(alloc, hold_again(sizes), Renewals::none()) {
+        Ok(handles) => Ok(handles),
+        Err(_) => Err(CapacityFault::Memory),
+    }
 }
 
 /// The payloads that are left in a generation, by the handle of this part and those that wait there.

@@ -1,5 +1,5 @@
 -- A look, and then the give, where it found no later generation.
-use Rattle.std.proofs.Common.{◌≡◌, refl, sym, ap, ◌∙◌, subst}
+use Rattle.std.proofs.Common.{◌≡◌, refl, ap, ◌∙◌, subst}
 use Rattle.kfifo_live.specs.declared.payload.Given.TheVariants as G
 use Rattle.kfifo_pool.specs.Pooled.{GivesOne, Pooled}
 use Rattle.kfifo_live.specs.Pass.{IsSamePass}
@@ -94,7 +94,7 @@ returns-in-Done g c =
     (ap (λ (v : Generations T). v.older) c.self.view_is) (ap (λ (v : Generations T). v.number) c.self.view_is) in
     let payload = c.args.payload in
     let gives = subst (λ (v : Generations T). GivesOne payload G.Done v.newest h) c.self.view_is c.in-Done.ensures.gives in
-    (G.Done, with_newest (with_seen now new) h, gave-here payload G.Done now found new h looked none same gives, refl, is)
+    (G.Done, with_newest (with_seen now new) h, gave-here payload G.Done now found new h looked none same gives, (refl, is))
 
 pub returns-in_default : goal.returns-in_default
 returns-in_default g c =
