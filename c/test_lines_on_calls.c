@@ -62,6 +62,12 @@ static int of_values(void) {
     return kfifo_abandon_values(passes, 2) != KFIFO_DONE;
 }
 
+static int of_values_that_grow(void) {
+    kfifo_value_pass growing[2];
+    if (kfifo_open_growing_values(1, 1024, 512, 100, growing, 2) != KFIFO_DONE) return 1; // up to 102,400 values
+    return kfifo_abandon_values(growing, 2) != KFIFO_DONE;
+}
+
 static int of_values_that_wait(void) {
     kfifo_value_pass passes[2];
     uint64_t value = 0, sum = 0;
@@ -196,9 +202,9 @@ static int of_many_items_that_wait(void) {
 }
 
 int main(void) {
-    int failed = of_statuses() || of_items() || of_values() || of_values_that_wait() || of_pointers() || of_cells() ||
-                 of_cells_that_wait() || of_many_values() || of_many_values_that_wait() || of_many_items() ||
-                 of_many_items_that_wait();
+    int failed = of_statuses() || of_items() || of_values() || of_values_that_grow() || of_values_that_wait() ||
+                 of_pointers() || of_cells() || of_cells_that_wait() || of_many_values() ||
+                 of_many_values_that_wait() || of_many_items() || of_many_items_that_wait();
     puts(failed ? "lines of the headers fail" : "the lines of the headers on their calls do what they say");
     return failed;
 }
