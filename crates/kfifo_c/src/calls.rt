@@ -48,8 +48,9 @@ pub extern "C" fn kfifo_c_dequeue(pass: &mut Handle, item: &mut u32, start: u32,
     status(answer)
 }
 
-/// Puts an item into the queue of the handle, with nothing to choose: from the handle's start, in up to 65,535
-/// rounds. Returns the answer's number, or BAD_CALL, with nothing done, where the handle is closed or the item is not 1 to 2^24 - 1.
+/// Puts an item into the queue of the handle, with nothing to choose: from the handle's start, in up to 65,535 rounds.
+/// Returns the answer's number, or BAD_CALL, with nothing done, where the handle is closed or the item is not 1 to
+/// 2^24 - 1.
 #[unsafe(no_mangle)]
 pub extern "C" fn kfifo_c_put(pass: &mut Handle, item: u32) -> u32
     ensures answer { (answer : Option Answered) × (result ≡ number_of answer)
@@ -64,8 +65,8 @@ pub extern "C" fn kfifo_c_put(pass: &mut Handle, item: u32) -> u32
 }
 
 /// Takes one of the k oldest items out of the queue of the handle, with nothing to choose: from the handle's start, in
-/// up to 65,535 rounds. Writes the item if there is one. Returns the answer's number, or BAD_CALL, with nothing done, where
-/// the handle is closed.
+/// up to 65,535 rounds. Writes the item if there is one. Returns the answer's number, or BAD_CALL, with nothing done,
+/// where the handle is closed.
 #[unsafe(no_mangle)]
 pub extern "C" fn kfifo_c_get(pass: &mut Handle, item: &mut u32) -> u32
     ensures answer { (answer : Option Answered) × (result ≡ number_of answer) × (item.new ≡ item_after item.old answer)

@@ -5,7 +5,8 @@ ghost use Rattle.kfifo_words.specs.Sizes.{fault_of};
 ghost use Rattle.kfifo_live.specs.Payloads.{pay_opening};
 ghost use Rattle.kfifo_live.specs.declared.fault.OpenFault.TheVariants.{ThreadsOutOfRange, TokensOutOfRange};
 ghost use Rattle.kfifo_renewing.specs.Renewing.{HaveOne, generations_for};
-ghost use Rattle.kfifo_renewing.specs.declared.fault.RenewFault.TheVariants.{GenerationsOutOfRange, Open, ReserveOutOfRange};
+ghost use Rattle.kfifo_renewing.specs.declared.fault.RenewFault.TheVariants.{GenerationsOutOfRange, Open};
+ghost use Rattle.kfifo_renewing.specs.declared.fault.RenewFault.TheVariants.{ReserveOutOfRange};
 ghost use Rattle.kfifo_c.specs.Values.{BadGenerations, BadTokens, with_spare};
 
 use kfifo_live::{MAX_TOKENS, OpenFault, SPARE_TOKENS, Sizes};

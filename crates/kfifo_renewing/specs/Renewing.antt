@@ -1,5 +1,6 @@
 -- The generations of a renewing queue, as a handle has joined them, and what its calls do to each.
-use Rattle.std.specs.Prelude.{◌≡◌, ◌≢◌, ◌⊎◌, ◌<◌, ◌≤◌, ◌==◌, ◌+◌, ◌-◌, ◌*◌, ℕ, not, false, true, List, [], ◌∷◌, ◌++◌, All, filter, length, map, Option, Some, None}
+use Rattle.std.specs.Prelude.{◌≡◌, ◌≢◌, ◌⊎◌, ◌<◌, ◌≤◌, ◌==◌, ◌+◌, ◌-◌, ◌*◌, ℕ, not, false, true, List, [], ◌∷◌, ◌++◌}
+use Rattle.std.specs.Prelude.{All, filter, length, map, Option, Some, None}
 use Rattle.std.specs.List.{Contains}
 use mathlib.Core.List.{IsPrefix}
 use Rattle.logbook.specs.Pages.{Book}
@@ -21,7 +22,8 @@ use Rattle.kfifo_live.specs.declared.tokens.sizes.Sizes.{Sizes}
 use Rattle.kfifo_live.specs.declared.tokens.sizes.SizesFault.{SizesFault}
 use Rattle.kfifo_live.specs.declared.view.Opening.{Opening}
 use Rattle.kfifo_pool.specs.Pooled.{GivesOne, Pooled, ReceivesOne}
-use Rattle.kfifo_renewing.specs.History.{HasLeft, IsGone, IsMade, NewestWas, WasNewest, newest_of, place_count, sight_of}
+use Rattle.kfifo_renewing.specs.History.{HasLeft, IsGone, IsMade, NewestWas, WasNewest, newest_of, place_count}
+use Rattle.kfifo_renewing.specs.History.{sight_of}
 use Rattle.kfifo_renewing.specs.declared.change.Change.{Change}
 use Rattle.kfifo_renewing.specs.declared.change.Sight.{Sight}
 use Rattle.kfifo_renewing.specs.declared.fault.CapacityFault.{CapacityFault}
@@ -154,8 +156,8 @@ module _ {T : Type 0} where
     number = g.number;
   }
 
-  -- It is the handle of the same thread in the same queue, and has seen no less of the history. The number of the newest
-  -- generation of the queue has not fallen
+  -- It is the handle of the same thread in the same queue, and has seen no less of the history. The number of the
+  -- newest generation of the queue has not fallen
   pub record IsLater (old new : Generations T) : Type 0 where
     pub opened : new.opened ≡ old.opened
     pub thread : new.thread ≡ old.thread
@@ -170,7 +172,8 @@ module _ {T : Type 0} where
   -- Each generation of the queue that was the newest, up to that of the handle, has gone, or the handle has joined it
   abbrev pub HasAll : Generations T → Type 0
   HasAll g = (n : ℕ) → WasNewest g.seen n → n ≤ g.number
-      → IsGone g.seen n ⊎ ((h : HeldIn T) × Contains (all_of g) h × (h.number ≡ n) × IsMade g.seen n h.handle.held.pass.pass.table)
+      → IsGone g.seen n ⊎ ((h : HeldIn T) × Contains (all_of g) h × (h.number ≡ n)
+      × IsMade g.seen n h.handle.held.pass.pass.table)
 
   -- what a look of the handle tells, once its newest pass has seen what it has
   abbrev pub sight : Generations T → Sight
@@ -186,8 +189,8 @@ module _ {T : Type 0} where
   IsBehind old new = (number : ℕ) × NewestWas (sight new) number old.seen new.seen × (number ≢ new.number)
       × IsNumbered new
 
-  -- Of these handles in generations, some are kept as they were, in their order. The generations of the others have left
-  -- their places by this history
+  -- Of these handles in generations, some are kept as they were, in their order. The generations of the others have
+  -- left their places by this history
   abbrev pub LeavesGone : List Change → List (HeldIn T) → List (HeldIn T) → Type 0
   LeavesGone log [] kept = kept ≡ []
   LeavesGone log (h ∷ hs) kept = ((rest : List (HeldIn T)) × (kept ≡ h ∷ rest) × LeavesGone log hs rest)
@@ -195,7 +198,8 @@ module _ {T : Type 0} where
 
   -- a handle in a generation that comes after this number, in which its thread has begun no call
   abbrev pub IsNew : ℕ → List Change → HeldIn T → Type 0
-  IsNew number log h = (number < h.number) × IsMade log h.number h.handle.held.pass.pass.table × HasNoEvent h.handle.held.pass.pass
+  IsNew number log h = (number < h.number) × IsMade log h.number h.handle.held.pass.pass.table
+      × HasNoEvent h.handle.held.pass.pass
 
   -- A handle follows others. It keeps what it has joined as it is, but for generations that have left their places, and
   -- joins some later ones. Nothing is done in any of them
@@ -331,8 +335,8 @@ module _ {T : Type 0} where
   -- what such closes returned, one after the other
   abbrev pub ClosesEach : List (HeldIn T) → List T → Type 0
   ClosesEach [] payloads = payloads ≡ []
-  ClosesEach (h ∷ hs) payloads = (first : List T) × (rest : List T) × (payloads ≡ first ++ rest) × WereLeft h.handle first
-      × ClosesEach hs rest
+  ClosesEach (h ∷ hs) payloads = (first : List T) × (rest : List T) × (payloads ≡ first ++ rest)
+      × WereLeft h.handle first × ClosesEach hs rest
 
   -- What a close returned by its last handle: the handle followed others to the generation that was the newest of the
   -- queue at a look, so it is in each that has not gone, and each of its generations was closed, the oldest first

@@ -1,5 +1,6 @@
 //! A generation: a queue of payloads, with the handles that wait in it for their threads.
-ghost use Rattle.std.specs.Prelude.{◌≡◌, ◌<◌, ◌≤◌, ◌+◌, ◌++◌, [], ◌∷◌, All, IfOk, IfSome, false, length, map, true, vec_capacity};
+ghost use Rattle.std.specs.Prelude.{◌≡◌, ◌<◌, ◌≤◌, ◌+◌, ◌++◌, [], ◌∷◌, All, IfOk, IfSome, false, length, map, true};
+ghost use Rattle.std.specs.Prelude.{vec_capacity};
 ghost use Rattle.kfifo_live.specs.Pass.{HasNoEvent, IsPassOf};
 ghost use Rattle.kfifo_renewing.specs.History.{IsMade};
 ghost use Rattle.kfifo_renewing.specs.Renewing.{Numbered, other_threads, without};
@@ -210,8 +211,8 @@ impl<T: Drop> Generation<T> {
         None
     }
 
-    /// Gives the handle of this thread back, which takes it again only where it is unused: where its thread has begun no
-    /// call with it.
+    /// Gives the handle of this thread back, which takes it again only where it is unused: where its thread has begun
+    /// no call with it.
     pub(crate) fn give_back(&self, thread: u32, handle: PooledHandle<T>, is_unused: bool)
         requires of { IsPassOf self.now.queue handle.held.pass.pass }
         requires unused { is_unused ≡ true → HasNoEvent handle.held.pass.pass }

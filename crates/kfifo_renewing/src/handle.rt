@@ -6,9 +6,11 @@ ghost use mathlib.Core.List.{IsPrefix};
 ghost use Rattle.kfifo_live.specs.Pass.{HasNoEvent, IsPassOf};
 ghost use Rattle.kfifo_renewing.specs.History.{HasRisen, WasNewest, place_count};
 ghost use Rattle.kfifo_renewing.specs.Joining.{AreAmong, AreSameParts, HasJoined, IsPart, IsUnused, held_by};
-ghost use Rattle.kfifo_renewing.specs.Renewing.{Follows, Generations, GivesToNewest, GoesOn, HasAll, HeldIn, IsAtNewest, IsBehind, IsLater, LooksAgain};
+ghost use Rattle.kfifo_renewing.specs.Renewing.{Follows, Generations, GivesToNewest, GoesOn, HasAll, HeldIn};
+ghost use Rattle.kfifo_renewing.specs.Renewing.{IsAtNewest, IsBehind, IsLater, LooksAgain};
 ghost use Rattle.kfifo_renewing.specs.Renewing.{IsOpenedAs, LeavesGone, TakesFirst, TakesFromOldest, TakesNewest};
-ghost use Rattle.kfifo_renewing.specs.Renewing.{TakesOldest, TriesAgain, TriesToGive, all_of, opening_of, with_older, with_seen};
+ghost use Rattle.kfifo_renewing.specs.Renewing.{TakesOldest, TriesAgain, TriesToGive, all_of, opening_of, with_older};
+ghost use Rattle.kfifo_renewing.specs.Renewing.{with_seen};
 
 use crate::generation::Generation;
 use crate::history::History;
@@ -256,7 +258,8 @@ impl<T: Drop> RenewingHandle<T> {
         history: &History,
     )
         requires books { (history.now.book ≡ self.old.book) × (generation.value.book ≡ self.old.book) }
-        requires of { IsOpenedAs self.old.opened newest.handle × IsPassOf generation.value.queue newest.handle.held.pass.pass }
+        requires of { IsOpenedAs self.old.opened newest.handle
+            × IsPassOf generation.value.queue newest.handle.held.pass.pass }
         requires part { (newest.number ≡ generation.value.number) × IsPart history.now.log newest }
         requires later { self.old.number < generation.value.number }
         requires was { WasNewest self.old.seen generation.value.number }

@@ -4,7 +4,8 @@
 ghost use Rattle.std.specs.Prelude.{◌≡◌, ◌≢◌, ◌+◌, ◌<◌, ◌≤◌, ◌^◌, ℕ, IfOk, IfSome, true};
 ghost use Rattle.logbook.specs.Pages.{may_make, may_write, nib};
 ghost use mathlib.Core.List.{IsPrefix};
-ghost use Rattle.kfifo_renewing.specs.History.{AreLabels, Finds, HasRisen, IsMade, IsPlaced, WasNewest, key_of, place_count, sight_of};
+ghost use Rattle.kfifo_renewing.specs.History.{AreLabels, Finds, HasRisen, IsMade, IsPlaced, WasNewest, key_of};
+ghost use Rattle.kfifo_renewing.specs.History.{place_count, sight_of};
 
 use crate::change::Change;
 use crate::joined::Joined;
@@ -214,7 +215,8 @@ impl Next {
         requires book { history.old.book ≡ self.now.book }
         requires newest { WasNewest history.old.log self.now.number }
         ensures book { history.new.book ≡ history.old.book }
-        ensures finds { Finds (sight_of part.now.handle.held.pass.pass) self.now.number result history.old.log history.new.log }
+        ensures finds { Finds (sight_of part.now.handle.held.pass.pass) self.now.number result history.old.log
+            history.new.log }
     {
         let mut offer: Offer<Change, u64, HistoryRule, NoGain> = history.plain::<
             NoGain,

@@ -2,7 +2,8 @@
 ghost use Rattle.std.specs.Prelude.{◌≡◌, ◌<◌, ◌≤◌, ◌+◌, ◌^◌, ℕ, suc, List, IfOk, Some, true};
 ghost use mathlib.Core.List.{IsPrefix};
 ghost use Rattle.logbook.specs.Pages.{Cell, may_make_home, may_write, nib};
-ghost use Rattle.kfifo_renewing.specs.History.{AreLabels, FindsThere, HasLeft, IsKept, IsPlaced, key_of, label_of, newest_of};
+ghost use Rattle.kfifo_renewing.specs.History.{AreLabels, FindsThere, HasLeft, IsKept, IsPlaced, key_of, label_of};
+ghost use Rattle.kfifo_renewing.specs.History.{newest_of};
 ghost use Rattle.kfifo_renewing.specs.History.{place_count};
 ghost use Rattle.kfifo_renewing.specs.Joining.{MayGo};
 

@@ -3,12 +3,14 @@
 //! A place has a word, which says whether a generation is there, its number and how many readers look at it. Its label
 //! says the number too, and proofs speak of labels: a label is written after the place is filled, and before it is
 //! emptied.
-ghost use Rattle.std.specs.Prelude.{◌≡◌, ◌≢◌, ◌<◌, ◌≤◌, ◌+◌, ◌%◌, ◌^◌, ℕ, All, IfOk, IfSome, List, MatchBool, Some, length, true};
+ghost use Rattle.std.specs.Prelude.{◌≡◌, ◌≢◌, ◌<◌, ◌≤◌, ◌+◌, ◌%◌, ◌^◌, ℕ, All, IfOk, IfSome, List, MatchBool, Some};
+ghost use Rattle.std.specs.Prelude.{length, true};
 ghost use mathlib.Core.List.{IsPrefix};
 ghost use Rattle.counted_slot.specs.Counting.{readers};
 ghost use Rattle.logbook.specs.Pages.{Cell, may_write, nib};
 ghost use Rattle.kfifo_renewing.specs.declared.places.Lineage.{Lineage};
-ghost use Rattle.kfifo_renewing.specs.History.{AreLabels, FindsThere, HasLeft, HasRisen, IsKept, IsPlaced, WasNewest, key_of, newest_of, place_count};
+ghost use Rattle.kfifo_renewing.specs.History.{AreLabels, FindsThere, HasLeft, HasRisen, IsKept, IsPlaced, WasNewest};
+ghost use Rattle.kfifo_renewing.specs.History.{key_of, newest_of, place_count};
 ghost use Rattle.kfifo_renewing.specs.Joining.{AreAmong, HasNumber, HasOlder, IsPart, MayGo};
 ghost use Rattle.kfifo_renewing.specs.Renewing.{IsOfLineage};
 

@@ -10,11 +10,14 @@ ghost use Rattle.kfifo_live.specs.declared.payload.opening.TheConstants.{MOST_TO
 ghost use Rattle.kfifo_words.specs.declared.word.TheConstants.{MAX_VERSION};
 ghost use Rattle.logbook.specs.Pages.{may_write, nib};
 ghost use Rattle.kfifo_renewing.specs.History.{AreLabels, IsPlaced, WasNewest, key_of, place_count};
-ghost use Rattle.kfifo_renewing.specs.declared.fault.RenewFault.TheVariants.{GenerationsOutOfRange, Open, ReserveOutOfRange};
+ghost use Rattle.kfifo_renewing.specs.declared.fault.RenewFault.TheVariants.{GenerationsOutOfRange, Open};
+ghost use Rattle.kfifo_renewing.specs.declared.fault.RenewFault.TheVariants.{ReserveOutOfRange};
 ghost use Rattle.kfifo_renewing.specs.declared.places.Lineage.{Lineage};
 ghost use Rattle.kfifo_renewing.specs.Joining.{held_by};
-ghost use Rattle.kfifo_renewing.specs.Renewing.{AreInRange, ClosesAll, ClosesEach, Generations, HasOne, HaveOne, IsOfLineage};
-ghost use Rattle.kfifo_renewing.specs.Renewing.{IsOpenedAs, OpensFor, RefusesFor, WereLeft, generations_for, opening_again, opening_of};
+ghost use Rattle.kfifo_renewing.specs.Renewing.{AreInRange, ClosesAll, ClosesEach, Generations, HasOne, HaveOne};
+ghost use Rattle.kfifo_renewing.specs.Renewing.{IsOfLineage};
+ghost use Rattle.kfifo_renewing.specs.Renewing.{IsOpenedAs, OpensFor, RefusesFor, WereLeft, generations_for};
+ghost use Rattle.kfifo_renewing.specs.Renewing.{opening_again, opening_of};
 ghost use Rattle.kfifo_renewing.specs.Renewing.{sizes_again};
 ghost use Rattle.kfifo_renewing.specs.declared.queue.TheConstants.{DEFAULT_RESERVE};
 
@@ -192,9 +195,9 @@ impl<T: Drop> Shared<T> {
 /// When a queue opens its next generation.
 #[derive(Clone, Copy, PartialEq, Eq, Debug)]
 pub struct Renewals {
-    /// With fewer versions left than this, the newest generation is followed by the next one: `DEFAULT_RESERVE`, or less
-    /// for tests. It has to last until the generation is empty, which takes a version for each segment and each call
-    /// that is under way. With `NO_RENEWAL` it is not followed for its versions.
+    /// With fewer versions left than this, the newest generation is followed by the next one: `DEFAULT_RESERVE`, or
+    /// less for tests. It has to last until the generation is empty, which takes a version for each segment and each
+    /// call that is under way. With `NO_RENEWAL` it is not followed for its versions.
     pub reserve: u64,
     /// How many generations the queue may have at the same time because it grows: where the newest one has no room, it
     /// is followed by the next one as long as there are fewer. With 1 the queue does not grow.
@@ -379,13 +382,13 @@ fn test_sizes(sizes: &Sizes, renewals: &Renewals) -> Result<(), RenewFault>
     Ok(())
 }
 
-/// Opens a queue of owned payloads that does not wear out, with these sizes, and returns a handle for each thread. `open`
-/// finds the sizes by a capacity.
+/// Opens a queue of owned payloads that does not wear out, with these sizes, and returns a handle for each thread.
+/// `open` finds the sizes by a capacity.
 ///
 /// Its first generation is a queue with a pool of tokens, as `PooledQueue::open_with_payloads` opens it. Its shape is
 /// that of the sizes with enqueues that hold again, whatever it says of that: with more segments than threads the queue
-/// is then lock-free. Each later one is opened like it, when `renewals` says. A handle keeps up to `SPARE_TOKENS` tokens
-/// for itself, so a queue has room for what the threads have beyond these, as `Sizes::for_capacity` counts.
+/// is then lock-free. Each later one is opened like it, when `renewals` says. A handle keeps up to `SPARE_TOKENS`
+/// tokens for itself, so a queue has room for what the threads have beyond these, as `Sizes::for_capacity` counts.
 ///
 /// ```rust
 /// let sizes = Sizes::for_capacity(16, 1_024, 4, MAX_VERSION)?; // k, capacity, threads, greatest version
@@ -395,8 +398,8 @@ fn test_sizes(sizes: &Sizes, renewals: &Renewals) -> Result<(), RenewFault>
 ///
 /// ReserveOutOfRange where the reserve is not below the shape's greatest version; then Open with ThreadsOutOfRange
 /// where the number of threads is not 1 to 64; then Open with TokensOutOfRange where each thread has no token, or all
-/// together have more than 65,536; then GenerationsOutOfRange, with the greatest number, where the generations are not 1
-/// to 129 - 2 * threads; Open with Memory where an allocation failed. Nothing is kept after a refusal.
+/// together have more than 65,536; then GenerationsOutOfRange, with the greatest number, where the generations are not
+/// 1 to 129 - 2 * threads; Open with Memory where an allocation failed. Nothing is kept after a refusal.
 pub fn open_with<T: Drop>(
     alloc: Global,
     sizes: Sizes,
@@ -423,8 +426,8 @@ pub fn open_with<T: Drop>(
     }
 }
 
-/// Opens a queue of owned payloads that does not wear out, with room for so many payloads, and returns a handle for each
-/// thread.
+/// Opens a queue of owned payloads that does not wear out, with room for so many payloads, and returns a handle for
+/// each thread.
 ///
 /// The sizes are those of `Sizes::for_capacity`, with the greatest version that there is and `DEFAULT_RESERVE`:
 /// whatever the handles keep for themselves, the queue has room for `capacity` payloads.

@@ -1,7 +1,9 @@
 //! Queues that grow where they have no room, and shrink.
 use crate::plain::{close, give, take};
 use kfifo_live::{Given, Sizes, Taken};
-use kfifo_renewing::{DEFAULT_RESERVE, NO_RENEWAL, RenewFault, Renewals, RenewingHandle, open_with};
+use kfifo_renewing::{
+    DEFAULT_RESERVE, NO_RENEWAL, RenewFault, Renewals, RenewingHandle, open_with,
+};
 use kfifo_words::MAX_VERSION;
 use std::alloc::Global;
 use std::process::Abort;
@@ -40,8 +42,8 @@ fn empty(rt: &impl Abort, handle: &mut RenewingHandle<u64>, count: u64) {
     assert_eq!(rt; take(handle), Taken::Empty);
 }
 
-/// One thread gives 3,000 values to a queue with room for 8, and takes them in their order. Then there is one generation
-/// again.
+/// One thread gives 3,000 values to a queue with room for 8, and takes them in their order. Then there is one
+/// generation again.
 #[test]
 fn grows_and_shrinks(rt: HostRuntime) -> Result<(), Fail> {
     let mut handles = open_growing(rt.alloc(), 1, DEFAULT_RESERVE, 127)?;

@@ -1,5 +1,6 @@
 //! Opening a queue of cells.
-ghost use Rattle.std.specs.Prelude.{◌≡◌, ◌≢◌, ◌<◌, ◌≤◌, ◌⊎◌, ◌↔◌, ℕ, None, Some, IfSome, IfOk, IsErrOf, All, length, map, true};
+ghost use Rattle.std.specs.Prelude.{◌≡◌, ◌≢◌, ◌<◌, ◌≤◌, ◌⊎◌, ◌↔◌, ℕ, None, Some, IfSome, IfOk, IsErrOf, All, length};
+ghost use Rattle.std.specs.Prelude.{map, true};
 ghost use Rattle.std.specs.Prelude.{reverse};
 ghost use Rattle.kfifo_model.specs.declared.calls.TheConstants.{MAX_THREADS};
 ghost use denote.RawPtr.{Ptr};
@@ -7,7 +8,8 @@ ghost use Rattle.kfifo_words.specs.Sizes.{fault_of};
 ghost use Rattle.kfifo_live.specs.Pass.{IsPassOf, OpenQueue};
 ghost use Rattle.kfifo_live.specs.Payloads.{new_pay_passes, pay_opening};
 ghost use Rattle.kfifo_live.specs.declared.fault.OpenFault.TheVariants.{ThreadsOutOfRange, TokensOutOfRange};
-ghost use Rattle.kfifo_renewing.specs.declared.fault.RenewFault.TheVariants.{GenerationsOutOfRange, Open, ReserveOutOfRange};
+ghost use Rattle.kfifo_renewing.specs.declared.fault.RenewFault.TheVariants.{GenerationsOutOfRange, Open};
+ghost use Rattle.kfifo_renewing.specs.declared.fault.RenewFault.TheVariants.{ReserveOutOfRange};
 ghost use Rattle.kfifo_c.specs.CellHandles.{cells_behind};
 ghost use Rattle.kfifo_c.specs.CellSeats.{all_free};
 ghost use Rattle.kfifo_c.specs.CellQueues.{IsOpenedLike, OpensCells, OpensCellSizes, seats_with, tokens_of};

@@ -91,8 +91,8 @@ pub extern "C" fn kfifo_c_values_room(passes: &mut [ValueHandle]) -> usize
 /// Closes a queue by all its handles, as `kfifo_renewing::close`, and writes the values that are left, those of the
 /// oldest generation first, and how many. The last handle follows others. Returns BAD_CALL, with nothing else done,
 /// where there are none, one is closed, they are not as many as the queue has, or there is not the room that
-/// `kfifo_c_values_room` returns; NO_MEMORY, with nothing else done, and LOST, with the queue closed and its values lost,
-/// where an allocation failed. It also returns LOST where the handles are of two queues.
+/// `kfifo_c_values_room` returns; NO_MEMORY, with nothing else done, and LOST, with the queue closed and its values
+/// lost, where an allocation failed. It also returns LOST where the handles are of two queues.
 #[unsafe(no_mangle)]
 pub extern "C" fn kfifo_c_close_values(
     alloc: Global,

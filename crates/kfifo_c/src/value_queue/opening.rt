@@ -1,11 +1,13 @@
 //! Opening a queue of values.
-ghost use Rattle.std.specs.Prelude.{◌≡◌, ◌≢◌, ◌<◌, ◌≤◌, ◌⊎◌, ◌↔◌, ℕ, None, Some, IfSome, IfOk, IsErrOf, All, length, map, true};
+ghost use Rattle.std.specs.Prelude.{◌≡◌, ◌≢◌, ◌<◌, ◌≤◌, ◌⊎◌, ◌↔◌, ℕ, None, Some, IfSome, IfOk, IsErrOf, All, length};
+ghost use Rattle.std.specs.Prelude.{map, true};
 ghost use Rattle.std.specs.Prelude.{reverse};
 ghost use Rattle.kfifo_model.specs.declared.calls.TheConstants.{MAX_THREADS};
 ghost use denote.RawPtr.{Ptr};
 ghost use Rattle.kfifo_words.specs.Sizes.{fault_of};
 ghost use Rattle.kfifo_live.specs.declared.fault.OpenFault.TheVariants.{ThreadsOutOfRange, TokensOutOfRange};
-ghost use Rattle.kfifo_renewing.specs.declared.fault.RenewFault.TheVariants.{GenerationsOutOfRange, Open, ReserveOutOfRange};
+ghost use Rattle.kfifo_renewing.specs.declared.fault.RenewFault.TheVariants.{GenerationsOutOfRange, Open};
+ghost use Rattle.kfifo_renewing.specs.declared.fault.RenewFault.TheVariants.{ReserveOutOfRange};
 ghost use Rattle.kfifo_c.specs.ValueHandles.{values_behind};
 ghost use Rattle.kfifo_c.specs.Exports.{shape_number};
 ghost use Rattle.kfifo_renewing.specs.Renewing.{generations_for};
@@ -98,9 +100,10 @@ fn put_all(handles: &mut [ValueHandle], mut seats: Vec<Box<ValueSeat, Global>>, 
 /// `kfifo_renewing::open_with`, and puts a handle of it behind each, in their order. With fewer versions left than the
 /// reserve, a generation is followed by the next one; with a reserve of 0 it is not. So is one with no room while there
 /// are fewer than `generations`. What was behind the handles is lost. A refusal does nothing: BAD_K, BAD_SEGMENTS,
-/// BAD_LAST or BAD_PROBES where there is no such shape, BAD_RESERVE where the reserve is not below the greatest version,
-/// BAD_THREADS where the handles are not 1 to 64, BAD_TOKENS where the tokens are not 1 to 1,024 or the threads have too
-/// many together, BAD_CALL where the generations are not 1 to 129 - 2 * threads, NO_MEMORY where an allocation failed.
+/// BAD_LAST or BAD_PROBES where there is no such shape, BAD_RESERVE where the reserve is not below the greatest
+/// version, BAD_THREADS where the handles are not 1 to 64, BAD_TOKENS where the tokens are not 1 to 1,024 or the
+/// threads have too many together, BAD_CALL where the generations are not 1 to 129 - 2 * threads, NO_MEMORY where an
+/// allocation failed.
 #[unsafe(no_mangle)]
 pub extern "C" fn kfifo_c_open_values(
     alloc: Global,
