@@ -716,10 +716,10 @@ static inline kfifo_status kfifo_open_values_as(uint32_t k, uint32_t segments, u
    out as a queue of items does. A reserve has to last until the old generation is empty: half of a small `last` will
    do. The queue has `tokens` tokens for each thread, 1 to KFIFO_MAX_TOKENS, and KFIFO_SPARE_TOKENS more, which a thread
    may keep for itself: so it has room for threads * tokens values. It has KFIFO_MOST_TOKENS in all at most.
-   kfifo_enough_tokens says with how many a full ring returns FULL, not NO_TOKEN. DONE; BAD_CALL of a null pointer; BAD_K,
-   BAD_SEGMENTS, BAD_LAST, BAD_RESERVE of one that is not below `last`, BAD_THREADS, BAD_TOKENS, NO_MEMORY, and all
-   handles are then closed, at most the first 64.
-   Cost: it asks for the memory of the queue and of its tokens, and writes to each word.
+   kfifo_enough_tokens says with how many a full ring returns FULL, not NO_TOKEN. DONE; BAD_CALL of a null pointer;
+   BAD_K, BAD_SEGMENTS, BAD_LAST, BAD_RESERVE of one that is not below `last`, BAD_THREADS, BAD_TOKENS, NO_MEMORY, and
+   all handles are then closed, at most the first 64. Cost: it asks for the memory of the queue and of its tokens, and
+   writes to each word.
 
        if (kfifo_open_values_with(1, 4, 8, 64, 32, passes, 2) != KFIFO_DONE) return 1; // it changes all the time
 */

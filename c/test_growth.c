@@ -73,7 +73,8 @@ static void to_its_bound(void) {
     expect(refused == KFIFO_FULL || refused == KFIFO_NO_TOKEN, 1, "a give beyond the bound");
     take_all(passes, given);
     expect(fill(passes) >= 3 * 8, 1, "it grows again");
-    while (kfifo_take(passes, &got) == KFIFO_DONE) {}
+    while (kfifo_take(passes, &got) == KFIFO_DONE) {
+    }
     expect(kfifo_abandon_values(passes, 1), KFIFO_DONE, "an end");
     expect(kfifo_open_growing_values(1, 16, 8, 0, passes, 1), KFIFO_BAD_CALL, "no generation");
     expect(kfifo_open_growing_values(1, 16, 8, 128, passes, 1), KFIFO_BAD_CALL, "too many generations");
@@ -112,9 +113,12 @@ static void *produce(void *argument) {
     struct side *self = argument;
     for (uint64_t i = 0; i < EACH;) {
         kfifo_status status = kfifo_give(self->pass, self->first + i);
-        if (status == KFIFO_DONE) i++;
-        else if (status == KFIFO_FULL || status == KFIFO_NO_TOKEN) sched_yield();
-        else exit(1);
+        if (status == KFIFO_DONE)
+            i++;
+        else if (status == KFIFO_FULL || status == KFIFO_NO_TOKEN)
+            sched_yield();
+        else
+            exit(1);
     }
     atomic_fetch_sub(&still_giving, 1);
     return NULL;
@@ -126,9 +130,12 @@ static void *consume(void *argument) {
         unsigned giving = atomic_load(&still_giving);
         uint64_t value;
         kfifo_status status = kfifo_take(self->pass, &value);
-        if (status == KFIFO_DONE) out[value]++; /* no other thread has this value */
-        else if (status != KFIFO_EMPTY) exit(1);
-        else if (!giving) return NULL;
+        if (status == KFIFO_DONE)
+            out[value]++; /* no other thread has this value */
+        else if (status != KFIFO_EMPTY)
+            exit(1);
+        else if (!giving)
+            return NULL;
     }
 }
 
@@ -146,7 +153,8 @@ static void several_threads(uint32_t k) {
         if (pthread_create(&threads[i], NULL, i % 2 ? consume : produce, &sides[i])) abort();
     }
     for (int i = 0; i < 2 * SIDES; i++) pthread_join(threads[i], NULL);
-    for (uint64_t value = 0; value < SIDES * EACH && !failed; value++) expect(out[value], 1, "how often a value came out");
+    for (uint64_t value = 0; value < SIDES * EACH && !failed; value++)
+        expect(out[value], 1, "how often a value came out");
     free(out);
     expect(kfifo_abandon_values(passes, 2 * SIDES), KFIFO_DONE, "an end");
 }

@@ -13,6 +13,7 @@ use Rattle.kfifo_c.specs.declared.cell_queue.handle.CellHandle.{CellHandle}
 use Rattle.kfifo_c.specs.CellHandles.{cells_behind, cell_addresses}
 use Rattle.kfifo_c.specs.CellSeats.{CellSeated, cell_starts_of}
 use Rattle.kfifo_c.specs.CellQueues.{AreAllCells, MayCloseCells, held_in}
+use Rattle.kfifo_c.specs.Values.{without_spare}
 use Rattle.kfifo_c.proofs.Passes.{reverse_mapped}
 
 -- a handle whose k is not 0 is open
@@ -159,15 +160,16 @@ module _ (hs : List CellHandle) (last : CellSeated) (opens : OpenAll hs last) wh
       (sym (all_seats (cells_behind hs) all) ∙ ap seats_in opens.each_open ∙ seats_of (opens.others ++ last ∷ []))
 
   pub last_cells : (all : AreAllCells (cells_behind hs))
-      → all.last.held.opened.threads * all.last.held.opened.tokens ≡ last.held.opened.threads * last.held.opened.tokens
-  last_cells all = ap (λ (s : CellSeated). s.held.opened.threads * s.held.opened.tokens) (last_of_all all)
+      → all.last.held.opened.threads * without_spare all.last.held.opened
+      ≡ last.held.opened.threads * without_spare last.held.opened
+  last_cells all = ap (λ (s : CellSeated). s.held.opened.threads * without_spare s.held.opened) (last_of_all all)
 
   pub not_all : ¬ (length hs ≡ last.held.opened.threads) → ¬ AreAllCells (cells_behind hs)
   not_all many all = many (sym (length-map hs (λ handle. handle.held.value)) ∙ all.count
       ∙ ap (λ (s : CellSeated). s.held.opened.threads) (last_of_all all))
 
   pub wide_enough : (count room : ℕ) → length hs ≡ last.held.opened.threads
-      → count ≡ last.held.opened.threads * last.held.opened.tokens → count ≤ room → MayCloseCells (cells_behind hs) room
+      → count ≡ last.held.opened.threads * without_spare last.held.opened → count ≤ room → MayCloseCells (cells_behind hs) room
   wide_enough count room many is wide = record {
     all = record {
       others = opens.others;

@@ -1,12 +1,14 @@
 -- The handle gives the token of the cell that is reserved, or keeps it reserved.
-use Rattle.std.proofs.Common.{Some, refl, sym, subst}
+use Rattle.std.proofs.Common.{Some, ap, refl, sym, subst, ◌∙◌}
 use Rattle.kfifo_live.specs.Payloads.{TokenView}
 use Rattle.kfifo_live.specs.declared.payload.Given.{Given}
 use Rattle.kfifo_live.specs.declared.payload.Given.TheVariants as G
 use Rattle.kfifo_renewing.specs.Renewing.{GivesToNewest}
 use Rattle.kfifo_c.specs.CellSeats.{CellSeated, all_free}
 use Rattle.kfifo_c.specs.Cells.{MayPublish, token_given_back}
-use Rattle.kfifo_c.proofs.Cells.{seat_with}
+use Rattle.kfifo_live.specs.declared.view.Opening.{Opening}
+use Rattle.kfifo_c.specs.Values.{without_spare}
+use Rattle.kfifo_c.proofs.Cells.{opened_after, seat_with}
 use Rattle.kfifo_c.proofs.cell_queue.seat.CellSeat.publish.Goals as goal
 
 pub returns-in-Done : goal.returns-in-Done
@@ -44,3 +46,13 @@ returns-in_default c =
         same_received = refl;
       },
     ))
+
+pub invariant_of-self-in_default : goal.invariant_of-self-in_default
+invariant_of-self-in_default c =
+    let i = c.self.invariant in
+    let same = sym (opened_after c.of.result c.give.result c.self.inside.handle c.give.new.self c.give.ensures) in (
+      i.0 ∙ ap (λ (o : Opening). o.shape) same,
+      i.1 ∙ ap (λ (o : Opening). o.threads) same,
+      i.2 ∙ ap without_spare same,
+      i.3,
+    )
