@@ -160,12 +160,15 @@ typedef struct kfifo_cell_pass {
 } kfifo_cell_pass;
 
 /* The exports of the library, which test all but null pointers, and at a close that the handles are of one queue. Call
-   those below. A take that is done returns KFIFO_C_GOT, where those below return KFIFO_DONE. */
+   those below. A take that is done returns KFIFO_C_GOT, where those below return KFIFO_DONE. Those of many return
+   KFIFO_DONE where all their calls were done, and else what the last one came to. */
 #define KFIFO_C_GOT UINT32_C(2)
 uint32_t kfifo_c_open(uint32_t k, uint32_t segments, uint32_t probes, uint64_t last, kfifo_pass *passes,
                       size_t threads);
 uint32_t kfifo_c_put(kfifo_pass *pass, uint32_t item);
 uint32_t kfifo_c_get(kfifo_pass *pass, uint32_t *item);
+uint32_t kfifo_c_put_many(kfifo_pass *pass, const uint32_t *items, size_t count, size_t *put);
+uint32_t kfifo_c_get_many(kfifo_pass *pass, uint32_t *items, size_t most, size_t *got);
 uint32_t kfifo_c_enqueue(kfifo_pass *pass, uint32_t item, uint32_t start, uint16_t turns);
 uint32_t kfifo_c_dequeue(kfifo_pass *pass, uint32_t *item, uint32_t start, uint16_t turns);
 uint32_t kfifo_c_word(kfifo_pass *pass, size_t index, uint64_t *word);
@@ -175,6 +178,8 @@ uint32_t kfifo_c_open_values(uint32_t k, uint32_t segments, uint32_t probes, uin
                              uint64_t reserve, uint32_t generations, kfifo_value_pass *passes, size_t threads);
 uint32_t kfifo_c_give(kfifo_value_pass *pass, uint64_t value);
 uint32_t kfifo_c_take(kfifo_value_pass *pass, uint64_t *value);
+uint32_t kfifo_c_give_many(kfifo_value_pass *pass, const uint64_t *values, size_t count, size_t *given);
+uint32_t kfifo_c_take_many(kfifo_value_pass *pass, uint64_t *values, size_t most, size_t *taken);
 size_t kfifo_c_values_room(kfifo_value_pass *passes, size_t threads);
 uint32_t kfifo_c_close_values(kfifo_value_pass *passes, size_t threads, uint64_t *values, size_t room, size_t *count);
 void kfifo_c_abandon_values(kfifo_value_pass *passes, size_t threads);

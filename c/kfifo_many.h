@@ -6,7 +6,9 @@
    fewer wait. kfifo_wait.h says why no wake-up is lost after a single give: the look comes after the call, and a
    waiting thread's second look after it has announced itself. So it is here, of each value. Only the wake-up may come
    later, by as long as the other values take. A give that waits also looks before each of its waits, since those that
-   make room for it may sleep until they are woken. */
+   make room for it may sleep until they are woken.
+
+   A give looks before each 64 values whether the queue was finished. One that kfifo_finish meets goes on with these. */
 #ifndef KFIFO_MANY_H
 #define KFIFO_MANY_H
 
@@ -43,21 +45,6 @@ static inline void kfifo_after_takes(kfifo_waits *waits, size_t taken) {
     kfifo_status status = (call);                                                                                      \
     return __builtin_expect(status == KFIFO_DONE, 1) ? status : kfifo_after_give((waits), status)
 
-/* The same of a take. One that found nothing is made as a single one. */
-#define KFIFO_ONE_TAKE(waits, bare, single)                                                                            \
-    kfifo_status status = (bare);                                                                                      \
-    if (__builtin_expect(status == KFIFO_DONE, 1)) return status;                                                      \
-    (void)kfifo_after_take((waits), status);                                                                           \
-    return status == KFIFO_EMPTY && kfifo_is_finished(waits) ? (single) : status
-
-static inline kfifo_status kfifo_one_give_once(kfifo_waits *waits, kfifo_value_pass *pass, uint64_t value) {
-    KFIFO_ONE_GIVE(waits, kfifo_bare_give(pass, value));
-}
-
-static inline kfifo_status kfifo_one_take_once(kfifo_waits *waits, kfifo_value_pass *pass, uint64_t *value) {
-    KFIFO_ONE_TAKE(waits, kfifo_bare_take(pass, value), kfifo_take_once(pass, value));
-}
-
 static inline kfifo_status kfifo_one_publish_once(kfifo_cell_pass *pass) {
     KFIFO_ONE_GIVE(KFIFO_WAITS(pass), kfifo_bare_publish(pass));
 }
@@ -66,43 +53,125 @@ static inline kfifo_status kfifo_one_put_once(kfifo_waits *waits, kfifo_pass *pa
     KFIFO_ONE_GIVE(waits, kfifo_bare_put(pass, item));
 }
 
-static inline kfifo_status kfifo_one_get_once(kfifo_waits *waits, kfifo_pass *pass, uint32_t *item) {
-    KFIFO_ONE_TAKE(waits, kfifo_bare_get(pass, item), kfifo_get_once(pass, item));
-}
-
-static inline kfifo_status kfifo_one_give(kfifo_waits *waits, kfifo_value_pass *pass, uint64_t value) {
-    KFIFO_UNLESS_BUSY(pass, kfifo_one_give_once(waits, pass, value));
-}
-
-static inline kfifo_status kfifo_one_take(kfifo_waits *waits, kfifo_value_pass *pass, uint64_t *value) {
-    KFIFO_UNLESS_BUSY(pass, kfifo_one_take_once(waits, pass, value));
-}
-
 static inline kfifo_status kfifo_one_put(kfifo_waits *waits, kfifo_pass *pass, uint32_t item) {
     KFIFO_UNLESS_BUSY(pass, kfifo_one_put_once(waits, pass, item));
 }
 
-static inline kfifo_status kfifo_one_get(kfifo_waits *waits, kfifo_pass *pass, uint32_t *item) {
-    KFIFO_UNLESS_BUSY(pass, kfifo_one_get_once(waits, pass, item));
-}
+/* The exports of many make one call after the other, until one is not done. These add to `*done` how many were. */
 
-/* Writes the pointer where a take of its value was done. */
-static inline kfifo_status kfifo_written(kfifo_status status, uint64_t value, void **pointer) {
-    if (status == KFIFO_DONE) *pointer = KFIFO_CAST_POINTER(void *, KFIFO_CAST(uintptr_t, value));
+static inline kfifo_status kfifo_bare_give_many(kfifo_value_pass *pass, const uint64_t *values, size_t count,
+                                                size_t *done) {
+    size_t more = 0;
+    KFIFO_BEGIN(pass, "kfifo_give_all");
+    KFIFO_BEFORE_PUT(pass);
+    KFIFO_ENTER();
+    kfifo_status status = KFIFO_CAST(kfifo_status, kfifo_c_give_many(pass, values + *done, count, &more));
+    KFIFO_LEAVE();
+    KFIFO_END(pass);
+    *done += more;
     return status;
 }
 
-static inline kfifo_status kfifo_one_take_pointer_once(kfifo_waits *waits, kfifo_value_pass *pass, void **pointer) {
-    uint64_t value = 0;
-    kfifo_status status = kfifo_one_take_once(waits, pass, &value);
-    return kfifo_written(status, value, pointer);
+static inline kfifo_status kfifo_bare_take_many(kfifo_value_pass *pass, uint64_t *values, size_t most, size_t *done) {
+    size_t more = 0;
+    KFIFO_BEGIN(pass, "kfifo_take_up_to");
+    KFIFO_ENTER();
+    kfifo_status status = KFIFO_CAST(kfifo_status, kfifo_c_take_many(pass, values + *done, most, &more));
+    KFIFO_LEAVE();
+    KFIFO_AFTER_TAKE(pass, more ? KFIFO_DONE : status);
+    KFIFO_END(pass);
+    *done += more;
+    return status;
 }
 
-static inline kfifo_status kfifo_one_take_pointer(kfifo_waits *waits, kfifo_value_pass *pass, void **pointer) {
-    uint64_t value = 0;
-    kfifo_status status = kfifo_one_take(waits, pass, &value);
-    return kfifo_written(status, value, pointer);
+static inline kfifo_status kfifo_bare_put_many(kfifo_pass *pass, const uint32_t *items, size_t count, size_t *done) {
+    size_t more = 0;
+    KFIFO_BEGIN(pass, "kfifo_put_all");
+    KFIFO_BEFORE_PUT(pass);
+    kfifo_status status = KFIFO_CAST(kfifo_status, kfifo_c_put_many(pass, items + *done, count, &more));
+    KFIFO_END(pass);
+    *done += more;
+    return status;
 }
+
+static inline kfifo_status kfifo_bare_get_many(kfifo_pass *pass, uint32_t *items, size_t most, size_t *done) {
+    size_t more = 0;
+    KFIFO_BEGIN(pass, "kfifo_get_up_to");
+    kfifo_status status = KFIFO_CAST(kfifo_status, kfifo_c_get_many(pass, items + *done, most, &more));
+    KFIFO_AFTER_TAKE(pass, more ? KFIFO_DONE : status);
+    KFIFO_END(pass);
+    *done += more;
+    return status;
+}
+
+/* So many values at most go through an export at once. */
+#define KFIFO_AT_ONCE 64
+
+static inline size_t kfifo_at_once(size_t left) { return left < KFIFO_AT_ONCE ? left : KFIFO_AT_ONCE; }
+
+/* The same with pointers, which go in and come out by an array of values. */
+static inline kfifo_status kfifo_bare_give_pointers(kfifo_value_pass *pass, void *const *pointers, size_t count,
+                                                    size_t *done) {
+    uint64_t values[KFIFO_AT_ONCE];
+    size_t given = 0;
+    for (size_t i = 0; i < count; i++) values[i] = KFIFO_CAST_POINTER(uintptr_t, pointers[*done + i]);
+    kfifo_status status = kfifo_bare_give_many(pass, values, count, &given);
+    *done += given;
+    return status;
+}
+
+static inline kfifo_status kfifo_bare_take_pointers(kfifo_value_pass *pass, void **pointers, size_t most,
+                                                    size_t *done) {
+    uint64_t values[KFIFO_AT_ONCE];
+    size_t taken = 0;
+    kfifo_status status = kfifo_bare_take_many(pass, values, most, &taken);
+    for (size_t i = 0; i < taken; i++)
+        pointers[*done + i] = KFIFO_CAST_POINTER(void *, KFIFO_CAST(uintptr_t, values[i]));
+    *done += taken;
+    return status;
+}
+
+/* Gives the values from `*done` on, and adds to it how many gives were done. Returns DONE where it gave all, and else
+   what the last give came to: that one wakes as a single one does, and the others nobody. It looks whether the queue
+   was finished before each export. */
+#define KFIFO_SOME_GIVES(waits, pass, values, count, done, many)                                                       \
+    while (*(done) < (count)) {                                                                                        \
+        if (__builtin_expect(kfifo_is_finished(waits), 0)) return KFIFO_FINISHED;                                      \
+        kfifo_status status = many((pass), (values), kfifo_at_once((count) - *(done)), (done));                        \
+        if (__builtin_expect(status != KFIFO_DONE, 0)) return kfifo_after_give((waits), status);                       \
+    }                                                                                                                  \
+    return KFIFO_DONE
+
+/* Takes values until `*done` is `most`, and adds to it how many takes were done. Returns what the last one came to. One
+   that found nothing in a queue that was finished is made once more: a value may have come between the look and the
+   end. */
+#define KFIFO_SOME_TAKES(waits, pass, values, most, done, many)                                                        \
+    for (int was_finished = 0; *(done) < (most);) {                                                                    \
+        size_t before = *(done);                                                                                       \
+        kfifo_status status = many((pass), (values), kfifo_at_once((most)-before), (done));                            \
+        if (__builtin_expect(status == KFIFO_DONE, 1)) continue;                                                       \
+        (void)kfifo_after_take((waits), status);                                                                       \
+        if (status != KFIFO_EMPTY || !kfifo_is_finished(waits)) return status;                                         \
+        if (was_finished && *(done) == before) return KFIFO_FINISHED;                                                  \
+        was_finished = 1;                                                                                              \
+    }                                                                                                                  \
+    return KFIFO_DONE
+
+/* Such calls, and the same made again while they come to BUSY. */
+#define KFIFO_SOME(name, handle, type, macro, many)                                                                    \
+    static inline kfifo_status name##_once(kfifo_waits *waits, handle *pass, type *values, size_t count,               \
+                                           size_t *done) {                                                             \
+        macro(waits, pass, values, count, done, many);                                                                 \
+    }                                                                                                                  \
+    static inline kfifo_status name(kfifo_waits *waits, handle *pass, type *values, size_t count, size_t *done) {      \
+        KFIFO_UNLESS_BUSY(pass, name##_once(waits, pass, values, count, done));                                        \
+    }
+KFIFO_SOME(kfifo_some_gives, kfifo_value_pass, const uint64_t, KFIFO_SOME_GIVES, kfifo_bare_give_many)
+KFIFO_SOME(kfifo_some_takes, kfifo_value_pass, uint64_t, KFIFO_SOME_TAKES, kfifo_bare_take_many)
+KFIFO_SOME(kfifo_some_pointer_gives, kfifo_value_pass, void *const, KFIFO_SOME_GIVES, kfifo_bare_give_pointers)
+KFIFO_SOME(kfifo_some_pointer_takes, kfifo_value_pass, void *, KFIFO_SOME_TAKES, kfifo_bare_take_pointers)
+KFIFO_SOME(kfifo_some_puts, kfifo_pass, const uint32_t, KFIFO_SOME_GIVES, kfifo_bare_put_many)
+KFIFO_SOME(kfifo_some_gets, kfifo_pass, uint32_t, KFIFO_SOME_TAKES, kfifo_bare_get_many)
 
 /* Whether each of these is an item. */
 static inline int kfifo_are_items(const uint32_t *items, size_t count) {
@@ -111,6 +180,11 @@ static inline int kfifo_are_items(const uint32_t *items, size_t count) {
     return bits <= KFIFO_MAX_ITEM;
 }
 
+/* Returns BAD_CALL unless each of these is an item. The export tests those that go through it at once. */
+#define KFIFO_TEST_ITEMS(pass, items, count)                                                                           \
+    if (((count) > KFIFO_AT_ONCE || kfifo_is_finished(KFIFO_WAITS(pass))) && !kfifo_are_items((items), (count)))       \
+    return KFIFO_BAD_CALL
+
 /* Writes 0 where a call says how many there were. Returns BAD_CALL unless it has a place for that, an open handle, and
    an array where it needs one. */
 #define KFIFO_BEGIN_MANY(pass, array, count, many)                                                                     \
@@ -118,64 +192,56 @@ static inline int kfifo_are_items(const uint32_t *items, size_t count) {
     *(many) = 0;                                                                                                       \
     if (!(pass) || !KFIFO_WAITS(pass) || (!(array) && (count))) return KFIFO_BAD_CALL
 
-/* Makes a call for each i from 0 on while it is done, and wakes who waits for that. Returns what the last one came to.
- */
-#define KFIFO_GIVE_EACH(pass, count, given, call)                                                                      \
+/* Gives all values, and wakes who waits for those that are given. Returns what the last give came to. */
+#define KFIFO_GIVE_EACH(pass, values, count, given, gives)                                                             \
     kfifo_waits *waits = KFIFO_WAITS(pass);                                                                            \
-    kfifo_status status = KFIFO_DONE;                                                                                  \
-    size_t i = 0;                                                                                                      \
-    while (i < (count) && (status = (call)) == KFIFO_DONE) i++;                                                        \
-    kfifo_after_gives(waits, i);                                                                                       \
-    *(given) = i;                                                                                                      \
+    size_t done = 0;                                                                                                   \
+    kfifo_status status = gives(waits, (pass), (values), (count), &done);                                              \
+    kfifo_after_gives(waits, done);                                                                                    \
+    *(given) = done;                                                                                                   \
     return status
 
-/* The same. Returns DONE also where the last call was not, but one before. */
-#define KFIFO_TAKE_EACH(pass, most, taken, call)                                                                       \
+/* The same of takes. Returns DONE also where the last one was not, but one before. */
+#define KFIFO_TAKE_EACH(pass, values, most, taken, takes)                                                              \
     kfifo_waits *waits = KFIFO_WAITS(pass);                                                                            \
-    kfifo_status status = KFIFO_DONE;                                                                                  \
-    size_t i = 0;                                                                                                      \
-    while (i < (most) && (status = (call)) == KFIFO_DONE) i++;                                                         \
-    kfifo_after_takes(waits, i);                                                                                       \
-    *(taken) = i;                                                                                                      \
-    return i ? KFIFO_DONE : status
+    size_t done = 0;                                                                                                   \
+    kfifo_status status = takes(waits, (pass), (values), (most), &done);                                               \
+    kfifo_after_takes(waits, done);                                                                                    \
+    *(taken) = done;                                                                                                   \
+    return done ? KFIFO_DONE : status
 
-/* Makes a call for each i from 0 on, and waits while there is no room. Who waits for those that were done is woken
-   before each wait, and at the end. Returns what the last one came to. */
-#define KFIFO_GIVE_EACH_WAIT(pass, count, given, call)                                                                 \
+/* Gives all values, and waits while there is no room for the next one. Who waits for those that are given is woken
+   before each wait, and at the end. Returns what the last give came to. */
+#define KFIFO_GIVE_EACH_WAIT(pass, values, count, given, gives)                                                        \
     kfifo_waits *waits = KFIFO_WAITS(pass);                                                                            \
     kfifo_waiter waiter = kfifo_waiter_of(waits, KFIFO_WAITS_GIVER, nanoseconds);                                      \
     kfifo_status status = KFIFO_DONE;                                                                                  \
-    size_t i = 0, told = 0; /* so many are given, and who waits for so many of them was woken */                       \
-    while (i < (count)) {                                                                                              \
-        status = (call);                                                                                               \
+    size_t done = 0, told = 0; /* so many are given, and who waits for so many of them was woken */                    \
+    while (done < (count) && status == KFIFO_DONE) {                                                                   \
+        status = gives(waits, (pass), (values), (count), &done);                                                       \
         if (__builtin_expect(kfifo_may_retry(status), 0)) {                                                            \
-            kfifo_after_gives(waits, i - told);                                                                        \
-            told = i;                                                                                                  \
-            KFIFO_WAIT_FOR(pass, waiter, status, call)                                                                 \
+            kfifo_after_gives(waits, done - told);                                                                     \
+            told = done;                                                                                               \
+            KFIFO_WAIT_FOR(pass, waiter, status, gives(waits, (pass), (values), told + 1, &done))                      \
         }                                                                                                              \
-        if (status != KFIFO_DONE) break;                                                                               \
-        i++;                                                                                                           \
     }                                                                                                                  \
-    kfifo_after_gives(waits, i - told);                                                                                \
-    *(given) = i;                                                                                                      \
+    kfifo_after_gives(waits, done - told);                                                                             \
+    *(given) = done;                                                                                                   \
     return status
 
-/* Makes the bounded call for i = 0, and waits while there is nothing. Then it makes the other call for each further i
-   while it is done. Returns what the first one came to. */
-#define KFIFO_TAKE_EACH_WAIT(pass, most, taken, bounded, call)                                                         \
+/* Takes what is there, and waits for a value where there is none. Returns what the first take came to. */
+#define KFIFO_TAKE_EACH_WAIT(pass, values, most, taken, takes)                                                         \
     kfifo_waits *waits = KFIFO_WAITS(pass);                                                                            \
     kfifo_waiter waiter = kfifo_waiter_of(waits, KFIFO_WAITS_TAKER, nanoseconds);                                      \
-    kfifo_status status = KFIFO_DONE;                                                                                  \
-    size_t i = 0;                                                                                                      \
-    if ((most) > 0) {                                                                                                  \
-        status = (bounded);                                                                                            \
-        if (__builtin_expect(kfifo_may_retry(status), 0)) KFIFO_WAIT_FOR(pass, waiter, status, bounded)                \
-        if (status == KFIFO_DONE)                                                                                      \
-            for (i = 1; i < (most) && (call) == KFIFO_DONE;) i++;                                                      \
-    }                                                                                                                  \
-    kfifo_after_takes(waits, i);                                                                                       \
-    *(taken) = i;                                                                                                      \
-    return status
+    size_t done = 0;                                                                                                   \
+    kfifo_status status = takes##_once(waits, (pass), (values), (most), &done);                                        \
+    if (__builtin_expect(!done && kfifo_may_retry(status), 0))                                                         \
+        KFIFO_WAIT_FOR(pass, waiter, status, takes##_once(waits, (pass), (values), 1, &done))                          \
+    /* It goes on where it waited, or was busy. */                                                                     \
+    if (done && (status == KFIFO_DONE || status == KFIFO_BUSY)) (void)takes(waits, (pass), (values), (most), &done);   \
+    kfifo_after_takes(waits, done);                                                                                    \
+    *(taken) = done;                                                                                                   \
+    return done ? KFIFO_DONE : status
 
 /* ---- Many values or items at once ----
 
@@ -186,7 +252,8 @@ static inline int kfifo_are_items(const uint32_t *items, size_t count) {
 
 /* Gives the values of an array in their order, until the queue takes no more: DONE, and all are in the queue; else
    FULL, FINISHED, WORN, NO_TOKEN or BAD_CALL, and the first *given are.
-   Cost: as a kfifo_give for each value, but for all but one of the looks for threads that wait.
+   Cost: for each value some 25 instructions less than a kfifo_give, since one call of the library gives up to 64, and
+   one look for threads that wait.
 
        size_t given = 0;
        kfifo_status gave = kfifo_give_all(&passes[0], values, 64, &given);
@@ -195,13 +262,13 @@ static inline int kfifo_are_items(const uint32_t *items, size_t count) {
 KFIFO_MUST_USE static inline kfifo_status kfifo_give_all(kfifo_value_pass *pass, const uint64_t *values, size_t count,
                                                          size_t *given) {
     KFIFO_BEGIN_MANY(pass, values, count, given);
-    KFIFO_GIVE_EACH(pass, count, given, kfifo_one_give(waits, pass, values[i]));
+    KFIFO_GIVE_EACH(pass, values, count, given, kfifo_some_gives);
 }
 
 /* Takes values until there are `most` or the queue has no more, and writes them from values[0] on: DONE, and writes at
    least one, unless `most` is 0; else EMPTY, FINISHED, WORN or BAD_CALL. The array behind the last one stays as it is.
-   Cost: as a kfifo_take for each value, but for all but one of the looks for threads that wait, and one more that finds
-   none.
+   Cost: for each value some 25 instructions less than a kfifo_take, one more that finds none where they are fewer, and
+   one look for threads that wait.
 
        size_t taken = 0;
        while (kfifo_take_up_to(&passes[1], values, 64, &taken) == KFIFO_DONE)
@@ -210,7 +277,7 @@ KFIFO_MUST_USE static inline kfifo_status kfifo_give_all(kfifo_value_pass *pass,
 KFIFO_MUST_USE static inline kfifo_status kfifo_take_up_to(kfifo_value_pass *pass, uint64_t *values, size_t most,
                                                            size_t *taken) {
     KFIFO_BEGIN_MANY(pass, values, most, taken);
-    KFIFO_TAKE_EACH(pass, most, taken, kfifo_one_take(waits, pass, &values[i]));
+    KFIFO_TAKE_EACH(pass, values, most, taken, kfifo_some_takes);
 }
 
 /* The same two with pointers for values.
@@ -222,19 +289,19 @@ KFIFO_MUST_USE static inline kfifo_status kfifo_take_up_to(kfifo_value_pass *pas
 KFIFO_MUST_USE static inline kfifo_status kfifo_give_all_pointers(kfifo_value_pass *pass, void *const *pointers,
                                                                   size_t count, size_t *given) {
     KFIFO_BEGIN_MANY(pass, pointers, count, given);
-    KFIFO_GIVE_EACH(pass, count, given, kfifo_one_give(waits, pass, KFIFO_CAST_POINTER(uintptr_t, pointers[i])));
+    KFIFO_GIVE_EACH(pass, pointers, count, given, kfifo_some_pointer_gives);
 }
 
 KFIFO_MUST_USE static inline kfifo_status kfifo_take_pointers_up_to(kfifo_value_pass *pass, void **pointers,
                                                                     size_t most, size_t *taken) {
     KFIFO_BEGIN_MANY(pass, pointers, most, taken);
-    KFIFO_TAKE_EACH(pass, most, taken, kfifo_one_take_pointer(waits, pass, &pointers[i]));
+    KFIFO_TAKE_EACH(pass, pointers, most, taken, kfifo_some_pointer_takes);
 }
 
 /* Puts the items of an array in their order, until the queue takes no more: DONE, and all are in the queue; else FULL,
    FINISHED or WORN, and the first *put are. BAD_CALL, and none is put, also where one of them is not 1 to
    KFIFO_MAX_ITEM.
-   Cost: as a kfifo_put for each item, but for all but one of the looks for threads that wait.
+   Cost: for each item some 20 instructions less than a kfifo_put, as kfifo_give_all.
 
        size_t put = 0;
        if (kfifo_put_all(&passes[0], items, 64, &put) != KFIFO_DONE) printf("%zu of 64 are put\n", put);
@@ -242,12 +309,12 @@ KFIFO_MUST_USE static inline kfifo_status kfifo_take_pointers_up_to(kfifo_value_
 KFIFO_MUST_USE static inline kfifo_status kfifo_put_all(kfifo_pass *pass, const uint32_t *items, size_t count,
                                                         size_t *put) {
     KFIFO_BEGIN_MANY(pass, items, count, put);
-    if (!kfifo_are_items(items, count)) return KFIFO_BAD_CALL;
-    KFIFO_GIVE_EACH(pass, count, put, kfifo_one_put(waits, pass, items[i]));
+    KFIFO_TEST_ITEMS(pass, items, count);
+    KFIFO_GIVE_EACH(pass, items, count, put, kfifo_some_puts);
 }
 
 /* Takes items until there are `most` or the queue has no more, as kfifo_take_up_to does.
-   Cost: as a kfifo_get for each item, as kfifo_take_up_to.
+   Cost: for each item some 20 instructions less than a kfifo_get, as kfifo_take_up_to.
 
        size_t got = 0;
        while (kfifo_get_up_to(&passes[1], items, 64, &got) == KFIFO_DONE)
@@ -255,7 +322,7 @@ KFIFO_MUST_USE static inline kfifo_status kfifo_put_all(kfifo_pass *pass, const 
 */
 KFIFO_MUST_USE static inline kfifo_status kfifo_get_up_to(kfifo_pass *pass, uint32_t *items, size_t most, size_t *got) {
     KFIFO_BEGIN_MANY(pass, items, most, got);
-    KFIFO_TAKE_EACH(pass, most, got, kfifo_one_get(waits, pass, &items[i]));
+    KFIFO_TAKE_EACH(pass, items, most, got, kfifo_some_gets);
 }
 
 /* ---- The same, but they wait ----
@@ -274,7 +341,7 @@ KFIFO_MUST_USE static inline kfifo_status kfifo_get_up_to(kfifo_pass *pass, uint
 KFIFO_MUST_USE static inline kfifo_status kfifo_give_all_wait(kfifo_value_pass *pass, const uint64_t *values,
                                                               size_t count, size_t *given, uint64_t nanoseconds) {
     KFIFO_BEGIN_MANY(pass, values, count, given);
-    KFIFO_GIVE_EACH_WAIT(pass, count, given, kfifo_one_give_once(waits, pass, values[i]));
+    KFIFO_GIVE_EACH_WAIT(pass, values, count, given, kfifo_some_gives_once);
 }
 
 /* Waits for a value, and then takes what is there, `most` values at most: DONE, and writes at least one, unless `most`
@@ -287,8 +354,7 @@ KFIFO_MUST_USE static inline kfifo_status kfifo_give_all_wait(kfifo_value_pass *
 KFIFO_MUST_USE static inline kfifo_status kfifo_take_up_to_wait(kfifo_value_pass *pass, uint64_t *values, size_t most,
                                                                 size_t *taken, uint64_t nanoseconds) {
     KFIFO_BEGIN_MANY(pass, values, most, taken);
-    KFIFO_TAKE_EACH_WAIT(pass, most, taken, kfifo_one_take_once(waits, pass, &values[i]),
-                         kfifo_one_take(waits, pass, &values[i]));
+    KFIFO_TAKE_EACH_WAIT(pass, values, most, taken, kfifo_some_takes);
 }
 
 /* The same two with pointers for values.
@@ -301,16 +367,14 @@ KFIFO_MUST_USE static inline kfifo_status kfifo_give_all_pointers_wait(kfifo_val
                                                                        size_t count, size_t *given,
                                                                        uint64_t nanoseconds) {
     KFIFO_BEGIN_MANY(pass, pointers, count, given);
-    KFIFO_GIVE_EACH_WAIT(pass, count, given,
-                         kfifo_one_give_once(waits, pass, KFIFO_CAST_POINTER(uintptr_t, pointers[i])));
+    KFIFO_GIVE_EACH_WAIT(pass, pointers, count, given, kfifo_some_pointer_gives_once);
 }
 
 KFIFO_MUST_USE static inline kfifo_status kfifo_take_pointers_up_to_wait(kfifo_value_pass *pass, void **pointers,
                                                                          size_t most, size_t *taken,
                                                                          uint64_t nanoseconds) {
     KFIFO_BEGIN_MANY(pass, pointers, most, taken);
-    KFIFO_TAKE_EACH_WAIT(pass, most, taken, kfifo_one_take_pointer_once(waits, pass, &pointers[i]),
-                         kfifo_one_take_pointer(waits, pass, &pointers[i]));
+    KFIFO_TAKE_EACH_WAIT(pass, pointers, most, taken, kfifo_some_pointer_takes);
 }
 
 /* Puts the items of an array, and waits while there is no room for the next one, as kfifo_give_all_wait does. BAD_CALL,
@@ -322,8 +386,8 @@ KFIFO_MUST_USE static inline kfifo_status kfifo_take_pointers_up_to_wait(kfifo_v
 KFIFO_MUST_USE static inline kfifo_status kfifo_put_all_wait(kfifo_pass *pass, const uint32_t *items, size_t count,
                                                              size_t *put, uint64_t nanoseconds) {
     KFIFO_BEGIN_MANY(pass, items, count, put);
-    if (!kfifo_are_items(items, count)) return KFIFO_BAD_CALL;
-    KFIFO_GIVE_EACH_WAIT(pass, count, put, kfifo_one_put_once(waits, pass, items[i]));
+    KFIFO_TEST_ITEMS(pass, items, count);
+    KFIFO_GIVE_EACH_WAIT(pass, items, count, put, kfifo_some_puts_once);
 }
 
 /* Waits for an item, and then takes what is there, as kfifo_take_up_to_wait does.
@@ -335,8 +399,7 @@ KFIFO_MUST_USE static inline kfifo_status kfifo_put_all_wait(kfifo_pass *pass, c
 KFIFO_MUST_USE static inline kfifo_status kfifo_get_up_to_wait(kfifo_pass *pass, uint32_t *items, size_t most,
                                                                size_t *got, uint64_t nanoseconds) {
     KFIFO_BEGIN_MANY(pass, items, most, got);
-    KFIFO_TAKE_EACH_WAIT(pass, most, got, kfifo_one_get_once(waits, pass, &items[i]),
-                         kfifo_one_get(waits, pass, &items[i]));
+    KFIFO_TAKE_EACH_WAIT(pass, items, most, got, kfifo_some_gets);
 }
 
 #ifdef __cplusplus

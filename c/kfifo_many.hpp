@@ -31,6 +31,13 @@ template <typename Iterator>
 constexpr bool can_read_again<Iterator, std::void_t<typename std::iterator_traits<Iterator>::iterator_category>> =
     std::is_base_of_v<std::forward_iterator_tag, typename std::iterator_traits<Iterator>::iterator_category>;
 
+// Whether a container has its items in one array of such, which can be made longer and shorter.
+template <typename Container, typename = void, typename = void> constexpr bool is_array_of_items = false;
+template <typename Container>
+constexpr bool is_array_of_items<Container, std::void_t<decltype(std::declval<Container &>().resize(std::size_t()))>,
+                                 std::void_t<decltype(std::declval<Container &>().data())>> =
+    std::is_same_v<decltype(std::declval<Container &>().data()), std::uint32_t *>;
+
 template <typename Range> auto begin_of(Range &range) {
     using std::begin;
     return begin(range);
@@ -60,6 +67,22 @@ class GivesMany {
             asleep++;
             if constexpr (!can_read_again<Iterator>) wake();
             ++all.rest;
+        }
+        return all;
+    }
+
+    // Calls `give` with arrays of the items of a range that can be read again, until one item is not done.
+    template <typename Iterator, typename End, typename Give>
+    GaveAll<Iterator> batches(Iterator first, End end, Give give) {
+        GaveAll<Iterator> all{0, std::move(first), Put::done};
+        std::array<std::uint32_t, KFIFO_AT_ONCE> items;
+        while (all.rest != end && all.why == Put::done) {
+            std::size_t count = 0, done = 0;
+            for (Iterator it = all.rest; it != end && count < items.size(); ++it) items[count++] = *it;
+            all.why = give(items.data(), count, done);
+            all.given += done;
+            asleep += done;
+            for (; done; done--) ++all.rest;
         }
         return all;
     }
@@ -130,10 +153,19 @@ template <typename Iterator, typename End> GaveAll<Iterator> Pass::enqueue_all(I
         for (Iterator it = first; it != end; ++it)
             if (std::uint32_t item = *it; !kfifo_are_items(&item, 1)) refuse(item, 0, 1, "");
     }
-    return detail::GivesMany(KFIFO_WAITS(handle)).each(std::move(first), end, [this](std::uint32_t item) {
-        return put(kfifo_are_items(&item, 1) ? kfifo_one_put(KFIFO_WAITS(handle), handle, item) : KFIFO_BAD_CALL, item,
-                   0, 1);
-    });
+    auto result = [this](kfifo_status status, std::uint32_t item) { return put(status, item, 0, 1); };
+    detail::GivesMany gives(KFIFO_WAITS(handle));
+    if constexpr (detail::can_read_again<Iterator>) {
+        return gives.batches(
+            std::move(first), end, [&](const std::uint32_t *items, std::size_t count, std::size_t &done) {
+                return result(kfifo_some_puts(KFIFO_WAITS(handle), handle, items, count, &done), items[0]);
+            });
+    } else {
+        return gives.each(std::move(first), end, [&](std::uint32_t item) {
+            bool is_item = kfifo_are_items(&item, 1);
+            return result(is_item ? kfifo_one_put(KFIFO_WAITS(handle), handle, item) : KFIFO_BAD_CALL, item);
+        });
+    }
 }
 
 template <typename Range> auto Pass::enqueue_all(Range &&range) const {
@@ -144,18 +176,27 @@ template <typename Range> auto Pass::enqueue_all(Range &&range) const {
 template <typename Container> TookUpTo Pass::dequeue_up_to(std::size_t most, Container &out) const {
     if (!KFIFO_WAITS(handle)) refuse(1, 0, 1, kfifo_status_text(KFIFO_BAD_CALL));
     detail::TakesMany takes(KFIFO_WAITS(handle));
-    for (; takes.all.taken < most; takes.all.taken++) {
-        // There is a place before there is an item.
-        out.push_back(0);
-        std::uint32_t item = 0;
-        kfifo_status status = kfifo_one_get(takes.waits, handle, &item);
-        if (status != KFIFO_DONE) {
-            out.pop_back();
-            takes.all.why = taken(status, item, 0, 1).why;
-            break;
+    kfifo_status status = KFIFO_DONE;
+    while (takes.all.taken < most && status == KFIFO_DONE) {
+        // There are places before there are items.
+        std::size_t done = 0;
+        if constexpr (detail::is_array_of_items<Container>) {
+            std::size_t size = out.size(), places = kfifo_at_once(most - takes.all.taken);
+            out.resize(size + places);
+            status = kfifo_some_gets(takes.waits, handle, out.data() + size, places, &done);
+            out.resize(size + done);
+        } else {
+            out.push_back(0);
+            std::uint32_t item = 0;
+            status = kfifo_some_gets(takes.waits, handle, &item, 1, &done);
+            if (done)
+                out.back() = item;
+            else
+                out.pop_back();
         }
-        out.back() = item;
+        takes.all.taken += done;
     }
+    if (status != KFIFO_DONE) takes.all.why = taken(status, 0, 0, 1).why;
     return takes.all;
 }
 

@@ -32,6 +32,21 @@ WRAPPED(kfifo_c_take, (kfifo_value_pass * pass, uint64_t *value), (pass, value))
 WRAPPED(kfifo_c_publish, (kfifo_cell_pass * pass), (pass))
 WRAPPED(kfifo_c_receive, (kfifo_cell_pass * pass, uint64_t *cell), (pass, cell))
 
+/* An export of many comes to BUSY the last time when one of its calls was done. */
+#define WRAPPED_MANY(name, handle, type)                                                                               \
+    uint32_t __real_##name(handle *pass, type *array, size_t count, size_t *done);                                     \
+    uint32_t __wrap_##name(handle *pass, type *array, size_t count, size_t *done);                                     \
+    uint32_t __wrap_##name(handle *pass, type *array, size_t count, size_t *done) {                                    \
+        calls++;                                                                                                       \
+        if (left == 0) return __real_##name(pass, array, count, done);                                                 \
+        if (--left == 0 && __real_##name(pass, array, 1, done) != KFIFO_DONE) failed = 1;                              \
+        return KFIFO_BUSY;                                                                                             \
+    }
+WRAPPED_MANY(kfifo_c_put_many, kfifo_pass, const uint32_t)
+WRAPPED_MANY(kfifo_c_get_many, kfifo_pass, uint32_t)
+WRAPPED_MANY(kfifo_c_give_many, kfifo_value_pass, const uint64_t)
+WRAPPED_MANY(kfifo_c_take_many, kfifo_value_pass, uint64_t)
+
 static kfifo_pass items;
 static kfifo_value_pass values;
 static kfifo_cell_pass cells;
@@ -60,16 +75,21 @@ int main(void) {
     expect(kfifo_reserve(&cells, &value), KFIFO_DONE, "a cell");
     LOOKS(kfifo_publish_once, kfifo_publish, (&cells));
     LOOKS(kfifo_receive_once, kfifo_receive, (&cells, &value));
-    /* Each call of many is made again. */
-    uint64_t many[2] = {10, 11};
+    /* A call of many is made again, also where some of its calls were done. */
+    uint64_t many[3] = {10, 11, 12};
+    uint32_t numbers[3] = {4, 5, 6};
     size_t count = 0;
-    left = TIMES, calls = 0;
-    expect(kfifo_give_all(&values, many, 2, &count), KFIFO_DONE, "a give of many");
-    expect(calls, TIMES + 2, "the looks of kfifo_give_all");
-    left = TIMES, calls = 0;
-    expect(kfifo_take_up_to(&values, many, 2, &count), KFIFO_DONE, "a take of many");
-    expect(calls, TIMES + 2, "the looks of kfifo_take_up_to");
-    expect((uint32_t)count, 2, "all of them");
+#define MANY(call, pass, array)                                                                                        \
+    left = TIMES, calls = 0;                                                                                           \
+    expect(call(pass, array, 3, &count), KFIFO_DONE, #call);                                                           \
+    expect(calls, TIMES + 1, "the looks of " #call);                                                                   \
+    expect((uint32_t)count, 3, "the calls done by " #call)
+    MANY(kfifo_give_all, &values, many);
+    MANY(kfifo_take_up_to, &values, many);
+    expect((uint32_t)(many[0] * 10000 + many[1] * 100 + many[2]), 101112, "the values in their order");
+    MANY(kfifo_put_all, &items, numbers);
+    MANY(kfifo_get_up_to, &items, numbers);
+    expect(numbers[0] * 100 + numbers[1] * 10 + numbers[2], 456, "the items in their order");
     /* A call with a time gives up in time, and one without looks again. */
     left = UINT32_MAX;
     expect(kfifo_give_wait(&values, 9, 1000000), KFIFO_TIMED_OUT, "a give that is busy until its time is up");

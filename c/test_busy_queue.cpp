@@ -26,7 +26,7 @@ bool is_busy() {
     return true;
 }
 
-// Whether a call is done after it came to BUSY that often, and looked once more for each of that many values.
+// Whether a call is done after it came to BUSY that often, and made a further call of the library for each value.
 template <typename Call> bool looks(unsigned values, Call call) {
     left = times, calls = 0;
     return call() && left == 0 && calls == times + values;
@@ -40,6 +40,10 @@ extern "C" {
     std::uint32_t __wrap_##name parameters { return is_busy() ? std::uint32_t(KFIFO_BUSY) : __real_##name arguments; }
 WRAPPED(kfifo_c_put, (kfifo_pass * pass, std::uint32_t item), (pass, item))
 WRAPPED(kfifo_c_get, (kfifo_pass * pass, std::uint32_t *item), (pass, item))
+WRAPPED(kfifo_c_put_many, (kfifo_pass * pass, const std::uint32_t *array, std::size_t count, std::size_t *put),
+        (pass, array, count, put))
+WRAPPED(kfifo_c_get_many, (kfifo_pass * pass, std::uint32_t *array, std::size_t most, std::size_t *got),
+        (pass, array, most, got))
 WRAPPED(kfifo_c_publish, (kfifo_cell_pass * pass), (pass))
 WRAPPED(kfifo_c_receive, (kfifo_cell_pass * pass, std::uint64_t *cell), (pass, cell))
 }
@@ -55,8 +59,8 @@ void items() {
     expect(pass.dequeue_once().why == kfifo::Miss::busy, "dequeue_once");
     expect(looks(1, [&] { return pass.enqueue(1) == kfifo::Put::done; }), "enqueue");
     expect(looks(1, [&] { return pass.dequeue().item == 1U; }), "dequeue");
-    expect(looks(2, [&] { return pass.enqueue_all(two).given == 2; }), "enqueue_all");
-    expect(looks(2, [&] { return pass.dequeue_up_to(2, out).taken == 2 && out == two; }), "dequeue_up_to");
+    expect(looks(1, [&] { return pass.enqueue_all(two).given == 2; }), "enqueue_all");
+    expect(looks(1, [&] { return pass.dequeue_up_to(2, out).taken == 2 && out == two; }), "dequeue_up_to");
 }
 
 void values() {

@@ -1,6 +1,7 @@
 mod CellHandles
 mod CellHeldValues
 mod Cells
+mod Chains
 mod Closings
 mod HeldValues
 mod Keeping

@@ -7,6 +7,7 @@ pub mod Exports
 pub mod Handles
 pub mod Held
 pub mod Lent
+pub mod Many
 pub mod Seats
 pub mod ValueHandles
 pub mod ValueLent

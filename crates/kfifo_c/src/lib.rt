@@ -9,6 +9,7 @@ mod handle;
 mod held;
 mod lent;
 mod loose;
+mod many;
 mod opening;
 mod seat;
 mod shape;

@@ -4,6 +4,7 @@ pub(crate) mod closing;
 pub(crate) mod handle;
 pub(crate) mod held;
 pub(crate) mod lent;
+pub(crate) mod many;
 pub(crate) mod opening;
 pub(crate) mod seat;
 pub(crate) mod status;

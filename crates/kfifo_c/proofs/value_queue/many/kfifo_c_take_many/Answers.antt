@@ -1,0 +1,24 @@
+use Rattle.std.proofs.Common.{◌≡◌, Option, Some, None, IfSome, [], refl, sym, subst, ◌∙◌}
+use Rattle.std.specs.Prelude.{⊤}
+use Rattle.kfifo_c.specs.ValueSeats.{ValueSeated}
+use Rattle.kfifo_c.proofs.ValueHandles.{something, closed_at}
+use Rattle.kfifo_c.proofs.value_queue.many.kfifo_c_take_many.Goals as goal
+
+pub returns-then-pass-eq0-clause-answer : goal.returns-then-pass-eq0-clause-answer
+returns-then-pass-eq0-clause-answer c =
+    let closed : c.args.pass.now.held.value ≡ None = closed_at _ (sym c.args.pass.now.starts_are ∙ c.if-pass-eq0.true) in
+    (None, [], refl, refl, refl, (refl, subst (λ (o : Option ValueSeated). IfSome o (λ _. ¬ ⊤)) (sym closed) tt))
+
+pub seat_mut-requires : goal.seat_mut-requires
+seat_mut-requires c = something _ (λ e. c.if-pass-eq0.false (c.args.pass.now.starts_are ∙ e))
+
+pub returns-clause-answer : goal.returns-clause-answer
+returns-clause-answer c =
+    let each = c.take_each.ensures.each in (
+      Some each.0,
+      each.1,
+      each.2,
+      each.3,
+      each.4,
+      (c.seat_mut.result.now, c.take_each.new.self, c.seat_mut.ensures.value, refl, tt, each.5),
+    )
