@@ -12,7 +12,7 @@
 #else
 #define COUNT 100000
 #endif
-enum { SEGMENTS = 1024, TOKENS = 512, GENERATIONS = 110, SIDES = 2, EACH = 4 * COUNT };
+enum { SEGMENTS = 1024, TOKENS = 1000, GENERATIONS = 110, SIDES = 2, EACH = 4 * COUNT };
 
 static int failed;
 

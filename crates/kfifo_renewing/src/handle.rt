@@ -15,6 +15,7 @@ ghost use Rattle.kfifo_renewing.specs.Renewing.{with_seen};
 use crate::generation::Generation;
 use crate::history::History;
 use crate::joined::Joined;
+use crate::label::PLACES;
 use crate::leaving::Leaving;
 use crate::queue::Shared;
 use kfifo_live::{Given, Taken};
@@ -25,6 +26,11 @@ use std::sync::Arc;
 
 /// How often a handle tries to follow others to a generation that is newer still.
 const TRIES: u32 = 64;
+
+/// How often a handle looks for the next generation that it has not joined. A queue that grows may have one in each of
+/// its places, and some of these go meanwhile: with fewer looks than places, a handle that fell behind would be so for
+/// ever.
+const LOOKS: u32 = 4 * PLACES;
 
 /// What a caller gives and takes payloads with, in a queue that does not wear out.
 ///
@@ -198,7 +204,7 @@ impl<T: Drop> RenewingHandle<T> {
         ensures all { result ≡ true → AreAmong self.now.number end between.new.items history.old.log history.new.log }
     {
         let mut number = self.number();
-        for _ in 0..TRIES {
+        for _ in 0..LOOKS {
             let Some((place, next)) = self.shared.places().next_after(number, end, history) else {
                 return self
                     .shared
