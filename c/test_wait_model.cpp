@@ -168,7 +168,7 @@ class Search {
             if (thread.gives_all && thread.left > 0)
                 wait_on(thread);
             else if (fault == Fault::others_seen_after_first && thread.of_many && thread.done == 1 && thread.left > 0)
-                go_on(thread);
+                go_on(thread, false);
             else
                 begin(thread);
         }
@@ -177,11 +177,12 @@ class Search {
     // A call that gives all has woken those who wait for what it has given, and waits for room.
     static void wait_on(Thread &thread) {
         thread.done = 0;
-        go_on(thread);
+        thread.step = thread.gives ? see_end : look;
     }
 
-    // The next value of a call of many.
-    static void go_on(Thread &thread) { thread.step = thread.gives ? see_end : look; }
+    // The next value of a call of many: the library goes on, with no look for the end in between. Behind a value that
+    // was waited for, it is another call of the library.
+    static void go_on(Thread &thread, bool waited) { thread.step = thread.gives && waited ? see_end : look; }
 
     // How many threads a call wakes that was of that many values: as many as wait, but one at least is looked for.
     std::uint64_t wakes_of(const State &state, const Thread &thread) const {
@@ -203,7 +204,7 @@ class Search {
             if (!thread.of_many || thread.left == 0)
                 thread.done > 0 ? void(thread.step = see_others) : begin(thread);
             else
-                go_on(thread);
+                go_on(thread, waited);
             if (fault == Fault::others_seen_before_call) wake_others(thread);
             if (fault == Fault::others_seen_after_first && thread.of_many) {
                 if (thread.done == 1)

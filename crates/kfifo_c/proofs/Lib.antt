@@ -9,6 +9,7 @@ mod Minting
 mod Passes
 mod Places
 mod Tried
+mod ValueChains
 mod ValueHandles
 mod ValueHeldValues
 mod Values

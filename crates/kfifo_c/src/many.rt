@@ -69,8 +69,8 @@ impl Seat {
 }
 
 /// Puts these items into the queue of the handle, one after the other as `kfifo_c_put`, up to the first that is not
-/// DONE. Writes how many were put, and returns the number of the last answer. Returns BAD_CALL, with nothing done, where
-/// the handle is closed or one of them is not 1 to 2^24 - 1.
+/// DONE. Writes how many were put, and returns the number of the last answer. Returns BAD_CALL, with nothing done,
+/// where the handle is closed or one of them is not 1 to 2^24 - 1.
 #[unsafe(no_mangle)]
 pub extern "C" fn kfifo_c_put_many(pass: &mut Handle, items: &[u32], put: &mut usize) -> u32
     ensures answer { (last : Option (Option Answered)) × (result ≡ last_number number_of last)

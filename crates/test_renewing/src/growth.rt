@@ -85,14 +85,15 @@ fn stops_at_its_bound(rt: HostRuntime) -> Result<(), Fail> {
     Ok(())
 }
 
-/// One handle only gives and another one only takes. The queue grows again and again.
+/// One handle only gives and another one only takes. The queue grows again and again, each time by some 100 generations,
+/// which the other handle then joins at once.
 #[test]
 fn grows_between_two_handles(rt: HostRuntime) -> Result<(), Fail> {
-    let mut handles = open_growing(rt.alloc(), 2, DEFAULT_RESERVE, 60)?;
+    let mut handles = open_growing(rt.alloc(), 2, DEFAULT_RESERVE, 125)?;
     if let [giver, taker] = handles.as_mut_slice() {
-        for _round in 0..5 {
-            assert_eq!(rt; fill(giver, 1_000), 1_000);
-            empty(&rt, taker, 1_000);
+        for _round in 0..3 {
+            assert_eq!(rt; fill(giver, 7_000), 7_000);
+            empty(&rt, taker, 7_000);
         }
         assert_eq!(rt; give(giver, 7), Given::Done);
         assert_eq!(rt; take(taker), Taken::Got(7));

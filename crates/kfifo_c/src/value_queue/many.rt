@@ -81,9 +81,9 @@ pub extern "C" fn kfifo_c_give_many(
     pass.held.seat_mut().give_each(values, given)
 }
 
-/// Takes values out of the queue of the handle, one after the other as `kfifo_c_take`, until these are written or a take
-/// comes to no value. Writes how many were taken, and returns DONE where these are all, else the number of the last
-/// answer. Returns BAD_CALL, with nothing done, where the handle is closed.
+/// Takes values out of the queue of the handle, one after the other as `kfifo_c_take`, until these are written or a
+/// take comes to no value. Writes how many were taken, and returns DONE where these are all, else the number of the
+/// last answer. Returns BAD_CALL, with nothing done, where the handle is closed.
 #[unsafe(no_mangle)]
 pub extern "C" fn kfifo_c_take_many(
     pass: &mut ValueHandle,

@@ -1,7 +1,7 @@
 use Rattle.std.proofs.Common.{Some, None, refl, arith, ◌∙◌, length}
 use Rattle.kfifo_live.specs.declared.payload.Taken.TheVariants as K
 use Rattle.kfifo_renewing.specs.Renewing.{TakesFromOldest}
-use Rattle.std.proofs.lemmas.Grind.{common_steps}
+use Rattle.kfifo_c.proofs.ValueChains.{takes_opened}
 use Rattle.kfifo_c.proofs.Chains.{Took, takes-more, takes-stop, takes-all}
 use Rattle.kfifo_c.proofs.value_queue.seat.ValueSeat.take_each.Goals as goal
 
@@ -9,7 +9,7 @@ pub loop-i-preserved : goal.loop-i-preserved
 loop-i-preserved c = record {
   each = takes-more TakesFromOldest K.Got c.loop-i.i c.args.values.now c.loop-i.values _ _ _ c.take.result c.in-Got.value
       (omega arith) c.take.ensures c.in-Got.is c.loop-i.invariant.each;
-  opened = grind (arith, common_steps);
+  opened = takes_opened _ _ _ c.take.ensures ∙ c.loop-i.invariant.opened;
 }
 
 pub returns-in_default-clause-each : goal.returns-in_default-clause-each
