@@ -723,8 +723,8 @@ static inline kfifo_status kfifo_open_values_as(uint32_t k, uint32_t segments, u
    may keep for itself: so it has room for threads * tokens values. It has KFIFO_MOST_TOKENS in all at most.
    kfifo_enough_tokens says with how many a full ring returns FULL, not NO_TOKEN. DONE; BAD_CALL of a null pointer;
    BAD_K, BAD_SEGMENTS, BAD_LAST, BAD_RESERVE of one that is not below `last`, BAD_THREADS, BAD_TOKENS, NO_MEMORY, and
-   all handles are then closed, at most the first 64. Cost: it asks for the memory of the queue and of its tokens, and
-   writes to each word.
+   all handles are then closed, at most the first 64.
+   Cost: it asks for the memory of the queue and of its tokens, and writes to each word.
 
        if (kfifo_open_values_with(1, 4, 8, 64, 32, passes, 2) != KFIFO_DONE) return 1; // it changes all the time
 */

@@ -80,9 +80,9 @@ static void of_pointers(void) {
     int numbers[3] = {1, 2, 3};
     void *in[3] = {&numbers[0], &numbers[1], &numbers[2]}, *out[3] = {NULL, NULL, &failed};
     size_t many = 0;
-    open_values(SLOTS, 2, passes, 2);
-    expect(kfifo_give_all_pointers(&passes[0], in, 3, &many), KFIFO_NO_TOKEN, "more pointers than tokens");
-    expect(many, 2, "as many as there are tokens are given");
+    open_values(2, 2, passes, 2);
+    expect(kfifo_give_all_pointers(&passes[0], in, 3, &many), KFIFO_FULL, "more pointers than slots");
+    expect(many, 2, "as many as there are slots are given");
     expect(kfifo_take_pointers_up_to(&passes[1], out, 3, &many), KFIFO_DONE, "a take of pointers");
     expect(many, 2, "two are taken");
     expect(out[0] == in[0] && out[1] == in[1] && out[2] == &failed, 1, "the pointers");

@@ -85,10 +85,9 @@ static void what_pointers_come_to(void) {
     int numbers[3] = {1, 2, 3};
     void *in[3] = {&numbers[0], &numbers[1], &numbers[2]}, *out[3] = {NULL, NULL, &failed};
     size_t many = 77;
-    open_values(SLOTS, 2, passes, 2);
+    open_values(2, 2, passes, 2);
     expect(kfifo_take_pointers_up_to_wait(&passes[1], out, 3, &many, 0), KFIFO_TIMED_OUT, "no pointer is there");
-    expect(kfifo_give_all_pointers_wait(&passes[0], in, 3, &many, MILLISECOND), KFIFO_TIMED_OUT,
-           "there are two tokens");
+    expect(kfifo_give_all_pointers_wait(&passes[0], in, 3, &many, MILLISECOND), KFIFO_TIMED_OUT, "there are two slots");
     expect(many, 2, "so two pointers are given");
     expect(kfifo_take_pointers_up_to_wait(&passes[1], out, 3, &many, KFIFO_FOREVER), KFIFO_DONE, "a take of pointers");
     expect(many, 2, "two are taken");

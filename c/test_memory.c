@@ -377,30 +377,33 @@ static void comes_to_rest(struct queue *queue, uint64_t threads) {
 }
 
 /* A generation that is empty goes. So through hundreds of changes there is what the opening took, and one generation
-   more near a change, and one more for a handle that makes no calls. Returns how many changes there were. */
+   more near a change, with what its opening takes for a moment, and one more for a handle that makes no calls. Returns
+   how many changes there were. */
 static long generations_go(int of_cells) {
     static struct queue queue;
     uint64_t next = 0;
     opens_few(&queue, of_cells);
     long opened = bytes;
+    most_bytes = bytes;
     refuse(0);
     while (bytes == opened && next < LAST) goes_on(&queue, 1, 1, &next);
-    long one = bytes - opened, of_one = requests;
+    long one = bytes - opened, near_one = most_bytes - opened, of_one = requests;
+    expect(near_one < 2 * one, 1, "an opening takes less than a generation for a moment");
     expect(one > 0 && one < opened, 1, "the bytes of a generation are some of those of an opening");
     most_bytes = bytes;
     goes_on(&queue, THREADS, 10000, &next);
-    expect(most_bytes - opened <= one, 1, "one generation more near a change");
+    expect(most_bytes - opened <= near_one, 1, "one generation more near a change");
     comes_to_rest(&queue, THREADS);
     expect(bytes, opened, "the bytes when all is at rest");
     goes_on(&queue, THREADS - 1, 10000, &next);
-    expect(most_bytes - opened <= 2 * one, 1, "one generation more for a handle that makes no calls");
+    expect(most_bytes - opened <= near_one + one, 1, "one generation more for a handle that makes no calls");
     comes_to_rest(&queue, THREADS - 1);
     expect(bytes, opened + one, "the bytes at rest with a handle that makes no calls");
     comes_to_rest(&queue, THREADS);
     expect(bytes, opened, "the bytes when that handle has made calls again");
     most_bytes = bytes;
     goes_on(&queue, THREADS, 1000, &next);
-    expect(most_bytes - opened <= one, 1, "one generation more near a change after that");
+    expect(most_bytes - opened <= near_one, 1, "one generation more near a change after that");
     long made = requests / of_one;
     expect(made > 300, 1, "how many changes there were");
     closes_few(&queue, next, next, 0);

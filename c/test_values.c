@@ -118,41 +118,47 @@ static void run(uint32_t pairs) {
     expect(kfifo_take(&passes[0], &left[0]), KFIFO_BAD_CALL, "a closed handle of a take");
 }
 
-/* One thread gives and another takes: each comes by the tokens that the other lays down, far beyond its own. */
+/* One thread gives and another takes. The queue has room for threads * tokens values, whatever the taker keeps. */
 static void tokens(void) {
     kfifo_value_pass two[2];
     uint64_t value = 77;
-    expect(kfifo_open_values(4, 8, 3, two, 2), KFIFO_DONE, "open for tokens");
+    expect(kfifo_open_values(4, 64, 3, two, 2), KFIFO_DONE, "open for tokens");
     for (uint64_t round = 0; round < 1000; round++) {
-        for (uint64_t i = 0; i < 3; i++) expect(kfifo_give(&two[0], round), KFIFO_DONE, "a give with a token");
-        expect(kfifo_give(&two[0], 1), KFIFO_NO_TOKEN, "a give without one");
-        for (uint64_t i = 0; i < 3; i++)
-            expect(kfifo_take(&two[1], &value), KFIFO_DONE, "a take that lays a token down");
+        for (uint64_t i = 0; i < 6; i++) expect(kfifo_give(&two[0], round), KFIFO_DONE, "a give with a token");
+        for (uint64_t i = 0; i < 6; i++) expect(kfifo_take(&two[1], &value), KFIFO_DONE, "a take that keeps a token");
         expect(value, round, "the value that was given");
     }
     value = 77;
     expect(kfifo_take(&two[1], &value), KFIFO_EMPTY, "an empty queue");
     expect(value, 77, "the value of a take that got none");
+    uint64_t given = 0;
+    kfifo_status status = KFIFO_DONE;
+    while ((status = kfifo_give(&two[0], given)) == KFIFO_DONE) given++;
+    expect(status, KFIFO_NO_TOKEN, "a give without a token");
+    expect(6 <= given && given <= 6 + 2 * KFIFO_SPARE_TOKENS, 1, "how many values have a token");
     expect(kfifo_abandon_values(two, 2), KFIFO_DONE, "abandon");
 }
 
-/* Takers keep tokens of the one that gives, 15 each at most. With enough tokens that one still fills the ring, and is
-   then told that it is full; with one token fewer it is not. */
+/* Takers keep tokens of the one that gives, as many as they may. With enough tokens that one still fills the ring, and
+   is then told that it is full; with one for each thread it is not. */
 static void enough_tokens(void) {
     enum { THREADS = 16, SLOTS = 256 };
-    for (uint32_t fewer = 0; fewer < 2; fewer++) {
+    const uint32_t enough[] = {kfifo_enough_tokens(1, SLOTS, THREADS), SLOTS / THREADS, 1};
+    for (int row = 0; row < 3; row++) {
         kfifo_value_pass all[THREADS], *giver = &all[THREADS - 1];
-        uint64_t value = 0;
-        uint32_t tokens = kfifo_enough_tokens(1, SLOTS, THREADS) - fewer;
-        expect(kfifo_open_values(1, SLOTS, tokens, all, THREADS), KFIFO_DONE, "open for enough tokens");
+        uint64_t value = 0, given = 0;
+        kfifo_status status = KFIFO_DONE;
+        expect(kfifo_open_values(1, SLOTS, enough[row], all, THREADS), KFIFO_DONE, "open for enough tokens");
         for (int taker = 0; taker < THREADS - 1; taker++) {
-            for (int i = 0; i < 15; i++) {
+            for (uint32_t i = 0; i < 2 * KFIFO_SPARE_TOKENS; i++) {
                 expect(kfifo_give(giver, 7), KFIFO_DONE, "a give whose token a taker keeps");
                 expect(kfifo_take(&all[taker], &value), KFIFO_DONE, "a take that keeps a token");
             }
         }
-        for (int i = 0; i < SLOTS; i++) expect(kfifo_give(giver, 7), KFIFO_DONE, "a give until the ring is full");
-        expect(kfifo_give(giver, 7), fewer ? KFIFO_NO_TOKEN : KFIFO_FULL, "a give into a full ring");
+        while ((status = kfifo_give(giver, 7)) == KFIFO_DONE) given++;
+        if (row < 2) expect(given, SLOTS, "a give until the ring is full");
+        if (row == 2) expect(THREADS <= given && given < SLOTS, 1, "a give until no token is left");
+        expect(status, row == 2 ? KFIFO_NO_TOKEN : KFIFO_FULL, "a give into a full ring");
         expect(kfifo_abandon_values(all, THREADS), KFIFO_DONE, "abandon");
     }
 }

@@ -253,20 +253,29 @@ static void room_for_several(void) {
     expect(kfifo_abandon_values(passes, GIVERS + 1), KFIFO_DONE, "abandon");
 }
 
-/* A giver that sleeps for want of a token comes in when a take lays one down, whoever else sleeps. */
+/* Gives until no token is left. Returns how many values were given. */
+static uint64_t use_up(kfifo_value_pass *pass) {
+    uint64_t given = 0;
+    kfifo_status status;
+    while ((status = kfifo_give(pass, given)) == KFIFO_DONE) given++;
+    expect(status, KFIFO_NO_TOKEN, "a give without a token");
+    return given;
+}
+
+/* Givers that sleep for want of a token come in once takes lay some down, whoever else sleeps. */
 static void tokens(void) {
     kfifo_value_pass passes[3];
     struct call calls[2];
     uint64_t value = 0;
-    expect(kfifo_open_values(1, 8, 1, passes, 3), KFIFO_DONE, "open for tokens");
-    for (int i = 0; i < 2; i++) expect(kfifo_give(&passes[i], 1), KFIFO_DONE, "a give with the only token");
+    expect(kfifo_open_values(1, 256, 1, passes, 3), KFIFO_DONE, "open for tokens");
+    uint64_t given = use_up(&passes[0]);
     expect(kfifo_give_wait(&passes[0], 2, 1000), KFIFO_TIMED_OUT, "a give without a token");
     pthread_t first = start(&calls[0], &passes[0], 1, 3, KFIFO_FOREVER),
               second = start(&calls[1], &passes[1], 1, 4, KFIFO_FOREVER);
     until_asleep(&passes[0], 2, KFIFO_WAITS_GIVER);
     expect(__atomic_load_n(&KFIFO_WAITS(&passes[0])->tokenless, __ATOMIC_SEQ_CST), 2,
            "givers that sleep without a token");
-    for (int i = 0; i < 2; i++) expect(kfifo_take(&passes[2], &value), KFIFO_DONE, "a take that lays a token down");
+    for (uint64_t i = 0; i < given; i++) expect(kfifo_take(&passes[2], &value), KFIFO_DONE, "a take of a value");
     pthread_join(first, NULL);
     pthread_join(second, NULL);
     expect(calls[0].status, KFIFO_DONE, "the first give that slept for a token");
@@ -276,15 +285,18 @@ static void tokens(void) {
     expect(kfifo_abandon_values(passes, 3), KFIFO_DONE, "abandon");
 }
 
-/* Of two givers the first sleeps for a token and the second before a full ring. A take makes room, and its thread keeps
-   the token: the first is woken before the second, and can do nothing. */
+/* Of two givers the first sleeps for a token, and the second, which has some, before a full ring. A take makes room,
+   and its thread keeps the token: the first is woken before the second, and can do nothing. The ring has as many slots
+   as the queue has tokens, but for those that the second has left of its batch. */
 static void room_without_token(void) {
+    enum { ALL = 3 * (1 + KFIFO_SPARE_TOKENS), BATCH = 14, SLOTS = ALL - BATCH + 1 };
     kfifo_value_pass passes[3];
     struct call tokenless, full;
     uint64_t value = 0;
-    expect(kfifo_open_values(1, 2, 1, passes, 3), KFIFO_DONE, "open for room without a token");
-    expect(kfifo_give(&passes[0], 1), KFIFO_DONE, "a give by the first");
-    expect(kfifo_give(&passes[2], 2), KFIFO_DONE, "a give by the third");
+    expect(kfifo_open_values(1, SLOTS, 1, passes, 3), KFIFO_DONE, "open for room without a token");
+    expect(kfifo_give(&passes[1], 1), KFIFO_DONE, "a give by the second");
+    expect(use_up(&passes[0]), SLOTS - 1, "gives by the first");
+    expect(kfifo_give(&passes[1], 1), KFIFO_FULL, "a give into a full ring");
     pthread_t first = start(&tokenless, &passes[0], 1, 3, KFIFO_FOREVER);
     until_asleep(&passes[0], 1, KFIFO_WAITS_GIVER);
     pthread_t second = start(&full, &passes[1], 1, 4, KFIFO_FOREVER);
@@ -292,7 +304,7 @@ static void room_without_token(void) {
     expect(kfifo_take(&passes[2], &value), KFIFO_DONE, "a take that keeps its token");
     pthread_join(second, NULL);
     expect(full.status, KFIFO_DONE, "a give that found room");
-    expect(kfifo_take(&passes[2], &value), KFIFO_DONE, "a take that lays its token down");
+    for (int i = 1; i < SLOTS; i++) expect(kfifo_take(&passes[2], &value), KFIFO_DONE, "a take of a value");
     pthread_join(first, NULL);
     expect(tokenless.status, KFIFO_DONE, "a give that found a token");
     expect(kfifo_abandon_values(passes, 3), KFIFO_DONE, "abandon");
