@@ -747,9 +747,10 @@ KFIFO_MUST_USE static inline kfifo_status kfifo_open_values(uint32_t k, uint32_t
 
 /* Opens a queue of values that does not wear out, and that grows: a give that finds no room opens the next generation,
    as long as there are fewer than `generations`, 1 to 129 - 2 * threads. Takes empty the older ones first. One that is
-   empty goes with its memory, once each handle that gave to it has made another call. So the queue has room for
-   generations * threads * tokens values at most, and a give beyond that returns FULL or NO_TOKEN. It also does where
-   memory for a generation is missing. Returns what kfifo_open_values_with does; BAD_CALL of generations out of range.
+   empty goes with its memory, once each handle that gave to it has made another call. So there is room for generations
+   * threads * tokens values, if a ring has as many slots as a generation has values. A give that finds no room returns
+   FULL or NO_TOKEN, also where memory for a generation is missing; there is room again once the oldest generation is
+   empty. Returns what kfifo_open_values_with does; BAD_CALL of generations out of range.
    Cost: as kfifo_open_values_with, and a give that opens a generation asks for as much again.
 
        kfifo_value_pass growing[2];
