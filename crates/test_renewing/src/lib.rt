@@ -3,6 +3,7 @@
 
 #[cfg(test)]
 mod changes;
+#[cfg(test)]
 mod growth;
 #[cfg(test)]
 mod pages;
