@@ -215,21 +215,21 @@ static void one_take_wakes_all(uint32_t segments, uint32_t tokens) {
     kfifo_value_pass passes[THREADS];
     struct waiting all[THREADS];
     pthread_t threads[THREADS];
-    uint64_t values[2 * MOST];
+    uint64_t values[8 * MOST];
     size_t given = 0, taken = 0;
-    number(values, 2 * MOST, 1);
+    number(values, 8 * MOST, 1);
     open_values(segments, tokens, passes, THREADS);
     for (int round = 0; round < ROUNDS; round++) {
-        /* Each handle gives until it has no token or the ring is full, so that each of the threads waits. */
+        /* Each handle gives until there is no token or the ring is full, so that each of the threads waits. */
         size_t total = 0;
         for (size_t i = 0; i < THREADS; i++, total += given)
-            if (kfifo_give_all(&passes[i], values, 2 * MOST, &given) == KFIFO_DONE) abort();
+            if (kfifo_give_all(&passes[i], values, 8 * MOST, &given) == KFIFO_DONE) abort();
         start(passes, give_one, all, threads, KFIFO_WAITS_GIVER);
         /* It does not find the queue empty, which would be a look of its own. */
         expect(kfifo_take_up_to(&passes[0], values, total, &taken), KFIFO_DONE, "a take of all");
         expect(taken, total, "as many as were given");
         (void)join(all, threads);
-        while (kfifo_take_up_to(&passes[0], values, 2 * MOST, &taken) == KFIFO_DONE) {
+        while (kfifo_take_up_to(&passes[0], values, 8 * MOST, &taken) == KFIFO_DONE) {
         }
     }
     expect(kfifo_abandon_values(passes, THREADS), KFIFO_DONE, "an abandon");
@@ -302,7 +302,7 @@ int main(void) {
     refusals();
     one_give_wakes_all();
     one_take_wakes_all(SLOTS, kfifo_enough_tokens(1, SLOTS, THREADS));
-    one_take_wakes_all(4 * MOST, 4);
+    one_take_wakes_all(8 * MOST, 4);
     batches(1, 4);
     batches(4, 64);
     puts(failed ? "many at once fail" : "many at once: each comes out once, and one call wakes all that wait for it");
