@@ -392,8 +392,11 @@ fn test_sizes(sizes: &Sizes, renewals: &Renewals) -> Result<(), RenewFault>
 ///
 /// ```rust
 /// let sizes = Sizes::for_capacity(16, 1_024, 4, MAX_VERSION)?; // k, capacity, threads, greatest version
-/// let renewals = Renewals { reserve: DEFAULT_RESERVE, generations: 64 }; // it grows to 64 times the capacity
-/// let mut handles = open_with::<u64>(alloc, sizes, renewals)?;
+/// let renewals = Renewals {
+///     reserve: DEFAULT_RESERVE,
+///     generations: 64, // it grows to 64 times the capacity
+/// };
+/// let handles = open_with::<u64>(alloc, sizes, renewals)?;
 /// ```
 ///
 /// ReserveOutOfRange where the reserve is not below the shape's greatest version; then Open with ThreadsOutOfRange
@@ -433,7 +436,7 @@ pub fn open_with<T: Drop>(
 /// whatever the handles keep for themselves, the queue has room for `capacity` payloads.
 ///
 /// ```rust
-/// let mut handles = open::<u64>(alloc, 16, 1_024, 2)?; // k, capacity, threads
+/// let mut handles = open::<u64>(alloc, 4, 32, 2)?; // k, capacity, threads
 /// ```
 ///
 /// Sizes with what `Sizes::for_capacity` refuses: ThreadsOutOfRange where the number of threads is not 1 to 64;

@@ -1,6 +1,7 @@
-//! The short example of the pages on the renewing queue, as it stands there.
-use kfifo_live::{Given, Taken};
-use kfifo_renewing::{close, open};
+//! The short examples of the pages on the renewing queue, as they stand there.
+use kfifo_live::{Given, Sizes, Taken};
+use kfifo_renewing::{DEFAULT_RESERVE, Renewals, close, open, open_with};
+use kfifo_words::MAX_VERSION;
 use std::test::Fail;
 
 #[test]
@@ -16,5 +17,19 @@ fn the_renewing_queue(rt: HostRuntime) -> Result<(), Fail> {
     assert_eq!(rt; given, Given::Done);
     assert_eq!(rt; taken, Taken::Got(7));
     assert!(rt; left.is_empty());
+    Ok(())
+}
+
+#[test]
+fn the_queue_that_grows(rt: HostRuntime) -> Result<(), Fail> {
+    let alloc = rt.alloc();
+    let sizes = Sizes::for_capacity(16, 1_024, 4, MAX_VERSION)?; // k, capacity, threads, greatest version
+    let renewals = Renewals {
+        reserve: DEFAULT_RESERVE,
+        generations: 64, // it grows to 64 times the capacity
+    };
+    let handles = open_with::<u64>(alloc, sizes, renewals)?;
+    assert_eq!(rt; handles.len(), 4);
+    assert!(rt; close(alloc, handles)?.is_empty());
     Ok(())
 }
