@@ -436,6 +436,7 @@ struct side {
     uint64_t leaves_at; /* it abandons its handle after that many rounds; 0: never */
     int stops_at;       /* the request for memory or the free before which it stops; 0: none */
     uint64_t *greatest; /* of each producer, the greatest indices that this thread has taken */
+    atomic_int begun;   /* whether the thread runs */
 };
 
 static struct plan plan;
@@ -532,6 +533,7 @@ static void give_one(struct side *self) {
 
 static void *work(void *argument) {
     struct side *self = argument;
+    atomic_store(&self->begun, 1);
     stops_at = self->stops_at;
     for (uint64_t round = 1; !atomic_load(&is_over); round++) {
         if (self->role & GIVES && self->given < self->to_give) give_one(self);
@@ -568,8 +570,10 @@ static void begin_run(const struct plan *of) {
 
 /* The threads from `from` up to the one before `end` begin. */
 static void start(uint32_t from, uint32_t end) {
-    for (uint32_t i = from; i < end; i++)
+    for (uint32_t i = from; i < end; i++) {
+        atomic_store(&sides[i].begun, 0);
         if (pthread_create(&sides[i].id, NULL, work, &sides[i])) abort();
+    }
 }
 
 /* They end. */
@@ -862,8 +866,10 @@ static void let_go_on(unsigned number) {
     while (atomic_load(&gone_on) < number) sched_yield();
 }
 
-/* A signal stops a thread at whatever it does. Returns the number of the stop. */
+/* A signal stops a thread at whatever it does. Returns the number of the stop. Before it runs, a thread may be within a
+   request for memory of the system's own, or of a sanitizer's. */
 static unsigned stop_now(const struct side *side) {
+    while (!atomic_load(&side->begun)) sched_yield();
     unsigned number = atomic_load(&stops) + 1;
     pthread_kill(side->id, SIGUSR1);
     while (atomic_load(&stops) < number) sched_yield();
