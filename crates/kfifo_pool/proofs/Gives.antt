@@ -37,7 +37,7 @@ module _ {T : Type 0} where
       → Refuses payload answer token old new
   refuses payload token answer old given new gives same keeps = (
     given.free,
-    subst (λ (held : TokenHeld T). GivesReserved payload answer given.free old (record { held = held; free = new.free }))
+    subst (λ (held : TokenHeld T). GivesReserved payload answer given.free old (record { held = held; free = new.free; cells = new.cells }))
         (sym same) (record {
           token = gives.token;
           reserves = gives.reserves;

@@ -1,5 +1,6 @@
 -- A queue of tokens with a pool of free ones, and its handles, as callers see them.
-use Rattle.std.specs.Prelude.{◌≡◌, ◌<◌, ◌≤◌, ◌⊎◌, ℕ, List, [], ◌∷◌, ◌++◌, All, length, map, Option, Some, None}
+use Rattle.std.specs.Prelude.{◌≡◌, ◌<◌, ◌≤◌, ◌⊎◌, ℕ, List, [], ◌∷◌, ◌++◌, All, IfSome, length, map, Option, Some}
+use Rattle.std.specs.Prelude.{None}
 use Rattle.kfifo_live.specs.declared.handle.TheConstants.{MAX_TURNS}
 use Rattle.kfifo_live.specs.declared.payload.Given.{Given}
 use Rattle.kfifo_live.specs.declared.payload.Given.TheVariants as G
@@ -77,10 +78,24 @@ module _ {T : Type 0} where
   abbrev pub queue_in : TokenHeld T → OpenQueue
   queue_in held = queue_of (pass_of held).table (pass_of held).opened
 
--- a handle of a queue with a pool: its pass and starts, and its free tokens, the next one last
+-- the token of the cell that is reserved, and that of the one that was received, if they are
+pub record CellsInHand : Type 0 where
+  pub reserved : Option TokenView
+  pub received : Option TokenView
+
+abbrev pub no_cells : CellsInHand
+no_cells = record { reserved = None; received = None }
+
+-- they are of this queue
+abbrev pub AreCellsOf : OpenQueue → CellsInHand → Type 0
+AreCellsOf queue cells = IfSome cells.reserved (λ (t : TokenView). t.queue ≡ queue)
+    × IfSome cells.received (λ (t : TokenView). t.queue ≡ queue)
+
+-- a handle of a queue with a pool: its pass and starts, its free tokens, the next one last, and its cells
 pub record Pooled (T : Type 0) : Type 0 where
   pub held : TokenHeld T
   pub free : List TokenView
+  pub cells : CellsInHand
 
 module _ {T : Type 0} where
   -- A give was made with a token that was reserved for it, one of the free ones or of the pool
@@ -144,6 +159,7 @@ abbrev pub new_handle : {T : Type 0} → PayPassView T → Pooled T
 new_handle p = record {
   held = record { pass = p; put_start = first_of p.pass; take_start = first_of p.pass };
   free = [];
+  cells = no_cells;
 }
 
 abbrev pub new_handles : {T : Type 0} → OpenQueue → ℕ → List (Pooled T)

@@ -7,8 +7,9 @@ ghost use Rattle.kfifo_live.specs.Pass.{IsPassOf, IsSamePass, IsSealedEmpty, Pas
 ghost use Rattle.kfifo_live.specs.Payloads.{TokenView};
 ghost use Rattle.kfifo_live.specs.Tokens.{Puts, TakesToken, TakesTokenOrSeals};
 ghost use Rattle.kfifo_pool.specs.Pooled.{AreOf, GivesOne, KeepsOne, Pooled, ReceivesOne, ReceivesOneOrSeals, TakesOne};
-ghost use Rattle.kfifo_pool.specs.Pooled.{all_free, pass_of, queue_in};
+ghost use Rattle.kfifo_pool.specs.Pooled.{AreCellsOf, all_free, no_cells, pass_of, queue_in};
 
+use crate::cells::Cells;
 use crate::free::FreeTokens;
 use crate::pool::PooledQueue;
 use kfifo_live::{
@@ -21,19 +22,20 @@ use std::marker::Model;
 /// A pass of a queue of tokens that chooses the starts and the rounds of its calls, with free tokens of its own: two
 /// batches at most, and a few more where others fill each empty place of the pool before it comes there.
 ///
-/// Clauses see it as its pass and starts, and its free tokens, the one that it takes next last.
+/// Clauses see it as its pass and starts, its free tokens, the one that it takes next last, and its cells.
 #[derive(Drop)]
 pub struct PooledHandle<T: Drop> {
-    handle: TokenHandle<T>,
-    free: FreeTokens<T>,
+    pub(crate) handle: TokenHandle<T>,
+    pub(crate) free: FreeTokens<T>,
+    pub(crate) cells: Cells<T>,
 }
 
 impl<T: Drop> Model for PooledHandle<T> {
     ghost Value = { Pooled T };
 
-    ghost view = { λ h. record { held = h.handle; free = all_free h.free } };
+    ghost view = { λ h. record { held = h.handle; free = all_free h.free; cells = h.cells } };
 
-    ghost invariant = { λ h. AreOf (queue_in h.handle) (all_free h.free) };
+    ghost invariant = { λ h. AreOf (queue_in h.handle) (all_free h.free) × AreCellsOf (queue_in h.handle) h.cells };
 }
 
 impl<T: Drop> PooledHandle<T> {
@@ -48,11 +50,17 @@ impl<T: Drop> PooledHandle<T> {
         ensures { IfOk result (λ h. h ≡ record {
           held = record { pass = pass; put_start = first_of pass.pass; take_start = first_of pass.pass };
           free = [];
+          cells = no_cells;
         }) }
     {
         let free = FreeTokens::new(alloc, look_from)?;
         let handle = TokenHandle::new(&queue.queue, pass);
-        Ok(PooledHandle { handle, free })
+        let cells = Cells::none();
+        Ok(PooledHandle {
+            handle,
+            free,
+            cells,
+        })
     }
 
     /// The pass.
@@ -62,7 +70,7 @@ impl<T: Drop> PooledHandle<T> {
         self.handle.pass()
     }
 
-    /// Gives the pass back. The free tokens of the handle are gone with it.
+    /// Gives the pass back. The free tokens and the cells of the handle are gone with it.
     pub(crate) fn into_pass(self) -> TokenPass<T>
         ensures { result ≡ self.held.pass }
     {
@@ -79,6 +87,7 @@ impl<T: Drop> PooledHandle<T> {
         ensures takes { TakesOne result self.old.free self.new.free }
         ensures of { IfSome result (λ token. token.queue ≡ queue.now) }
         ensures same { self.new.held ≡ self.old.held }
+        ensures cells { self.new.cells ≡ self.old.cells }
     {
         self.free.take(queue)
     }
@@ -92,6 +101,7 @@ impl<T: Drop> PooledHandle<T> {
         requires token { token.queue ≡ queue.now }
         ensures keeps { KeepsOne token self.old.free self.new.free }
         ensures same { self.new.held ≡ self.old.held }
+        ensures cells { self.new.cells ≡ self.old.cells }
     {
         self.free.put(queue, token);
     }
@@ -112,6 +122,7 @@ impl<T: Drop> PooledHandle<T> {
         ensures starts { (self.new.held.put_start ≡ further (pass_of self.old.held) self.old.held.put_start)
             × (self.new.held.take_start ≡ self.old.held.take_start) }
         ensures free { self.new.free ≡ self.old.free }
+        ensures cells { self.new.cells ≡ self.old.cells }
         ensures promise { PassKeepsPromise (pass_of self.new.held) }
     {
         self.handle.put(&queue.queue, token)
@@ -132,6 +143,7 @@ impl<T: Drop> PooledHandle<T> {
         ensures starts { (self.new.held.take_start ≡ further (pass_of self.old.held) self.old.held.take_start)
             × (self.new.held.put_start ≡ self.old.held.put_start) }
         ensures free { self.new.free ≡ self.old.free }
+        ensures cells { self.new.cells ≡ self.old.cells }
         ensures promise { PassKeepsPromise (pass_of self.new.held) }
     {
         self.handle.take(&queue.queue)
@@ -153,6 +165,7 @@ impl<T: Drop> PooledHandle<T> {
         ensures starts { (self.new.held.take_start ≡ further (pass_of self.old.held) self.old.held.take_start)
             × (self.new.held.put_start ≡ self.old.held.put_start) }
         ensures free { self.new.free ≡ self.old.free }
+        ensures cells { self.new.cells ≡ self.old.cells }
         ensures promise { PassKeepsPromise (pass_of self.new.held) }
     {
         self.handle.take_or_seal(&queue.queue)
@@ -169,6 +182,7 @@ impl<T: Drop> PooledHandle<T> {
         requires payloads { queue.now.opened.bare ≡ false }
         ensures same { IsSamePass (pass_of self.old.held) (pass_of self.new.held) }
         ensures gives { GivesOne payload result self.old self.new }
+        ensures cells { self.new.cells ≡ self.old.cells }
     {
         let Some(token) = self.reserve(queue) else {
             return Given::NoToken(payload);
@@ -193,6 +207,7 @@ impl<T: Drop> PooledHandle<T> {
         requires payloads { queue.now.opened.bare ≡ false }
         ensures same { IsSamePass (pass_of self.old.held) (pass_of self.new.held) }
         ensures receives { ReceivesOne result self.old self.new }
+        ensures cells { self.new.cells ≡ self.old.cells }
         ensures busy { result ≡ Taken.Busy → IsDisturbed (pass_of self.old.held) (pass_of self.new.held) }
         ensures starts { (self.new.held.take_start ≡ further (pass_of self.old.held) self.old.held.take_start)
             × (self.new.held.put_start ≡ self.old.held.put_start) }
@@ -219,6 +234,7 @@ impl<T: Drop> PooledHandle<T> {
         requires payloads { queue.now.opened.bare ≡ false }
         ensures same { IsSamePass (pass_of self.old.held) (pass_of self.new.held) }
         ensures receives { ReceivesOneOrSeals result self.old self.new }
+        ensures cells { self.new.cells ≡ self.old.cells }
         ensures sealed { result ≡ TakenOrSealed.Sealed → IsSealedEmpty (pass_of self.new.held) }
         ensures busy { result ≡ TakenOrSealed.Busy → IsDisturbed (pass_of self.old.held) (pass_of self.new.held) }
         ensures starts { (self.new.held.take_start ≡ further (pass_of self.old.held) self.old.held.take_start)

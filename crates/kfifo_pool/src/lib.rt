@@ -2,6 +2,7 @@
 //! them, and into which they lay them, a batch at a time.
 #![tactic(auto)]
 
+mod cells;
 mod free;
 mod handle;
 mod pool;

@@ -14,14 +14,14 @@ pub returns-in-Done-clause-gives : goal.returns-in-Done-clause-gives
 returns-in-Done-clause-gives g c =
     let f = c.self.inside in let did = c.in-Done.ensures in
     gives_reserved c.args.payload c.in-Some.token P.Done c.args.self.now c.reserve.new.self
-    (record { held = f.handle; free = all_free f.free }) (record { held = c.give.new.self; free = all_free f.free })
+    (record { held = f.handle; free = all_free f.free; cells = f.cells }) (record { held = c.give.new.self; free = all_free f.free; cells = f.cells })
     c.in-Some.ensures.takes c.in-Some.ensures.same c.self.view_is did.gives did.starts did.promise
 
 pub returns-clause-gives : goal.returns-clause-gives
 returns-clause-gives g c =
     let T = g.row.T.Denot in let f = c.self.inside in let left = all_free f.free in let old = c.args.self.now in
-    let ready : Pooled T = record { held = f.handle; free = left } in
-    let given : Pooled T = record { held = c.give.new.self; free = left } in
+    let ready : Pooled T = record { held = f.handle; free = left; cells = f.cells } in
+    let given : Pooled T = record { held = c.give.new.self; free = left; cells = f.cells } in
     let new = c.release.new.self in
     elim c.match-give.branch [
       | in-Full w ↦ subst (λ (a : Given T × TokenView). GivesOne c.args.payload a.0 old new) (sym w.answer-is) (

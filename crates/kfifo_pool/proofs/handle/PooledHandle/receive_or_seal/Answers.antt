@@ -26,11 +26,11 @@ returns-in-Busy-clause-busy g c = λ busy.
 pub returns-in-Empty-clause-receives : goal.returns-in-Empty-clause-receives
 returns-in-Empty-clause-receives g c =
     subst (λ (old : Pooled g.row.T.Denot). SealsOrNone R.Empty old
-    (record { held = c.receive_or_seal.new.self; free = all_free c.self.inside.free })) c.self.view_is
+    (record { held = c.receive_or_seal.new.self; free = all_free c.self.inside.free; cells = c.self.inside.cells })) c.self.view_is
     (c.in-Empty.ensures.receives, refl)
 
 pub returns-in-Sealed-clause-receives : goal.returns-in-Sealed-clause-receives
 returns-in-Sealed-clause-receives g c =
     subst (λ (old : Pooled g.row.T.Denot). SealsOrNone R.Sealed old
-    (record { held = c.receive_or_seal.new.self; free = all_free c.self.inside.free })) c.self.view_is
+    (record { held = c.receive_or_seal.new.self; free = all_free c.self.inside.free; cells = c.self.inside.cells })) c.self.view_is
     (c.in-Sealed.ensures.receives, refl)

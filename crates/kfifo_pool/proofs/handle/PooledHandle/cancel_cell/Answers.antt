@@ -1,0 +1,15 @@
+-- The token is free again.
+use Rattle.std.proofs.Common.{refl, subst, sym, true}
+use Rattle.kfifo_pool.specs.Cells.{CancelsCell}
+use Rattle.kfifo_pool.specs.Pooled.{Pooled, all_free}
+use Rattle.kfifo_pool.proofs.handle.PooledHandle.cancel_cell.Goals as goal
+
+pub returns : goal.returns
+returns g c =
+    let new : Pooled g.row.T.Denot = record {
+      held = c.self.inside.handle;
+      free = all_free c.put.new.self;
+      cells = c.take_reserved.new.self;
+    } in
+    subst (λ (o : Pooled g.row.T.Denot). CancelsCell true o new) c.self.view_is
+    (c.in-Some.token, sym c.in-Some.ensures.0, (c.put.ensures.keeps, refl, c.in-Some.ensures.1))
