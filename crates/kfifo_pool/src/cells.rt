@@ -105,12 +105,20 @@ impl<T: Drop> PooledHandle<T> {
         self.cells.reserved.is_some()
     }
 
+    /// The cell that the handle has reserved.
+    pub fn reserved_cell(&self) -> Option<u32>
+        ensures { result ≡ cell_in self.now.cells.reserved }
+    {
+        cell_of_token(&self.cells.reserved)
+    }
+
     /// Reserves the cell of a free token.
     #[inline(always)]
     fn reserve_next(&mut self, queue: &PooledQueue<T>) -> Option<u32>
         requires of { IsPassOf queue.now (pass_of self.old.held) }
         requires none { self.old.cells.reserved ≡ None }
-        ensures { ReservesCell result self.old self.new }
+        ensures same { IsSamePass (pass_of self.old.held) (pass_of self.new.held) }
+        ensures did { ReservesCell result self.old self.new }
     {
         let token = self.free.take(queue);
         let cell = cell_of_token(&token);
@@ -123,10 +131,18 @@ impl<T: Drop> PooledHandle<T> {
     ///
     /// Until it is published or cancelled the cell is this handle's alone. Returns None where `reserve` does. It never
     /// allocates, waits or locks.
+    ///
+    /// ```rust
+    /// let cell = giver.reserve_cell(&queue); // this handle's alone, until it is published
+    /// let given = giver.publish_cell(&queue); // Done
+    /// let taken = taker.receive_cell(&queue); // Got(cell), this handle's until it is released
+    /// let released = taker.release_cell(&queue); // true
+    /// ```
     #[inline(always)]
     pub fn reserve_cell(&mut self, queue: &PooledQueue<T>) -> Option<u32>
         requires of { IsPassOf queue.now (pass_of self.old.held) }
-        ensures { ReservesCell result self.old self.new }
+        ensures same { IsSamePass (pass_of self.old.held) (pass_of self.new.held) }
+        ensures did { ReservesCell result self.old self.new }
     {
         if self.cells.reserved.is_none() {
             return self.reserve_next(queue);
@@ -142,7 +158,8 @@ impl<T: Drop> PooledHandle<T> {
     pub fn publish_cell(&mut self, queue: &PooledQueue<T>) -> Given<()>
         requires of { IsPassOf queue.now (pass_of self.old.held) }
         requires bare { queue.now.opened.bare ≡ true }
-        ensures { PublishesCell result self.old self.new }
+        ensures same { IsSamePass (pass_of self.old.held) (pass_of self.new.held) }
+        ensures did { PublishesCell result self.old self.new }
     {
         let Some(token) = self.cells.take_reserved() else {
             return Given::NoToken(());
@@ -168,7 +185,8 @@ impl<T: Drop> PooledHandle<T> {
     #[inline(always)]
     pub fn cancel_cell(&mut self, queue: &PooledQueue<T>) -> bool
         requires of { IsPassOf queue.now (pass_of self.old.held) }
-        ensures { CancelsCell result self.old self.new }
+        ensures same { IsSamePass (pass_of self.old.held) (pass_of self.new.held) }
+        ensures did { CancelsCell result self.old self.new }
     {
         let Some(token) = self.cells.take_reserved() else {
             return false;
@@ -182,7 +200,8 @@ impl<T: Drop> PooledHandle<T> {
     #[inline(always)]
     pub fn release_cell(&mut self, queue: &PooledQueue<T>) -> bool
         requires of { IsPassOf queue.now (pass_of self.old.held) }
-        ensures { ReleasesCell result self.old self.new }
+        ensures same { IsSamePass (pass_of self.old.held) (pass_of self.new.held) }
+        ensures did { ReleasesCell result self.old self.new }
     {
         let Some(token) = self.cells.take_received() else {
             return false;

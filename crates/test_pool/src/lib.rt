@@ -5,6 +5,8 @@
 #[cfg(test)]
 mod bare;
 #[cfg(test)]
+mod cells;
+#[cfg(test)]
 mod pages;
 #[cfg(test)]
 mod parcels;

@@ -4,8 +4,8 @@ use Rattle.kfifo_pool.specs.Cells.{CancelsCell}
 use Rattle.kfifo_pool.specs.Pooled.{Pooled, all_free}
 use Rattle.kfifo_pool.proofs.handle.PooledHandle.cancel_cell.Goals as goal
 
-pub returns : goal.returns
-returns g c =
+pub returns-clause-did : goal.returns-clause-did
+returns-clause-did g c =
     let new : Pooled g.row.T.Denot = record {
       held = c.self.inside.handle;
       free = all_free c.put.new.self;

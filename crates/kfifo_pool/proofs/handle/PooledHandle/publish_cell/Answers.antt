@@ -7,8 +7,8 @@ use Rattle.kfifo_pool.specs.Pooled.{Pooled, all_free, pass_of}
 use Rattle.kfifo_pool.proofs.CellCalls.{published}
 use Rattle.kfifo_pool.proofs.handle.PooledHandle.publish_cell.Goals as goal
 
-pub returns-in-Done : goal.returns-in-Done
-returns-in-Done g c =
+pub returns-in-Done-clause-did : goal.returns-in-Done-clause-did
+returns-in-Done-clause-did g c =
     let T = g.row.T.Denot in let f = c.self.inside in
     let inside : Pooled T = record { held = f.handle; free = all_free f.free; cells = f.cells } in
     let e = c.in-Done.ensures in
@@ -16,8 +16,8 @@ returns-in-Done g c =
     (sym c.in-Some.ensures.0)
     (record { same = e.same; puts = e.puts; starts = e.starts; promise = e.promise }) c.in-Some.ensures.1
 
-pub returns-in-Full : goal.returns-in-Full
-returns-in-Full g c =
+pub returns-in-Full-clause-did : goal.returns-in-Full-clause-did
+returns-in-Full-clause-did g c =
     let T = g.row.T.Denot in let f = c.self.inside in
     let inside : Pooled T = record { held = f.handle; free = all_free f.free; cells = f.cells } in
     let e = c.in-Full.ensures in let back = c.in-Full.back in (
@@ -28,8 +28,8 @@ returns-in-Full g c =
           (c.keep_reserved.ensures ∙ ap (with_reserved (Some back)) c.in-Some.ensures.1),
     )
 
-pub returns-in-Busy : goal.returns-in-Busy
-returns-in-Busy g c =
+pub returns-in-Busy-clause-did : goal.returns-in-Busy-clause-did
+returns-in-Busy-clause-did g c =
     let T = g.row.T.Denot in let f = c.self.inside in
     let inside : Pooled T = record { held = f.handle; free = all_free f.free; cells = f.cells } in
     let e = c.in-Busy.ensures in let back = c.in-Busy.back in (
@@ -41,8 +41,8 @@ returns-in-Busy g c =
       subst (λ (o : Pooled T). IsDisturbed (pass_of o.held) (pass_of c.put.new.self)) c.self.view_is (e.busy back refl),
     )
 
-pub returns-in-Worn : goal.returns-in-Worn
-returns-in-Worn g c =
+pub returns-in-Worn-clause-did : goal.returns-in-Worn-clause-did
+returns-in-Worn-clause-did g c =
     let T = g.row.T.Denot in let f = c.self.inside in
     let inside : Pooled T = record { held = f.handle; free = all_free f.free; cells = f.cells } in
     let e = c.in-Worn.ensures in let back = c.in-Worn.back in (

@@ -14,7 +14,7 @@ returns-clause-receives g c =
     record {
       released = c.release_cell.result;
       between = c.release_cell.new.self;
-      releases = c.release_cell.ensures;
+      releases = c.release_cell.ensures.did;
       takes = subst (λ (o : Pooled T). TakesCell c.of_taken-taken.result.0 o new) c.self.view_is (record {
         taken = c.take.result;
         answer_is = c.of_taken-taken.ensures.0;
@@ -28,6 +28,6 @@ pub returns-clause-busy : goal.returns-clause-busy
 returns-clause-busy g c = λ busy.
     let T = g.row.T.Denot in
     let held = ap (λ (h : Pooled T). h.held) c.self.view_is
-    ∙ released_held c.release_cell.result c.args.self.now c.release_cell.new.self c.release_cell.ensures in
+    ∙ released_held c.release_cell.result c.args.self.now c.release_cell.new.self c.release_cell.ensures.did in
     subst (λ (h : TokenHeld T). IsDisturbed (pass_of h) (pass_of c.take.new.self)) held
     (c.take.ensures.busy (cells_busy c.take.result (sym c.of_taken-taken.ensures.0 ∙ busy)))
