@@ -11,4 +11,6 @@ pub mod Texts
 pub mod Walks
 pub mod Fronts
 pub mod Readings
+pub mod Standing
+pub mod Readers
 pub mod Header
