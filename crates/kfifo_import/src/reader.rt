@@ -23,7 +23,17 @@ fn fits(width: Option<usize>, found: usize) -> bool
     }
 }
 
-/// Reads a log in CSV that comes in pieces.
+/// Reads a log in CSV, as `read_log` describes it, that comes in pieces of any size.
+///
+/// ```rust
+/// let mut reader = LogReader::new(alloc, MAX_LOG_CALLS);
+/// reader.take(first)?;
+/// reader.take(second)?;
+/// let log = log_to_judge(alloc, reader.finish()?)?;
+/// ```
+///
+/// The log is all pieces, one after the other. What is said of a piece holds whatever comes after it. A fault may be
+/// told at a later piece than the one that it stands in. Nothing is said of a reader that has refused a piece.
 #[derive(Drop)]
 pub struct LogReader {
     alloc: Global,
@@ -40,7 +50,8 @@ pub struct LogReader {
 }
 
 impl LogReader {
-    /// Nothing of a log has come.
+    /// Returns a reader that has taken nothing, of a log of at most `most` lines below its header. `alloc` makes room for
+    /// the lines.
     pub fn new(alloc: Global, most: usize) -> LogReader
         ensures reads { (text : List ℕ) → IsReading result text text }
         ensures most { result.most ≡ most }
@@ -140,7 +151,9 @@ impl LogReader {
         self.feed(without_mark(head.as_slice()))
     }
 
-    /// Takes in the next piece of the log.
+    /// Takes in the next piece of the log, and keeps no part of it but the row that has not ended.
+    ///
+    /// Refused is what a line itself has wrong, as `lines_of` refuses it; also Memory after 2^64 - 2 lines.
     pub fn take(&mut self, piece: &[u8]) -> Result<(), Refusal>
         ensures ok { OnOk result ((text more : List ℕ) → IsReading self.old text (piece.now ++ more)
             → IsReading self.new text more) }
@@ -179,7 +192,9 @@ impl LogReader {
         self.close_ended()
     }
 
-    /// Returns the lines of the log, of which no more comes.
+    /// Returns the lines of the log, each with its call, in their order: all pieces have come.
+    ///
+    /// Refused is what a line itself has wrong and was not refused before, and a log without a header.
     pub fn finish(mut self) -> Result<Vec<Line>, Refusal>
         ensures ok { IfOk result (λ lines. (text : List ℕ) → IsReading self text [] → ReadsLog text lines.items
             × (length lines.items ≤ self.most)) }

@@ -48,10 +48,12 @@ fn reads_an_item_that_no_call_can_put_to_judge_it(rt: HostRuntime) -> Result<(),
 }
 
 /// A byte order mark, an empty line, a field in quotation marks over two lines, and a last line that does not end.
-const MARKED: &str = "\u{FEFF}thread,op,item,first,last,answer,note\r\n\r\n0,enq,5,10,20,done,\"a, \"\"b\"\"\nc\"\n1,deq,,30,,,\"\"";
+const MARKED: &str =
+    "\u{FEFF}thread,op,item,first,last,answer,note\r\n\r\n0,enq,5,10,20,done,\"a, \"\"b\"\"\nc\"\n1,deq,,30,,,\"\"";
 
 /// The same with a third field too many in its last line.
-const WIDER: &str = "\u{FEFF}thread,op,item,first,last,answer\n\n0,enq,5,10,20,done\r\n\n1,deq,,30,,,\"x\ny\"";
+const WIDER: &str =
+    "\u{FEFF}thread,op,item,first,last,answer\n\n0,enq,5,10,20,done\r\n\n1,deq,,30,,,\"x\ny\"";
 
 /// The lines of a log that comes in two pieces, of which the first has so many bytes.
 fn cut_at(alloc: Global, bytes: &[u8], cut: usize) -> Result<Vec<Line>, Refusal> {
@@ -98,7 +100,9 @@ fn refuses_a_log_in_pieces_at_its_line(rt: HostRuntime) -> Result<(), Fail> {
         let fault = cut_at(alloc, bytes, cut).err().map(|refusal| refusal.fault);
         assert_eq!(rt; fault, Some(ImportFault::Csv(5)));
     }
-    let fault = byte_by_byte(alloc, bytes).err().map(|refusal| refusal.fault);
+    let fault = byte_by_byte(alloc, bytes)
+        .err()
+        .map(|refusal| refusal.fault);
     assert_eq!(rt; fault, Some(ImportFault::Csv(5)));
     Ok(())
 }
