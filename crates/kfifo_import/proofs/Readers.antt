@@ -20,7 +20,7 @@ use Rattle.kfifo_import.specs.Taking.{IsNotTaken, IsWrongIn, Takes, row_at}
 use Rattle.kfifo_import.specs.Wrong.{TellsWrong}
 use Rattle.kfifo_import.proofs.Readings.{next_row, not_taken, takes_few, too_wide, wrong_told}
 use Rattle.kfifo_import.proofs.Rows.{takes_row}
-use Rattle.kfifo_import.proofs.Walks.{unmarked_short}
+use Rattle.kfifo_import.proofs.Marks.{unmarked_short}
 use Rattle.kfifo_import.proofs.Standing.{moved, no_row}
 
 module _ (r : LogReader) (text left : List ℕ) (over : r.row.spot ≡ spots.Over) (is : Reads r text left) where

@@ -1,5 +1,5 @@
 //! The rows of a text in CSV that comes in pieces, and the lines that they begin in.
-ghost use Rattle.std.specs.Prelude.{◌≡◌, ◌≢◌, ◌++◌, ◌+◌, ◌<◌, ◌≤◌, ◌∷◌, ◌↔◌, [], ℕ, IfOk, IsTrue, List, MatchBool, OnOk};
+ghost use Rattle.std.specs.Prelude.{◌≡◌, ◌≢◌, ◌++◌, ◌+◌, ◌<◌, ◌≤◌, ◌∷◌, [], ℕ, IfOk, List, MatchBool, OnOk};
 ghost use Rattle.std.specs.Prelude.{length, slice_index, true};
 ghost use Rattle.csv.specs.Reading.{is_bom, strip_bom};
 ghost use Rattle.csv.specs.Records.{fields_of, partial_of};
