@@ -38,8 +38,8 @@ state_at spots.Quoted = st.InQuoted
 state_at spots.Quote = st.AfterQuote
 state_at spots.Over = st.StartRecord
 
--- The row at the front of a rest of the text was taken up to what is left: it has ended with these fields, or it goes on
--- with these fields and these bytes of the field that has not ended.
+-- The row at the front of a rest of the text was taken up to what is left. It has ended with these fields; or it goes
+-- on with these fields, and these bytes of the field that has not ended.
 abbrev pub Goes : Spot → List (List ℕ) → List ℕ → List ℕ → List ℕ → Type 0
 Goes spots.Over fields bytes rest left = (s : State) × (first_row rest ≡ Some (fields, s, left)) × (bytes ≡ [])
 Goes spot fields bytes rest left = first_row rest ≡ next_record default_config (state_at spot) fields bytes left

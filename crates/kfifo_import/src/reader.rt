@@ -50,8 +50,8 @@ pub struct LogReader {
 }
 
 impl LogReader {
-    /// Returns a reader that has taken nothing, of a log of at most `most` lines below its header. `alloc` makes room for
-    /// the lines.
+    /// Returns a reader that has taken nothing, of a log of at most `most` lines below its header. `alloc` makes room
+    /// for the lines.
     pub fn new(alloc: Global, most: usize) -> LogReader
         ensures reads { (text : List ℕ) → IsReading result text text }
         ensures most { result.most ≡ most }
@@ -151,7 +151,7 @@ impl LogReader {
         self.feed(without_mark(head.as_slice()))
     }
 
-    /// Takes in the next piece of the log, and keeps no part of it but the row that has not ended.
+    /// Takes in the next piece of the log. Of its text the reader keeps only the row that has not been taken in.
     ///
     /// Refused is what a line itself has wrong, as `lines_of` refuses it; also Memory after 2^64 - 2 lines.
     pub fn take(&mut self, piece: &[u8]) -> Result<(), Refusal>
