@@ -1,5 +1,6 @@
 //! Logs that come in pieces.
-ghost use Rattle.std.specs.Prelude.{◌≡◌, ◌≢◌, ◌⊎◌, ◌++◌, ◌≤◌, [], ℕ, IfErr, IfOk, List, MatchBool, OnOk, None, Some, length};
+ghost use Rattle.std.specs.Prelude.{◌≡◌, ◌≢◌, ◌⊎◌, ◌++◌, ◌≤◌, [], ℕ, IfErr, IfOk, List, MatchBool, None, OnOk, Some};
+ghost use Rattle.std.specs.Prelude.{length};
 ghost use Rattle.csv.specs.Reading.{strip_bom};
 ghost use Rattle.kfifo_import.specs.Readers.{HasReadAll, IsReading, Reads, Refuses};
 ghost use Rattle.kfifo_import.specs.Spots.{IsOpen};
