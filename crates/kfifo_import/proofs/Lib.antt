@@ -8,7 +8,8 @@ pub mod Logs
 pub mod Kept
 pub mod Rows
 pub mod Texts
-pub mod Walks
-pub mod Fronts
+pub mod Marks
 pub mod Readings
+pub mod Standing
+pub mod Readers
 pub mod Header

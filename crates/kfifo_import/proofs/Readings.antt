@@ -1,143 +1,50 @@
--- What a reader of CSV reads, and the line at which it stands.
-use Rattle.std.proofs.Common.{ℕ, ◌≡◌, ◌≢◌, ◌∙◌, ◌+◌, ◌≤◌, ◌==◌, cond, true, false, List, [], ◌∷◌, Option, Some, None}
-use Rattle.std.proofs.Common.{drop, take, length, length-append, ap, inl, inr, refl, sym, subst, arith}
-use Rattle.std.proofs.lemmas.List.Sums.{sum_by-take-drop}
-use Rattle.csv.specs.Machine.{Read, next_record}
-use Rattle.csv.specs.Reading.{ExplainsRead, NextIs, ReadRecord, ReadsNext, Ready, default_config, pending_of, source_of}
-use Rattle.csv.specs.declared.error.ErrorKind.{ErrorKind}
-use Rattle.csv.specs.declared.error.ErrorKind.TheVariants as kinds
-use Rattle.csv.specs.declared.parser.State.{State}
-use Rattle.csv.specs.declared.reader.Reader.{Reader}
-use Rattle.csv.specs.declared.reader.Trim.TheVariants as trim
-use Rattle.csv.proofs.ReadFacts.{rows-end}
+-- What a row that has ended does to what was read of a text.
+use Rattle.std.proofs.Common.{ℕ, ◌≡◌, ◌≢◌, ◌∙◌, ◌≤◌, List, [], ◌∷◌, Option, Some, None}
+use Rattle.std.proofs.Common.{length, length-append, ap, inl, inr, refl, sym, arith}
 use Rattle.kfifo_import.specs.declared.log.ImportFault.{ImportFault}
 use Rattle.kfifo_import.specs.declared.log.ImportFault.TheVariants as faults
 use Rattle.kfifo_import.specs.declared.log.Line.{Line}
 use Rattle.kfifo_import.specs.declared.table.Columns.{Columns}
-use Rattle.kfifo_import.specs.declared.walk.Place.{Place}
+use Rattle.kfifo_import.specs.declared.walk.Spot.TheVariants as spots
 use Rattle.kfifo_import.specs.declared.wrong.WrongField.{WrongField}
-use Rattle.kfifo_import.specs.Rows.{IsNextRow, IsPlace, behind_ends, first_row, line_feeds, line_of}
-use Rattle.kfifo_import.specs.Tables.{IsTextFault}
-use Rattle.kfifo_import.specs.Taking.{IsNotTaken, IsReadFault, IsWrongIn, Takes, row_at}
+use Rattle.kfifo_import.specs.Rows.{IsNextRow, first_row, line_of}
+use Rattle.kfifo_import.specs.Spots.{StandsAt}
+use Rattle.kfifo_import.specs.Tables.{Holds, IsTextFault}
+use Rattle.kfifo_import.specs.Taking.{IsNotTaken, IsWrongIn, Takes, row_at}
 use Rattle.kfifo_import.specs.Wrong.{TellsWrong}
-use Rattle.kfifo_import.proofs.Fronts.{IsFront, front_behind}
-use Rattle.kfifo_import.proofs.Rows.{Holds}
 
--- ---- the line
+-- a row that has ended is the next one, and its line is that in which it began
+pub next_row : (fields : List (List ℕ)) (some bytes : List ℕ) (line front : ℕ) (text rest left : List ℕ)
+    → StandsAt spots.Over fields some bytes line front text rest left
+    → (next : IsNextRow text rest (row_at front fields)) × (next.0.2 ≡ left)
+next_row fields some bytes line front text rest left s =
+    let begins = s.begins in
+    let number : front ≡ line_of text rest = omega (arith, begins) in
+    (((fields, s.goes.0, left), s.goes.1, number, refl), refl)
 
-feeds_part : (text : List ℕ) (i : ℕ) → line_feeds (drop i text) ≤ line_feeds text
-feeds_part text i =
-    let k : line_feeds (take i text) + line_feeds (drop i text) ≡ line_feeds text =
-    sum_by-take-drop (λ byte. cond (byte == 10) 1 0) text i in
-    omega (arith, k)
+-- a row that is not as wide as the header is the first with a fault
+pub too_wide : (most : ℕ) (text rest : List ℕ) (columns : Option Columns) (lines : List Line) (wide : Option ℕ) (number width : ℕ)
+    (fields : List (List ℕ))
+    → IsNextRow text rest (row_at number fields) → wide ≡ Some width → length fields ≢ width → Holds text columns lines wide rest
+    → IsTextFault most text (faults.Csv number)
+too_wide most text rest None lines wide number width fields next is other h = absurd (cc (is, h.2))
+too_wide most text rest (Some columns) lines wide number width fields next is other h =
+    let same : width ≡ h.0 = cc (is, h.1) in
+    inr (record {
+      columns = columns;
+      width = h.0;
+      lines = lines;
+      rest = rest;
+      read = h.2;
+      row = row_at number fields;
+      next = next;
+      is = (refl, λ e. other (e ∙ sym same));
+    })
 
--- the line at the front of a row is that of the row
-pub line_is : (text rest : List ℕ) (place : Place) → IsPlace text place → drop place.at text ≡ behind_ends rest
-    → place.line ≡ line_of text rest
-line_is text rest place is at =
-    let part = feeds_part text place.at in
-    let same : line_feeds (drop place.at text) ≡ line_feeds (behind_ends rest) = ap line_feeds at in
-    let line = is.line in
-    omega (arith, part, same, line)
-
--- ---- one read
-
--- a read that found a row
-record Took (rest : List ℕ) (fields : List (List ℕ)) (s : State) (left : Option (List ℕ)) : Type 0 where
-  read : Read
-  is : first_row rest ≡ Some read
-  fields_are : fields ≡ read.0
-  state : s ≡ read.1
-  left_is : left ≡ Some read.2
-
-found : (o : Option Read) (fields : List (List ℕ)) (s : State) (left : List ℕ) → NextIs o true fields s left → (p : Read) × (o ≡ Some p)
-    × (fields ≡ p.0) × (s ≡ p.1) × (left ≡ p.2)
-found None fields s left n = absurd (cc)
-found (Some p) fields s left n = (p, refl, n.1, n.2, n.3)
-
-took : (a : State) (rest : List ℕ) (left : Option (List ℕ)) (fields : List (List ℕ)) (s : State) → IsFront a
-    → ReadsNext default_config a (Some rest) left true fields s → Took rest fields s left
-took a rest None fields s front r = absurd r
-took a rest (Some k) fields s front r =
-    let n = found (next_record default_config a [] [] rest) fields s k r in
-    record { read = n.0; is = sym (front rest) ∙ n.1; fields_are = n.2; state = n.3; left_is = ap Some n.4 }
-
-module _ {R : Type 0} (rem : R → Option (List ℕ)) where
-  -- a reader stands between two rows, and this rest of the text is left
-  pub record Stands (a : Reader R) (rest : List ℕ) : Type 0 where
-    pub trim : a.trim ≡ trim.None
-    pub ready : Ready a
-    pub config : a.config ≡ default_config
-    pub rigid : a.flexible ≡ false
-    pub source : source_of rem a ≡ Some rest
-    pub front : IsFront a.state
-
-  took_row : (a b : Reader R) (rest : List ℕ) (fields : List (List ℕ)) → Stands a rest
-      → ReadsNext a.config a.state (source_of rem a) (pending_of (rem b.rdr) b) true fields b.state
-      → Took rest fields b.state (pending_of (rem b.rdr) b)
-  took_row a b rest fields s r = took a.state rest (pending_of (rem b.rdr) b) fields b.state s.front (rw (s.config, s.source) at r)
-
-  -- the row that is read next
-  pub next_row : (text rest : List ℕ) (a b : Reader R) (place : Place) (fields : List (List ℕ)) → Stands a rest → IsPlace text place
-      → drop place.at text ≡ behind_ends rest
-      → ReadRecord rem a b true fields → IsNextRow text rest (row_at place.line fields)
-  next_row text rest a b place fields s is at r =
-      let t = took_row a b rest fields s r.0 in
-      (t.read, t.is, line_is text rest place is at, t.fields_are)
-
-  -- the reader after it
-  pub stands_next : (rest : List ℕ) (a b : Reader R) (fields : List (List ℕ)) → Stands a rest → ReadRecord rem a b true fields
-      → b.first ≡ true → b.flexible ≡ a.flexible
-      → (next : (read : Read) × (first_row rest ≡ Some read)) → Stands b next.0.2
-  stands_next rest a b fields s r first flexible next =
-      let t = took_row a b rest fields s r.0 in
-      let same : t.read ≡ next.0 = cc (t.is, next.1) in
-      let front : IsFront t.read.1 = front_behind _ _ _ rest t.read t.is in
-      record {
-        trim = r.3 ∙ s.trim;
-        ready = inl first;
-        config = r.2 ∙ s.config;
-        rigid = flexible ∙ s.rigid;
-        source = rw r.1 (t.left_is ∙ ap (λ (p : Read). Some p.2) same);
-        front = subst IsFront (sym t.state) front;
-      }
-
-  -- each row is as wide as the one before it
-  pub width_same : (a b : Reader R) (rest : List ℕ) (fields : List (List ℕ)) → Stands a rest → ReadRecord rem a b true fields
-      → (b.expected ≡ Some (length fields)) × ((width : ℕ) → a.expected ≡ Some width → length fields ≡ width)
-  width_same a b rest fields s r =
-      let w = r.5 refl s.rigid in
-      (w.1, λ width e. (let k : b.expected ≡ Some width = (rw e at w.0) in cc (k, w.1)))
-
-  -- a reader that found no row
-  pub ended : (rest : List ℕ) (a b : Reader R) → Stands a rest → ReadRecord rem a b false [] → first_row rest ≡ None
-  ended rest a b s r = sym (s.front rest) ∙ rows-end rem a b [] default_config rest s.config s.source r
-
-  -- what an error of the reader says of the text
-  pub read_fault : (most : ℕ) (text rest : List ℕ) (a b : Reader R) (columns : Option Columns) (lines : List Line) (place : Place) (kind : ErrorKind)
-      (fault : ImportFault)
-      → Stands a rest → IsPlace text place → drop place.at text ≡ behind_ends rest → Holds text columns lines a.expected rest
-      → ExplainsRead rem a b false kind → IsReadFault kind place.line fault → IsTextFault most text fault
-  read_fault most text rest a b columns lines place (kinds.Io e) fault s is at h r f = rw f tt
-  read_fault most text rest a b columns lines place kinds.OutOfMemory fault s is at h r f = rw f tt
-  read_fault most text rest a b columns lines place (kinds.Serialize why) fault s is at h r f = absurd r
-  read_fault most text rest a b columns lines place (kinds.Deserialize pos err) fault s is at h r f = absurd r
-  read_fault most text rest a b columns lines place (kinds.Utf8 pos err) fault s is at h r f = absurd (cc (r.0))
-  read_fault most text rest a b None lines place (kinds.UnequalLengths pos expected len) fault s is at h r f = absurd (cc (r.1, h.2))
-  read_fault most text rest a b (Some columns) lines place (kinds.UnequalLengths pos expected len) fault s is at h r f =
-      let t = took_row a b rest r.3 s r.4 in
-      let wide : expected ≡ h.0 = cc (r.1, h.1) in
-      let other : length r.3 ≢ h.0 = λ e. r.2 (wide ∙ sym e ∙ r.5) in
-      rw f (inr (record {
-        columns = columns;
-        width = h.0;
-        lines = lines;
-        rest = rest;
-        read = h.2;
-        row = row_at place.line r.3;
-        next = (t.read, t.is, line_is text rest place is at, t.fields_are);
-        is = (refl, other);
-      }))
+-- a text whose first row never begins has no header
+pub no_header : (most : ℕ) (text rest : List ℕ) (lines : List Line) (wide : Option ℕ) → first_row rest ≡ None → Holds text None lines wide rest
+    → IsTextFault most text (faults.Csv 1)
+no_header most text rest lines wide none h = inl (inr (ap first_row (sym h.0) ∙ none, refl))
 
 -- ---- one row
 

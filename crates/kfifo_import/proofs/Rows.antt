@@ -4,7 +4,7 @@ use Rattle.kfifo_import.specs.declared.log.Line.{Line}
 use Rattle.kfifo_import.specs.declared.table.Columns.{Columns}
 use Rattle.kfifo_import.specs.Fields.{HasColumns}
 use Rattle.kfifo_import.specs.Rows.{AreRows, IsNextRow, Row, first_row, line_of}
-use Rattle.kfifo_import.specs.Tables.{AreLines, HasRead, IsLineOf}
+use Rattle.kfifo_import.specs.Tables.{AreLines, HasRead, Holds, IsLineOf}
 use Rattle.kfifo_import.specs.Taking.{Takes, row_at}
 
 -- one more row
@@ -48,11 +48,6 @@ takes_line text rest columns width lines row line next h c = record {
   has_columns = h.has_columns;
   are_lines = line_more columns width h.rows lines row line h.are_lines c;
 }
-
--- what was read of a text so far: nothing, or a header, which is as wide as a row must be, and lines
-abbrev pub Holds : List ℕ → Option Columns → List Line → Option ℕ → List ℕ → Type 0
-Holds text None lines wide rest = (rest ≡ text) × (lines ≡ []) × (wide ≡ None)
-Holds text (Some columns) lines wide rest = (width : ℕ) × (wide ≡ Some width) × HasRead text columns width lines rest
 
 -- a row that is taken, as wide as a row must be
 pub takes_row : (most : ℕ) (text rest : List ℕ) (columns after : Option Columns) (lines more : List Line) (wide : Option ℕ) (number : ℕ)

@@ -4,6 +4,7 @@ pub mod Lines
 pub mod Sorting
 pub mod Rows
 pub mod Spots
+pub mod Readers
 pub mod Tables
 pub mod Taking
 pub mod Wrong

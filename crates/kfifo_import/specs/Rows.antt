@@ -1,10 +1,9 @@
 -- The rows of a text in CSV, and the lines that they begin in.
-use Rattle.std.specs.Prelude.{◌≡◌, ◌≤◌, ◌+◌, ◌-◌, ◌==◌, ◌||◌, ℕ, List, [], ◌∷◌, Option, Some, count_by, drop, length}
+use Rattle.std.specs.Prelude.{◌≡◌, ◌+◌, ◌-◌, ◌==◌, ◌||◌, ℕ, List, [], ◌∷◌, Option, Some, count_by}
 use Rattle.std.specs.Prelude.{if◌then◌else◌}
 use Rattle.csv.specs.Machine.{Read, next_record}
 use Rattle.csv.specs.Reading.{default_config}
 use Rattle.csv.specs.declared.parser.State.TheVariants as st
-use Rattle.kfifo_import.specs.declared.walk.Place.{Place}
 
 -- a row of a table: the number of the line that it begins in, from 1, and its fields
 pub record Row : Type 0 where
@@ -37,8 +36,3 @@ IsNextRow text rest row = (read : Read) × (first_row rest ≡ Some read) × (ro
 unfoldable pub AreRows : List ℕ → List ℕ → List Row → List ℕ → Type 0
 AreRows text from [] rest = from ≡ rest
 AreRows text from (row ∷ rows) rest = (next : IsNextRow text from row) × AreRows text next.0.2 rows rest
-
--- a place in a text: so many bytes stand before it, and its line is one more than the lines that end before it
-pub record IsPlace (text : List ℕ) (place : Place) : Type 0 where
-  pub within : place.at ≤ length text
-  pub line : place.line + line_feeds (drop place.at text) ≡ line_feeds text + 1

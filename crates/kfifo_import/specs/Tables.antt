@@ -1,5 +1,5 @@
 -- What a log in CSV gives.
-use Rattle.std.specs.Prelude.{◌≡◌, ◌≢◌, ◌<◌, ◌⊎◌, ℕ, List, [], ◌∷◌, None, length}
+use Rattle.std.specs.Prelude.{◌≡◌, ◌≢◌, ◌<◌, ◌⊎◌, ℕ, List, [], ◌∷◌, Option, Some, None, length}
 use Rattle.kfifo_model.specs.declared.reading.TheConstants.{MAX_CALLS}
 use Rattle.csv.specs.Reading.{strip_bom}
 use Rattle.csv.specs.Records.{field_at}
@@ -36,6 +36,11 @@ pub record HasRead (text : List ℕ) (columns : Columns) (width : ℕ) (lines : 
   pub is_wide : length header.fields ≡ width
   pub has_columns : HasColumns header.fields columns
   pub are_lines : AreLines columns width rows lines
+
+-- what was read of a text so far: nothing, or a header, which is as wide as a row must be, and lines
+abbrev pub Holds : List ℕ → Option Columns → List Line → Option ℕ → List ℕ → Type 0
+Holds text None lines wide rest = (rest ≡ text) × (lines ≡ []) × (wide ≡ None)
+Holds text (Some columns) lines wide rest = (width : ℕ) × (wide ≡ Some width) × HasRead text columns width lines rest
 
 -- The lines are those of a table in CSV: a header with the six fields, and below it a row for each line, with its
 -- number and its call. A byte order mark is no part of the table.

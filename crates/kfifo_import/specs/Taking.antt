@@ -1,7 +1,5 @@
 -- What one row more does to a table, and why it is not taken.
 use Rattle.std.specs.Prelude.{◌≡◌, ◌++◌, ◌∷◌, [], ◌<◌, ◌≤◌, ℕ, List, Option, Some, None, length}
-use Rattle.csv.specs.declared.error.ErrorKind.{ErrorKind}
-use Rattle.csv.specs.declared.error.ErrorKind.TheVariants as kinds
 use Rattle.kfifo_import.specs.declared.log.ImportFault.{ImportFault}
 use Rattle.kfifo_import.specs.declared.log.ImportFault.TheVariants.{Csv, TooMany, NotACall, Memory}
 use Rattle.kfifo_import.specs.declared.log.Line.{Line}
@@ -39,9 +37,3 @@ IsWrongIn columns number fields None fault = Unit {0}
 IsWrongIn (Some columns) number fields (Some wrong) (NotACall n) = (wrong.line ≡ number)
     × IsFirstWrong columns fields wrong.field wrong.allowed
 IsWrongIn _ number fields (Some wrong) _ = ⊥
-
--- what an error of the reader at a line says of the text
-abbrev pub IsReadFault : ErrorKind → ℕ → ImportFault → Type 0
-IsReadFault (kinds.Io e) number fault = fault ≡ Memory
-IsReadFault kinds.OutOfMemory number fault = fault ≡ Memory
-IsReadFault _ number fault = fault ≡ Csv number

@@ -1,6 +1,6 @@
 //! Logs as tables of comma-separated fields.
 ghost use Rattle.std.specs.Prelude.{◌≡◌, ◌≤◌, ◌↔◌, ℕ, IfErr, IfOk, IsTrue, List, OnOk, Option};
-ghost use Rattle.std.specs.Prelude.{MatchOption, MatchResult, length, option_map};
+ghost use Rattle.std.specs.Prelude.{[], IsSome, MatchOption, MatchResult, None, length, option_map};
 ghost use Rattle.kfifo_model.specs.declared.calls.Answer.{Answer};
 ghost use Rattle.kfifo_model.specs.declared.calls.End.{End};
 ghost use Rattle.kfifo_model.specs.declared.calls.Op.{Op};
@@ -13,15 +13,16 @@ ghost use Rattle.kfifo_import.specs.Fields.{IsOnlyAt, IsPutAnswer, IsTakeAnswer,
 ghost use Rattle.kfifo_import.specs.Tables.{IsImported, IsNoCall, IsNoLog, IsReadLog, IsTextFault, IsUnimported};
 ghost use Rattle.kfifo_import.specs.Tables.{LacksColumns, ReadsLog};
 ghost use Rattle.kfifo_import.specs.Foreign.{IsJudgedLog, IsUnjudged};
-ghost use Rattle.kfifo_import.specs.Taking.{IsNotTaken, IsReadFault, IsWrongIn, Takes};
+ghost use Rattle.kfifo_import.specs.Taking.{IsNotTaken, IsWrongIn, Takes};
 ghost use Rattle.kfifo_import.specs.Wrong.{TellsWrong};
 
 use crate::answers::{put_answer, take_answer};
 use crate::foreign::log_to_judge;
 use crate::log::{ImportFault, Line, Log, MAX_LOG_CALLS, log_of};
-use crate::walk::{Place, row_end, row_front, without_mark};
+use crate::reader::LogReader;
+use crate::walk::without_mark;
 use crate::wrong::{Field, Refusal, wrong_field};
-use csv::{ByteRecord, ErrorKind, ReaderBuilder};
+use csv::ByteRecord;
 use kfifo_model::{Answer, AnswerWord, Call, End, History, MAX_CALLS, Op, OpWord};
 use std::alloc::Global;
 
@@ -234,19 +235,9 @@ fn line_of(row: &ByteRecord, columns: &Columns, number: u64) -> Option<Line>
     Some(Line { number, call, item })
 }
 
-/// What an error of the reader at a line says of the text.
-fn fault_of(kind: &ErrorKind, number: u64) -> ImportFault
-    ensures { IsReadFault kind.now number result }
-{
-    match kind {
-        ErrorKind::OutOfMemory | ErrorKind::Io(_) => ImportFault::Memory,
-        _ => ImportFault::Csv(number),
-    }
-}
-
 /// What was read of a table so far.
 #[derive(Drop)]
-struct Table {
+pub(crate) struct Table {
     /// Where the fields stand, once the header was read.
     columns: Option<Columns>,
     /// The lines below the header.
@@ -254,8 +245,30 @@ struct Table {
 }
 
 impl Table {
+    /// Nothing was read.
+    pub(crate) fn new(alloc: Global) -> Table
+        ensures { (result.columns ≡ None) × (result.lines.items ≡ []) }
+    {
+        Table {
+            columns: None,
+            lines: Vec::new(alloc),
+        }
+    }
+
+    /// The lines, where the header was read.
+    pub(crate) fn into_lines(self) -> Result<Vec<Line>, Refusal>
+        ensures ok { IfOk result (λ lines. IsSome self.columns × (lines ≡ self.lines)) }
+        ensures err { IfErr result (λ refusal. (self.columns ≡ None) × (refusal.fault ≡ ImportFault.Csv 1)
+            × (refusal.wrong ≡ None)) }
+    {
+        match self.columns {
+            Some(_) => Ok(self.lines),
+            None => Err(Refusal::from(ImportFault::Csv(1))),
+        }
+    }
+
     /// Takes in the next row, which begins at this line: the header, and then lines, so many at most.
-    fn take(
+    pub(crate) fn take(
         &mut self,
         alloc: Global,
         row: &ByteRecord,
@@ -301,27 +314,9 @@ pub fn lines_of(alloc: Global, text: &[u8], most: usize) -> Result<Vec<Line>, Re
     ensures err { IfErr result (λ refusal. IsTextFault most (strip_bom text.now) refusal.fault) }
     ensures wrong { IfErr result (λ refusal. TellsWrong (strip_bom text.now) refusal.wrong refusal.fault) }
 {
-    let reader = ReaderBuilder::new()
-        .has_headers(false)
-        .from_reader(alloc, text);
-    let mut table = Table {
-        columns: None,
-        lines: Vec::new(alloc),
-    };
-    let plain = without_mark(text);
-    let mut place = Place { at: 0, line: 1 };
-    for row in reader.into_byte_records() {
-        let front = row_front(plain, place);
-        match row {
-            Ok(row) => table.take(alloc, &row, front.line, most)?,
-            Err(error) => return Err(Refusal::from(fault_of(error.kind(), front.line))),
-        }
-        place = row_end(plain, front);
-    }
-    match table.columns {
-        Some(_) => Ok(table.lines),
-        None => Err(Refusal::from(ImportFault::Csv(1))),
-    }
+    let mut reader = LogReader::plain(alloc, most);
+    reader.feed(without_mark(text))?;
+    reader.finish()
 }
 
 /// The log that a text in CSV is, of so many calls at most.

@@ -1,6 +1,6 @@
-//! A log where memory is refused, and one of a queue that returned an item which no call can put.
+//! A log where memory is refused, one of a queue that returned an item which no call can put, and logs in pieces.
 use crate::plain::{import_text, read_log, read_log_to_judge};
-use kfifo_import::ImportFault;
+use kfifo_import::{ImportFault, Line, LogReader, Refusal};
 use std::alloc::Global;
 use std::test::Fail;
 
@@ -44,5 +44,65 @@ fn reads_an_item_that_no_call_can_put_to_judge_it(rt: HostRuntime) -> Result<(),
     let found = read_log(alloc, bytes);
     assert!(rt; found.is_err());
     assert!(rt; has_item_0(alloc, bytes)?);
+    Ok(())
+}
+
+/// A byte order mark, an empty line, a field in quotation marks over two lines, and a last line that does not end.
+const MARKED: &str =
+    "\u{FEFF}thread,op,item,first,last,answer,note\r\n\r\n0,enq,5,10,20,done,\"a, \"\"b\"\"\nc\"\n1,deq,,30,,,\"\"";
+
+/// The same with a third field too many in its last line.
+const WIDER: &str =
+    "\u{FEFF}thread,op,item,first,last,answer\n\n0,enq,5,10,20,done\r\n\n1,deq,,30,,,\"x\ny\"";
+
+/// The lines of a log that comes in two pieces, of which the first has so many bytes.
+fn cut_at(alloc: Global, bytes: &[u8], cut: usize) -> Result<Vec<Line>, Refusal> {
+    let mut reader = LogReader::new(alloc, 2);
+    let (first, second) = bytes.split_at(cut.min(bytes.len()));
+    reader.take(first)?;
+    reader.take(second)?;
+    reader.finish()
+}
+
+/// The lines of a log that comes a byte at a time.
+fn byte_by_byte(alloc: Global, bytes: &[u8]) -> Result<Vec<Line>, Refusal> {
+    let mut reader = LogReader::new(alloc, 2);
+    for at in 0..bytes.len() {
+        reader.take(&bytes[at..at + 1])?;
+    }
+    reader.finish()
+}
+
+/// Whether the lines are numbered 3 and 5, and the first is an enqueue of item 5.
+fn are_marked(lines: &[Line]) -> bool {
+    match lines {
+        [first, second] => first.number == 3 && first.item == Some(5) && second.number == 5,
+        _ => false,
+    }
+}
+
+#[test]
+fn reads_a_log_in_pieces(rt: HostRuntime) -> Result<(), Fail> {
+    let (alloc, bytes) = (rt.alloc(), MARKED.as_bytes());
+    for cut in 0..=bytes.len() {
+        let lines = cut_at(alloc, bytes, cut).map_err(|refusal| refusal.fault)?;
+        assert!(rt; are_marked(lines.as_slice()));
+    }
+    let lines = byte_by_byte(alloc, bytes).map_err(|refusal| refusal.fault)?;
+    assert!(rt; are_marked(lines.as_slice()));
+    Ok(())
+}
+
+#[test]
+fn refuses_a_log_in_pieces_at_its_line(rt: HostRuntime) -> Result<(), Fail> {
+    let (alloc, bytes) = (rt.alloc(), WIDER.as_bytes());
+    for cut in 0..=bytes.len() {
+        let fault = cut_at(alloc, bytes, cut).err().map(|refusal| refusal.fault);
+        assert_eq!(rt; fault, Some(ImportFault::Csv(5)));
+    }
+    let fault = byte_by_byte(alloc, bytes)
+        .err()
+        .map(|refusal| refusal.fault);
+    assert_eq!(rt; fault, Some(ImportFault::Csv(5)));
     Ok(())
 }
