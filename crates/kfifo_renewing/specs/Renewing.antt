@@ -5,13 +5,14 @@ use Rattle.std.specs.List.{Contains}
 use mathlib.Core.List.{IsPrefix}
 use Rattle.logbook.specs.Pages.{Book}
 use Rattle.kfifo_words.specs.declared.shape.Shape.{Shape}
+use Rattle.kfifo_words.specs.declared.word.TheConstants.{MAX_VERSION}
 use Rattle.kfifo_live.specs.declared.payload.Given.{Given}
 use Rattle.kfifo_live.specs.declared.payload.Given.TheVariants as G
 use Rattle.kfifo_live.specs.declared.payload.Taken.{Taken}
 use Rattle.kfifo_live.specs.declared.payload.Taken.TheVariants as K
 use Rattle.kfifo_model.specs.declared.calls.TheConstants.{MAX_THREADS}
 use Rattle.kfifo_live.specs.Calls.{IsDisturbed}
-use Rattle.kfifo_live.specs.Capacities.{HasRoom}
+use Rattle.kfifo_live.specs.Capacities.{HasRoom, segments_for, tokens_for}
 use Rattle.kfifo_live.specs.Handles.{further}
 use Rattle.kfifo_live.specs.Pass.{HasNoEvent, IsPassOf, IsSamePass, OpenQueue, PassKeepsPromise}
 use Rattle.kfifo_live.specs.Payloads.{PayCloses}
@@ -223,11 +224,15 @@ module _ {T : Type 0} where
   HaveOne o handles = (q : OpenQueue) × (book : Book) × (q.opened ≡ o) × All (HasOne q book) handles
       × (map (λ g. g.thread) handles ≡ count_up 0 o.threads)
 
-  -- a queue was opened with room for so many payloads: these are its handles
+  -- a queue was opened with room for so many payloads, with the sizes for that capacity: these are its handles
   pub record OpensFor (k capacity threads : ℕ) (handles : List (Generations T)) : Type 0 where
     pub sizes : Sizes
     pub k_is : sizes.shape.k ≡ k
+    pub segments_are : sizes.shape.n ≡ segments_for (threads * tokens_for capacity threads) k
+    pub last_is : sizes.shape.last ≡ MAX_VERSION
+    pub probes_are : sizes.shape.probes ≡ k
     pub threads_are : sizes.threads ≡ threads
+    pub tokens_are : sizes.tokens ≡ tokens_for capacity threads
     pub room : HasRoom capacity sizes
     pub have_one : HaveOne (opening_again sizes) handles
     pub count : length handles ≡ threads

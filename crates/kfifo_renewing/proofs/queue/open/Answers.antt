@@ -14,7 +14,11 @@ returns-in-Ok-open_first g c =
       record {
         sizes = c.in-Ok.sizes;
         k_is = sizes.3;
+        segments_are = sizes.4;
+        last_is = sizes.5;
+        probes_are = sizes.6;
         threads_are = sizes.1;
+        tokens_are = sizes.2;
         room = c.in-Ok.ensures.room;
         have_one = opened.0;
         count = opened.1 ∙ sizes.1;
