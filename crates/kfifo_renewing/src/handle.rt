@@ -548,18 +548,23 @@ impl<T: Drop> RenewingHandle<T> {
         ensures takes { (looked : List (HeldIn T)) × TakesFirst result self.old.older looked
             × LeavesGone self.new.seen looked self.new.older }
     {
-        let taken = self.take_first();
+        let mut found_empty = false;
+        let taken = self.take_first(&mut found_empty);
+        // Else none is over, and in a queue that has grown a look at each place would cost more than the take.
+        if !found_empty {
+            return taken;
+        }
         self.retire_over();
         self.leave_gone();
         taken
     }
 
-    /// Takes from the first of the older generations that is not found empty.
-    fn take_first(&mut self) -> Option<Taken<T>>
+    /// Takes from the first of the older generations that is not found empty. Says whether it found one empty.
+    fn take_first(&mut self, found_empty: &mut bool) -> Option<Taken<T>>
         ensures same { self.new ≡ with_older self.old self.new.older }
         ensures takes { TakesFirst result self.old.older self.new.older }
     {
-        take_first(self.older.as_mut_slice())
+        take_first(self.older.as_mut_slice(), found_empty)
     }
 
     /// Empties the places of the older generations that are over.
@@ -732,9 +737,12 @@ fn address_of<T: Drop>(shared: &Shared<T>) -> *mut u8
     std::ptr::from_ref(shared) as *mut u8
 }
 
-/// Takes from the first of these generations that is not empty. One that was empty, and to which nobody gave any more
-/// before that, is over.
-fn take_first<T: Drop>(generations: &mut [Leaving<Joined<T>>]) -> Option<Taken<T>>
+/// Takes from the first of these generations that is not empty. Says whether it found one empty: that one is over if
+/// nobody gave to it any more before that.
+fn take_first<T: Drop>(
+    generations: &mut [Leaving<Joined<T>>],
+    found_empty: &mut bool,
+) -> Option<Taken<T>>
     ensures same { AreSameParts generations.old generations.new }
     ensures takes { TakesFirst result (held_by generations.old) (held_by generations.new) }
 {
@@ -744,7 +752,8 @@ fn take_first<T: Drop>(generations: &mut [Leaving<Joined<T>>]) -> Option<Taken<T
     match first.take_here() {
         Taken::Empty => {
             first.set_over(!has_givers);
-            take_first(rest)
+            *found_empty = true;
+            take_first(rest, found_empty)
         }
         taken => Some(taken),
     }
