@@ -660,7 +660,7 @@ template <typename Task> class More {
     // The same with a task that is made of these arguments.
     // Cost: as give, with that constructor of Task.
     //
-    //     more.emplace(folder, depth + 1);
+    //     more.emplace(folder.path + "a", folder.depth + 1);
     template <typename... Arguments> void emplace(Arguments &&...arguments) {
         own.give([](Task &&) {}, std::forward<Arguments>(arguments)...);
     }
@@ -682,7 +682,7 @@ template <typename Task> class More {
     // worker can have data of its own.
     // Cost: a load.
     //
-    //     found[more.worker()]++;
+    //     looked_at[more.worker()]++;
     [[nodiscard]] std::size_t worker() const { return own.number; }
 
   private:
@@ -710,9 +710,10 @@ template <typename Task, typename Call> struct Loop {
 // Cost: a task costs as a kfifo_give and a kfifo_take. With the second task the run opens its queue, about half a
 // megabyte, and it starts a thread for each of the next ones, until all are started.
 //
-//     auto report = kfifo::work::run<State>({start}, [&](State state, auto &more) {
-//         for (State next : state.moves())
-//             if (seen.insert(next)) more.give(next);
+//     report = kfifo::work::run<Stack>({0}, [&](Stack stack, auto &more) {
+//         auto distance = static_cast<std::uint8_t>(distances[stack] + 1);
+//         for (Stack next : stacks.flips(stack))
+//             if (lower(distances[next], distance)) more.give(next);
 //     });
 //
 // Task can be moved, and its destructor throws nothing. It is handed to the body as a Task &&, which lives until the
