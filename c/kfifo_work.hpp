@@ -7,12 +7,12 @@
 // chains, so that nodes are asked for about as often as the backlog grows.
 //
 // The order. When a task is begun, all tasks given before it have been begun but k - 1 at most, and one for each other
-// worker. While the queue changes its generation, as it does when it grows, it may be one more for each worker. What
-// finds no room, since the queue has no more generations or there is no memory for one, waits in a list of the worker
-// who gave it. That worker moves it into the queue, in its order, as soon as there is room, and looks for room whenever
-// it gives or takes a task. A worker that finds the queue empty takes from the lists of all. So while such a list has
-// tasks, one of them may be passed over by any number of tasks that other workers gave later, and none is passed over
-// by a later task of its own worker but k - 1 and one for each other worker. `capacity` says when that begins.
+// worker. While the queue changes its generation, as it does when it grows, it may be one more for each other worker.
+// What finds no room, since the queue has no more generations or there is no memory for one, waits in a list of the
+// worker who gave it. That worker moves it into the queue, in its order, as soon as there is room, and looks for room
+// whenever it gives or takes a task. A worker that finds the queue empty takes from the lists of all. So while such a
+// list has tasks, any number of tasks that other workers gave later may be begun before one of them. docs/WORK.md says
+// for how many tasks there is room.
 //
 // How the end is found. No count is written by two threads. Each worker has two on a cache line of its own: how many
 // tasks it gave, which it raises before it gives one, and how many it did, which it raises when the task's body has
