@@ -254,6 +254,47 @@ void throws_what_a_task_threw(std::size_t threads) {
     expect(Counted::alive == 0, "no task lives on after a throw");
 }
 
+// A task whose copies throw now and then.
+struct Fragile {
+    explicit Fragile(std::uint64_t of) : value(of) {}
+    Fragile(const Fragile &other) : value(other.value) {
+        if (copies++ % 3 == 2) throw std::runtime_error("a copy");
+    }
+    Fragile(Fragile &&other) noexcept = default;
+    Fragile &operator=(Fragile &&other) noexcept = default;
+    std::uint64_t value;
+    static std::atomic<std::uint64_t> copies;
+};
+std::atomic<std::uint64_t> Fragile::copies{0};
+
+// Where a copy throws, nothing is given, and the run goes on.
+void gives_nothing_where_a_copy_throws(std::size_t threads) {
+    const std::uint64_t numbers = 2000;
+    Done done(numbers);
+    std::atomic<std::uint64_t> thrown{0};
+    std::vector<Fragile> start;
+    start.emplace_back(0);
+    auto report = kfifo::work::run<Fragile>(
+        std::move(start),
+        [&](Fragile &&task, auto &more) {
+            done(task.value);
+            for (std::uint64_t next : {2 * task.value + 1, 2 * task.value + 2}) {
+                const Fragile child(next);
+                for (bool is_given = next >= numbers; !is_given;) {
+                    try {
+                        more.give(child);
+                        is_given = true;
+                    } catch (const std::runtime_error &) {
+                        thrown++;
+                    }
+                }
+            }
+        },
+        by(threads));
+    expect(done.each_once() && report.done() == numbers, "a give that threw has given nothing");
+    expect(thrown > numbers / 4, "copies throw");
+}
+
 // All workers throw at about the same time: one of these is thrown.
 void throws_one_of_many() {
     std::atomic<int> thrown{0};
@@ -414,6 +455,7 @@ int main() {
         does_all<Wide>(threads);
         does_all<std::unique_ptr<std::uint64_t>>(threads);
         for (std::uint32_t k : {1, 4, 64}) passes_over_few(threads, k);
+        gives_nothing_where_a_copy_throws(threads);
         for (int round = 0; round < scale; round++) {
             stops(threads);
             throws_what_a_task_threw(threads);

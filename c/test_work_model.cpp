@@ -6,7 +6,6 @@
 #include <cstdint>
 #include <cstdio>
 #include <cstring>
-#include <cstdlib>
 #include <unordered_set>
 #include <vector>
 
@@ -381,10 +380,14 @@ State beginning(Bag tasks, std::uint8_t refusals) {
     return state;
 }
 
-// Where the search begins.
+// Where the search begins. The first three show each fault.
 std::vector<State> beginnings() {
-    return {beginning({1, 0, 0}, 0), beginning({2, 0, 0}, 0), beginning({0, 1, 0}, 1), beginning({0, 0, 1}, 2),
-            beginning({1, 1, 0}, 1)};
+    std::vector<State> all{beginning({1, 0, 0}, 0), beginning({2, 0, 0}, 0), beginning({0, 1, 0}, 1)};
+#ifndef FEWER
+    all.push_back(beginning({0, 0, 1}, 2));
+    all.push_back(beginning({1, 1, 0}, 1));
+#endif
+    return all;
 }
 
 bool holds(Fault fault, std::size_t &states) {
@@ -392,7 +395,6 @@ bool holds(Fault fault, std::size_t &states) {
         Search search(fault);
         bool is_right = search.holds(from);
         states += search.states();
-        if (getenv("V")) std::printf("fault %d: %zu\n", (int)fault, search.states());
         if (!is_right) return false;
     }
     return true;
