@@ -399,10 +399,12 @@ template <typename Task> class alignas(2 * line) Worker {
         while (most-- > 0 && !list.is_empty() && kfifo_give(by, list.front()) == KFIFO_DONE) unlist_first();
     }
 
-    // Hands the first task of the list to a worker that finds the queue empty, and moves others into the queue.
+    // Hands a task to a worker that found the queue empty, and moves others into the queue. Somebody may have moved
+    // some meanwhile: the queue's are older.
     bool hands_over(Worker &to, std::uint64_t &word) {
         if (listed.load(std::memory_order_relaxed) == 0) return false;
         std::lock_guard<std::mutex> lock(mutex);
+        if (kfifo_take_once(to.pass, &word) == KFIFO_DONE) return true;
         if (list.is_empty()) return false;
         word = list.front();
         unlist_first();

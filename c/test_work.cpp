@@ -139,6 +139,20 @@ template <typename Task> void comes_in_bursts(std::size_t threads, std::uint64_t
     expect(threads > 1 || report.greatest_backlog > each - 64, "the backlog of a burst");
 }
 
+// One task gives a thousand that all wait until the last is given. Every 64th give looks at the backlog.
+void sees_the_backlog() {
+    std::atomic<bool> all_given{false};
+    auto report = kfifo::work::run<int>(
+        {0},
+        [&](int number, auto &more) {
+            for (int next = 1; number == 0 && next <= 1000; next++) more.give(next);
+            if (number == 0) all_given = true;
+            while (!all_given) std::this_thread::yield();
+        },
+        by(4));
+    expect(report.greatest_backlog > 1001 - 64 && report.greatest_backlog <= 1001, "the backlog of tasks that wait");
+}
+
 // A task gives more than the queue has room for, and runs on until all are done: other workers take them out of its
 // worker's list. With 64 workers the queue does not grow, and with k = 1 it has room for some 1,000 tasks.
 template <typename Task> void gives_more_than_there_is_room_for(std::size_t threads, std::uint32_t k) {
@@ -293,6 +307,25 @@ void gives_nothing_where_a_copy_throws(std::size_t threads) {
         by(threads));
     expect(done.each_once() && report.done() == numbers, "a give that threw has given nothing");
     expect(thrown > numbers / 4, "copies throw");
+}
+
+// Chains that never end, unless a throw or a stop ends them.
+void ends_what_has_no_end(std::size_t threads, bool throws) {
+    bool is_caught = false;
+    try {
+        auto report = kfifo::work::run<std::uint64_t>(
+            tasks_of<std::uint64_t>(0, 8),
+            [&](std::uint64_t number, auto &more) {
+                more.give(number + 8);
+                if (number == 8000 && throws) throw std::logic_error("enough");
+                if (number == 8000) more.stop();
+            },
+            by(threads));
+        expect(report.left.size() == 8, "each chain goes on, and its next task is left");
+    } catch (const std::logic_error &) {
+        is_caught = true;
+    }
+    expect(is_caught == throws, "a run without an end throws what a task threw");
 }
 
 // All workers throw at about the same time: one of these is thrown.
@@ -457,6 +490,7 @@ int main() {
         for (std::uint32_t k : {1, 4, 64}) passes_over_few(threads, k);
         gives_nothing_where_a_copy_throws(threads);
         for (int round = 0; round < scale; round++) {
+            for (bool throws : {false, true}) ends_what_has_no_end(threads, throws);
             stops(threads);
             throws_what_a_task_threw(threads);
         }
@@ -468,6 +502,7 @@ int main() {
         }
     }
     for (int round = 0; round < scale; round++) throws_one_of_many();
+    sees_the_backlog();
     keeps_the_order();
     runs_of_few_tasks();
     one_task_is_cheap();

@@ -7,6 +7,7 @@
 #include <cstdio>
 #include <cstdlib>
 #include <new>
+#include <thread>
 #include <vector>
 
 extern "C" {
@@ -161,9 +162,36 @@ template <typename Task> long refuses_each(std::size_t threads, long most) {
     return all;
 }
 
+// How many requests a run makes in which one task gives so many, and others do them, with few at once.
+long requests_of(int gives) {
+    std::atomic<int> ended{0};
+    requests = 0;
+    kfifo::work::Options options;
+    options.threads = 3;
+    auto report = kfifo::work::run<Counted>(
+        std::vector<Counted>(1, Counted(0)),
+        [&](const Counted &task, auto &more) {
+            ended += task.value;
+            for (int i = 0; task.value == 0 && i < gives; i++) {
+                while (i - ended > 300) std::this_thread::yield();
+                more.emplace(1);
+            }
+        },
+        options);
+    expect(report.done() == static_cast<std::uint64_t>(gives) + 1, "each task of a stream is done", 0);
+    return requests;
+}
+
+// Nodes go back from those who did the tasks to the one that gives them: memory does not grow with the tasks.
+void uses_nodes_again() {
+    long few = requests_of(5000), many = requests_of(50000);
+    expect(many < few + 50, "a long run makes many requests for memory", many);
+}
+
 } // namespace
 
 int main() {
+    uses_nodes_again();
 #ifdef FEWER
     const long most = 30;
 #else
