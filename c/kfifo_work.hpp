@@ -589,7 +589,8 @@ template <typename Task> class Pool {
         return !is_stopped() && !(is_open && (kfifo_waits_state(waits()) & KFIFO_WAITS_TAKERS));
     }
 
-    // Starts one more worker. Where the system refuses a thread, the run goes on with those that it has.
+    // Starts one more worker. Where the system refuses a thread, the run goes on with those that it has, and gives back
+    // the other handles, whose generation others would look into.
     void start_worker() {
         std::unique_lock<std::mutex> lock(starting, std::try_to_lock);
         std::size_t which = started.load(std::memory_order_relaxed);
@@ -599,7 +600,10 @@ template <typename Task> class Pool {
             threads.emplace_back([this, which] { loop(workers[which], call); });
             started.store(which + 1, std::memory_order_relaxed);
         }
-        KFIFO_CATCH { limit.store(which, std::memory_order_relaxed); }
+        KFIFO_CATCH {
+            limit.store(which, std::memory_order_relaxed);
+            (void)kfifo_abandon_values(passes + which, workers.size() - which);
+        }
     }
 
     // Waits for all workers. One that is joined starts no others, so when the last is joined there are no more.
