@@ -58,9 +58,9 @@ int main() {
     auto opened = kfifo::ValueQueue<Request>::try_open(1, 2, 1);
     is_done = is_done && opened.queue && kfifo::Queue::try_open(0, 2, 1).status == KFIFO_BAD_K;
     is_done = is_done && opened.queue->handle().emplace(Request{1, std::nullopt}) == kfifo::Put::done;
-    auto work = [](std::string &&task, kfifo::work::More<std::string> &more) {
-        if (task.size() < 3) more.emplace(task.size() + 1, 'g');
-        if (task.size() == 3 && !more.is_stopped()) more.stop();
+    auto work = [](std::string &&task, kfifo::work::More<std::string> &tasks) {
+        if (task.size() < 3) tasks.emplace(task.size() + 1, 'g');
+        if (task.size() == 3 && !tasks.is_stopped()) tasks.stop();
     };
     auto report = kfifo::work::run<std::string>(words, work, kfifo::work::Options{2, 16});
     is_done = is_done && report.done() + report.left.size() >= 4 && report.sleeps() <= report.done() + 2;
