@@ -1,13 +1,14 @@
 #!/usr/bin/env python3
 """Measures work that spawns work: kfifo::work::run beside the same loop by hand around other lists of tasks, and beside
 TBB's scheduler. Each round runs all lists one after the other, and begins with another one than the round before. It
-prints tables in Markdown, with medians over the rounds.
+prints tables in Markdown, with medians over the rounds. With --out it also writes them to FOLDER/work.md, and draws two
+pictures there: what a task costs, and how long jobs wait.
 
-    bench/work.py [--rounds N] [--only WORD] [--library FILE] [--small]
+    bench/work.py [--rounds N] [--only WORD] [--library FILE] [--small] [--out FOLDER]
 
 A list that does not end within a minute has `over 60 s` in its place. With --small the workloads are small ones, for a
 look whether all run. It needs a C and a C++ compiler, cargo, and Debian's libtbb-dev, libconcurrentqueue-dev,
-librust-crossbeam-queue-dev and librust-crossbeam-channel-dev.
+librust-crossbeam-queue-dev and librust-crossbeam-channel-dev, and for pictures python3-matplotlib.
 """
 import argparse
 import dataclasses
@@ -16,6 +17,7 @@ import os
 import statistics
 import subprocess
 import sys
+import textwrap
 
 HERE = os.path.dirname(os.path.abspath(__file__))
 OUT = f"{HERE}/out"
@@ -118,17 +120,60 @@ def table(workload, found):
     return [*lines, ""]
 
 
+def draw(file, head, unit, measured, key):
+    """Draws a group of bars for each of these workloads: the median of each list, on a logarithmic axis."""
+    # Only pictures need it.
+    from matplotlib import pyplot
+
+    # The same figures give the same file.
+    pyplot.rcParams["svg.hashsalt"] = "kfifo"
+    figure, axes = pyplot.subplots(figsize=(9, 4), layout="constrained")
+    lists = list(measured[0][1])
+    width = 0.84 / len(lists)
+    for place, one in enumerate(lists):
+        heights = [
+            statistics.median(run[key] for run in found[one]) if None not in found[one] else 0 for _, found in measured
+        ]
+        left = [group + (place - (len(lists) - 1) / 2) * width for group in range(len(measured))]
+        axes.bar(left, heights, width, label=one[2], edgecolor="black", linewidth=0.5)
+    axes.set_xticks(range(len(measured)), [textwrap.fill(it.title, 30) for it, _ in measured], fontsize=8)
+    axes.set_yscale("log")
+    axes.set_title(head, fontsize=10)
+    axes.set_ylabel(unit, fontsize=8)
+    axes.legend(fontsize=8, ncols=4, loc="upper center", bbox_to_anchor=(0.5, -0.2))
+    figure.savefig(file, metadata={"Date": None})
+    pyplot.close(figure)
+
+
+def write(folder, measured):
+    """Writes the tables, and the pictures of those workloads that were measured."""
+    os.makedirs(folder, exist_ok=True)
+    with open(f"{folder}/work.md", "w") as page:
+        page.write("\n".join("\n".join(table(workload, found)) for workload, found in measured))
+    trees = [it for it in measured if it[0].words[0] == "tree" and it[0].threads > 1]
+    jobs = [it for it in measured if it[0].words[0] == "jobs"]
+    if trees:
+        draw(f"{folder}/work_tasks.svg", "What a task costs on four threads", "nanoseconds", trees, "nanoseconds")
+    if jobs:
+        draw(f"{folder}/work_jobs.svg", "How long 99.9 of 100 jobs wait at most", "microseconds", jobs, "99.9")
+
+
 def main():
     given = argparse.ArgumentParser(description=__doc__, formatter_class=argparse.RawDescriptionHelpFormatter)
     given.add_argument("--rounds", type=int, default=7)
     given.add_argument("--only", default="", help="workloads whose title has this word")
     given.add_argument("--library", help="a built libkfifo.a")
     given.add_argument("--small", action="store_true")
+    given.add_argument("--out", metavar="FOLDER")
     options = given.parse_args()
     build(options.library and os.path.abspath(options.library))
+    measured = []
     for workload in workloads(options.small):
         if options.only in workload.title:
-            print("\n".join(table(workload, measure(workload, options.rounds))), flush=True)
+            measured.append((workload, measure(workload, options.rounds)))
+            print("\n".join(table(*measured[-1])), flush=True)
+    if options.out:
+        write(options.out, measured)
 
 
 if __name__ == "__main__":
