@@ -13,7 +13,7 @@
 #include <vector>
 
 #ifdef FEWER
-constexpr int usual_pancakes = 7;
+constexpr int usual_pancakes = 8;
 #else
 constexpr int usual_pancakes = 10;
 #endif

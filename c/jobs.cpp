@@ -10,11 +10,7 @@
 #include <thread>
 #include <vector>
 
-#ifdef FEWER
-constexpr std::size_t requests = 200;
-#else
-constexpr std::size_t requests = 5000;
-#endif
+constexpr std::size_t requests = 6000;
 
 using Clock = std::chrono::steady_clock;
 
