@@ -713,8 +713,8 @@ template <typename Task, typename Call> struct Loop {
 // worker that begins it, and gives further tasks by `more`, a More<Task> &. The call returns when all are done, and the
 // calling thread is one of the workers. With one worker the tasks are done in their order. Workers are started as the
 // tasks come, so a run of one task that gives none starts no thread. One that finds no task sleeps.
-// Cost: a task costs as a kfifo_give and a kfifo_take. With the second task the run opens its queue, about half a
-// megabyte, and it starts a thread for each of the next ones, until all are started.
+// Cost: a task costs as a kfifo_give and a kfifo_take. With the second task the run opens its queue, 0.8 megabytes with
+// k = 16, and it starts a thread for each of the next ones, until all are started.
 //
 //     report = kfifo::work::run<Stack>({0}, [&](Stack stack, auto &more) {
 //         auto distance = static_cast<std::uint8_t>(distances[stack] + 1);

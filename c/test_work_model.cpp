@@ -207,11 +207,35 @@ class Search {
         case see_end: worker.step = state.finished ? ended : see_lists; return;
         case full_step:
             if (fault != Fault::no_full_step) see_all(worker);
-            worker.sum = worker.sum_of_given = worker.next = 0;
             worker.step = fault == Fault::given_added_up_first ? add_given : add_done;
             return;
         case add_done:
         case add_given: adds(state, worker); return;
+        case see_others:
+            worker.step = wake;
+            if (!state.has_waiting()) after_give(worker);
+            return;
+        case count_given:
+            store(worker, false);
+            worker.step = put;
+            return;
+        case count_done:
+            if (fault != Fault::done_counted_before_body) store(worker, true);
+            worker.is_in_body = worker.has_given = 0;
+            to_next(worker);
+            return;
+        case say_over:
+            is_wrong = is_wrong || state.has_tasks();
+            state.finished = 1;
+            worker.step = fault == Fault::end_wakes_none ? ended : wake_all;
+            return;
+        default: waits(worker);
+        }
+    }
+
+    // The steps of one that waits.
+    void waits(Worker &worker) const {
+        switch (worker.step) {
         case announce:
             see_all(worker);
             worker.is_announced = 1;
@@ -226,24 +250,6 @@ class Search {
             see_all(worker);
             worker.is_announced = worker.is_current = 0;
             to_next(worker);
-            return;
-        case count_given:
-            store(worker, false);
-            worker.step = put;
-            return;
-        case see_others:
-            worker.step = wake;
-            if (!state.has_waiting()) after_give(worker);
-            return;
-        case count_done:
-            if (fault != Fault::done_counted_before_body) store(worker, true);
-            worker.is_in_body = worker.has_given = 0;
-            to_next(worker);
-            return;
-        case say_over:
-            is_wrong = is_wrong || state.has_tasks();
-            state.finished = 1;
-            worker.step = fault == Fault::end_wakes_none ? ended : wake_all;
             return;
         default: return;
         }
