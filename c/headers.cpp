@@ -1,5 +1,5 @@
 // The calls of the headers for C++, to be compiled with more warnings than programs are: `make headers`.
-#include "kfifo.hpp"
+#include "kfifo_work.hpp"
 #include "kfifo_judge.h"
 
 #include <chrono>
@@ -16,6 +16,8 @@ struct Copied {
 
 template class kfifo::ValueQueue<std::string>;
 template class kfifo::ValueQueue<Copied>;
+template class kfifo::work::More<std::string>;
+template class kfifo::work::More<int>;
 
 // A value with a handle of a queue of such values.
 struct Request {
@@ -56,5 +58,11 @@ int main() {
     auto opened = kfifo::ValueQueue<Request>::try_open(1, 2, 1);
     is_done = is_done && opened.queue && kfifo::Queue::try_open(0, 2, 1).status == KFIFO_BAD_K;
     is_done = is_done && opened.queue->handle().emplace(Request{1, std::nullopt}) == kfifo::Put::done;
+    auto work = [](std::string &&task, kfifo::work::More<std::string> &tasks) {
+        if (task.size() < 3) tasks.emplace(task.size() + 1, 'g');
+        if (task.size() == 3 && !tasks.is_stopped()) tasks.stop();
+    };
+    auto report = kfifo::work::run<std::string>(words, work, kfifo::work::Options{2, 16});
+    is_done = is_done && report.done() + report.left.size() >= 4 && report.sleeps() <= report.done() + 2;
     return is_done && KFIFO_MAX_THREADS == 64 ? 0 : 1;
 }

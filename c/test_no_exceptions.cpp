@@ -1,6 +1,6 @@
 // The queue in a program that is built without exceptions: an opening says why there is no queue, and every other
 // answer is a value too.
-#include "kfifo.hpp"
+#include "kfifo_work.hpp"
 
 #include <cstdio>
 #include <string>
@@ -28,8 +28,12 @@ int main() {
     std::string all;
     for (std::string word : taker.values()) all += word;
     producer.join();
+    auto report = kfifo::work::run<int>({1}, [](int number, auto &more) {
+        for (int next = number + 1; next < 5; next++) more.give(next);
+    });
     auto items = kfifo::Queue::try_open(1, 8, 1);
     bool is_right = all == "onetwothree" && items.queue && items.queue->pass(0).enqueue(7) == kfifo::Put::done;
+    is_right = is_right && report.done() == 8;
     std::puts(is_right ? "a program without exceptions opens a queue, and ends it"
                        : "a program without exceptions fails");
     return is_right ? 0 : 1;
