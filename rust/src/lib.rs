@@ -48,6 +48,7 @@ pub mod judge;
 mod many;
 mod shared;
 mod values;
+pub mod work;
 
 pub use error::{OpenError, PopError, PushError};
 pub use many::PushAllError;
