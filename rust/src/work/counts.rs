@@ -77,7 +77,10 @@ impl Counts {
     pub(crate) fn are_over(&self) -> bool {
         fence(Ordering::SeqCst);
         let done: u64 = self.lines().map(|it| it.done.load(Ordering::Acquire)).sum();
-        let given: u64 = self.lines().map(|it| it.given.load(Ordering::Acquire)).sum();
+        let given: u64 = self
+            .lines()
+            .map(|it| it.given.load(Ordering::Acquire))
+            .sum();
         done == given
     }
 

@@ -68,6 +68,7 @@ pub use worker::More;
 
 use queue::Sizes;
 use std::convert::Infallible;
+use std::fmt::{self, Debug, Formatter};
 use std::mem::forget;
 use std::panic::{AssertUnwindSafe, catch_unwind, resume_unwind};
 use std::thread::{self, Builder, ScopedJoinHandle};
@@ -133,7 +134,7 @@ impl Options {
 /// assert!(report.left.is_empty() && report.backlog <= 100);
 /// # Ok::<(), RunError<i32>>(())
 /// ```
-#[derive(Clone, Debug, PartialEq, Eq)]
+#[derive(Clone, PartialEq, Eq)]
 #[must_use]
 pub struct Report<T> {
     /// How many tasks each worker has done, the calling thread first. A task that panicked or returned an error is not
@@ -147,6 +148,18 @@ pub struct Report<T> {
     /// The tasks that were not begun, as a run leaves them that is stopped or ends by an error: those of the queue
     /// first, in its order.
     pub left: Vec<T>,
+}
+
+// As with `PushError`, the tasks need not be printable: it shows how many are left.
+impl<T> Debug for Report<T> {
+    fn fmt(&self, f: &mut Formatter<'_>) -> fmt::Result {
+        f.debug_struct("Report")
+            .field("done", &self.done)
+            .field("backlog", &self.backlog)
+            .field("slept", &self.slept)
+            .field("left", &self.left.len())
+            .finish()
+    }
 }
 
 impl<T> Report<T> {
@@ -403,3 +416,7 @@ fn give_first<T, E>(
     more.stop();
     back
 }
+
+#[cfg(test)]
+#[path = "../../tests/unit/worn_work.rs"]
+mod worn;

@@ -270,10 +270,10 @@ impl Queue {
                 return ffi::FINISHED;
             }
             // SAFETY: as of `put`.
-            let status = unsafe { ffi::kfifo_c_take(self.passes.at(pass), value) };
+            let mut status = unsafe { ffi::kfifo_c_take(self.passes.at(pass), value) };
             if status == ffi::EMPTY && self.has_list() {
                 // SAFETY: as the caller says.
-                return unsafe { self.take_listed(pass, value) };
+                status = unsafe { self.take_listed(pass, value) };
             }
             if status != ffi::BUSY {
                 return status;
@@ -283,7 +283,8 @@ impl Queue {
         }
     }
 
-    /// Takes the oldest value of the list, and moves others into the queue.
+    /// Takes the oldest value of the list, and moves others into the queue. What others have moved there meanwhile comes
+    /// before it: GOT, EMPTY, BUSY, or WORN.
     ///
     /// # Safety
     ///
@@ -291,6 +292,11 @@ impl Queue {
     #[cold]
     unsafe fn take_listed(&self, pass: usize, value: &mut Value) -> u32 {
         let mut list = self.lock();
+        // SAFETY: as of `put`.
+        let status = unsafe { ffi::kfifo_c_take(self.passes.at(pass), value) };
+        if status != ffi::EMPTY {
+            return status;
+        }
         let Some(oldest) = list.pop_front() else {
             return ffi::EMPTY;
         };
