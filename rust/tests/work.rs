@@ -1,7 +1,6 @@
 //! Runs of tasks that give tasks: each is done once or comes back, whatever stops the run, and each is dropped once.
 use kfifo::work::{self, Cause, More, Options, Report};
 use std::panic::{AssertUnwindSafe, catch_unwind, panic_any};
-use std::sync::Mutex;
 use std::sync::atomic::{AtomicU64, AtomicUsize, Ordering};
 use std::thread;
 use std::time::Duration;
@@ -120,62 +119,69 @@ fn bursts_of_bursts_are_done() {
     }
 }
 
-/// With one worker the order is that of the k, also through growth, and through the list of what has no room.
-#[test]
-fn one_worker_keeps_the_order() {
-    for (k, count) in [(1, 300_000), (4, 100_000), (16, 300_000), (64, 50_000)] {
-        let begun = Mutex::new(Vec::new());
-        let options = Options {
-            threads: Some(1),
-            k,
-        };
-        let report = work::run(
-            0..count,
-            |number, _| begun.lock().expect("no panic").push(number),
-            options,
-        );
-        assert_eq!(
-            total(&report.expect("the options are in range")),
-            count as u64
-        );
-        let begun = begun.into_inner().expect("no panic");
-        let mut waits = vec![true; count];
-        let mut oldest = 0;
-        for number in begun {
-            let overtaken = waits[oldest..number].iter().filter(|it| **it).count();
-            assert!(overtaken < k as usize, "{number} overtook {overtaken}");
-            waits[number] = false;
-            while oldest < count && !waits[oldest] {
-                oldest += 1;
-            }
+/// Looks how many older tasks each one overtook. `begun` has the numbers of the tasks, which were given in their order.
+fn most_overtaken(begun: &[usize]) -> usize {
+    let mut waits = vec![true; begun.len()];
+    let (mut oldest, mut most) = (0, 0);
+    for number in begun {
+        let older = waits[oldest.min(*number)..*number].iter();
+        most = most.max(older.filter(|it| **it).count());
+        waits[*number] = false;
+        while oldest < waits.len() && !waits[oldest] {
+            oldest += 1;
         }
     }
+    most
 }
 
-/// With k = 1 each worker's tasks are done in their order: those of each giver, seen by one taker.
-#[test]
-fn tasks_are_begun_about_in_their_order() {
-    let count = 100_000;
-    let begun: Vec<_> = (0..count).map(|_| AtomicU64::new(0)).collect();
-    let clock = AtomicU64::new(0);
+/// Gives so many tasks by one worker, and returns their numbers as they were begun.
+fn order_of(workers: usize, k: u32, count: usize) -> Vec<usize> {
+    let begun: Vec<_> = (0..count).map(|_| AtomicUsize::new(usize::MAX)).collect();
+    let clock = AtomicUsize::new(0);
+    let options = Options {
+        threads: Some(workers),
+        k,
+    };
     let report = work::run(
         0..count,
         |number, _| {
             let now = clock.fetch_add(1, Ordering::SeqCst);
-            begun[number].store(now, Ordering::Relaxed);
+            begun[now].store(number, Ordering::Relaxed);
         },
-        threads(4),
+        options,
     );
-    assert_eq!(
-        total(&report.expect("the options are in range")),
-        count as u64
-    );
-    // A thread may stop between its take and the clock, so only most tasks are looked at.
-    let near = begun.iter().enumerate().filter(|(number, at)| {
-        let at = at.load(Ordering::Relaxed);
-        at.abs_diff(*number as u64) < 1_000
-    });
-    assert!(near.count() > count / 2);
+    let done = total(&report.expect("the options are in range"));
+    assert_eq!(done, count as u64);
+    begun.into_iter().map(AtomicUsize::into_inner).collect()
+}
+
+/// With one worker a task overtakes k - 1 at most, also through growth, and through the list of what has no room.
+#[test]
+fn one_worker_keeps_the_order() {
+    for (k, count) in [(1, 300_000), (4, 100_000), (16, 300_000), (64, 50_000)] {
+        let most = most_overtaken(&order_of(1, k, count));
+        assert!(most < k as usize, "one task overtook {most}");
+    }
+}
+
+/// With several a task overtakes one more for each other worker, and as many where the queue grows. Here each other
+/// worker may besides have taken one task that it has not begun to count.
+#[test]
+fn workers_keep_the_order() {
+    for (workers, k, count) in [
+        (2, 1, 200_000),
+        (4, 4, 200_000),
+        (4, 16, 50_000),
+        (64, 1, 50_000),
+    ] {
+        let most = most_overtaken(&order_of(workers, k, count));
+        let others = workers - 1;
+        println!("{workers} workers, k = {k}: one task overtook {most}");
+        assert!(
+            most <= k as usize - 1 + 3 * others,
+            "one task overtook {most}"
+        );
+    }
 }
 
 #[test]
@@ -589,6 +595,32 @@ fn what_was_written_before_a_give_is_seen() {
     );
     assert_eq!(total(&report.expect("in range")), 40_000);
     assert!(cells.into_iter().all(|it| it.0.into_inner() == 5_000));
+}
+
+/// A run within limits of memory that are too few for 64 threads: it begins no task, and hands all back.
+#[cfg(target_arch = "x86_64")]
+#[test]
+fn a_thread_that_is_not_started_ends_the_run() {
+    const NAME: &str = "a_thread_that_is_not_started_ends_the_run";
+    if std::env::var_os("IS_LIMITED").is_some() {
+        let ended = work::run([1, 2], |_, _| {}, threads(64)).expect_err("there is no memory");
+        assert!(matches!(ended.why, Cause::Thread(_)), "{ended}");
+        assert_eq!(ended.report.left, [1, 2]);
+        assert_eq!(total(&ended.report), 0);
+        return;
+    }
+    let this = std::env::current_exe().expect("it has a path");
+    let limited = std::process::Command::new("sh")
+        .args(["-c", "ulimit -v 90000 && exec \"$0\" --exact \"$1\""])
+        .args([this.as_os_str(), NAME.as_ref()])
+        .env("IS_LIMITED", "1")
+        .output()
+        .expect("there is a shell");
+    let said = String::from_utf8_lossy(&limited.stdout);
+    assert!(
+        limited.status.success() && said.contains("1 passed"),
+        "{said}"
+    );
 }
 
 #[test]

@@ -483,7 +483,8 @@ const FAULTS: [Fault; 12] = [
     Fault::EndWakesOne,
 ];
 
-/// What is wrong with a run of those above, if anything. Each is explored twice: the task of the run waits, or does not.
+/// What is wrong with a run of those above, if anything. Each is explored twice: the task of the run waits, or does
+/// not.
 fn wrong_with(fault: Fault) -> Wrong {
     RUNS.iter().find_map(|(workers, tasks, depth)| {
         [false, true].iter().find_map(|waits| {

@@ -1,7 +1,7 @@
 //! What each worker has given and done, and how the end is found by it.
 //!
-//! No count is written by all. Each worker has a line of memory with two counts of its own: it adds to `given` before it
-//! gives a task, and to `done` after the task's body has returned. A line more is that of the run itself, whose only
+//! No count is written by all. Each worker has a line of memory with two counts of its own: it adds to `given` before
+//! it gives a task, and to `done` after the task's body has returned. A line more is that of the run itself, whose only
 //! task is to give the first tasks. A worker that finds nothing to take adds up all counts `done`, and after that all
 //! counts `given`. Where the sums are equal, all is done.
 //!

@@ -42,9 +42,9 @@
 //! # How much waits
 //!
 //! The tasks lie in a queue that grows: it has room for some 16,000 tasks, for k of these each time 1,024 where k is
-//! below 16, and opens as much again when that is full. There may be 129 less twice the number of threads such parts, and
-//! with fewer than 16 threads less 32 to 62: with 4 threads room for 1.5 million tasks, with 32 for a million, with 64
-//! for 16,000.
+//! below 16, and opens as much again when that is full. There may be 129 less twice the number of threads such parts,
+//! and with fewer than 16 threads less 32 to 62: with 4 threads room for 1.5 million tasks, with 32 for a million, with
+//! 64 for 16,000.
 //!
 //! What does not fit goes to a list behind a lock, first in, first out. While it holds tasks, what is given goes behind
 //! them, and workers move the oldest into the queue once that has room. Each worker can take them, so no task waits for
@@ -187,8 +187,8 @@ impl<T> Report<T> {
 /// that panics stops the run too: this call resumes the first panic once all workers have ended, and the tasks that are
 /// left are dropped.
 ///
-/// Returns an error where an option is out of range, where the system lacks memory or a thread, or where the versions of
-/// the queue are used up. It holds the tasks that were not begun.
+/// Returns an error where an option is out of range, where the system lacks memory or a thread, or where the versions
+/// of the queue are used up. It holds the tasks that were not begun.
 ///
 /// Cost: it asks for some hundred kilobytes of memory and starts `threads - 1` threads, unless there is no task. A task
 /// costs a push and a pop, and a move of the task in and out; an idle worker uses no time after 5 microseconds.

@@ -283,8 +283,8 @@ impl Queue {
         }
     }
 
-    /// Takes the oldest value of the list, and moves others into the queue. What others have moved there meanwhile comes
-    /// before it: GOT, EMPTY, BUSY, or WORN.
+    /// Takes the oldest value of the list, and moves others into the queue. What others have moved there meanwhile
+    /// comes before it: GOT, EMPTY, BUSY, or WORN.
     ///
     /// # Safety
     ///

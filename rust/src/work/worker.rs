@@ -185,8 +185,8 @@ impl<'a, T> More<'a, T> {
         self.told.backlog = self.told.backlog.max(self.shared.counts.backlog());
     }
 
-    /// Ends the run early: no further task is begun, but for those that other workers begin just now. The tasks that are
-    /// left come back in [`Report::left`](super::Report::left). Any number of tasks may call it.
+    /// Ends the run early: no further task is begun, but for those that other workers begin just now. The tasks that
+    /// are left come back in [`Report::left`](super::Report::left). Any number of tasks may call it.
     ///
     /// Cost: an atomic step, and two calls of the system for the first call of a run.
     ///

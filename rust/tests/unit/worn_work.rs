@@ -1,5 +1,5 @@
-//! Runs over queues of few versions: one that renews itself all the time does all tasks, and one that is worn gives those
-//! back that are left.
+//! Runs over queues of few versions: one that renews itself all the time does all tasks, and one that is worn gives
+//! those back that are left.
 use super::{Cause, More, Options, Report, RunError, Sizes, run_over};
 use crate::Versions;
 use std::convert::Infallible;

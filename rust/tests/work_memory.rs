@@ -1,0 +1,130 @@
+//! Gives whose memory is refused: the task comes back, nothing was given, and the run goes on.
+use kfifo::work::{self, GiveError, Options};
+use std::alloc::{GlobalAlloc, Layout, System};
+use std::cell::Cell;
+use std::ptr;
+use std::sync::Mutex;
+
+thread_local! {
+    /// How many requests this thread still has before one is refused; none is where it is 0.
+    static LEFT: Cell<u64> = const { Cell::new(0) };
+    /// How many requests of this thread were refused.
+    static REFUSED: Cell<u64> = const { Cell::new(0) };
+}
+
+struct Refusing;
+
+/// Whether this request is refused.
+fn is_refused() -> bool {
+    let left = LEFT.get();
+    LEFT.set(left.saturating_sub(1));
+    REFUSED.set(REFUSED.get() + u64::from(left == 1));
+    left == 1
+}
+
+// SAFETY: `System` does it all, or nothing is done.
+unsafe impl GlobalAlloc for Refusing {
+    unsafe fn alloc(&self, layout: Layout) -> *mut u8 {
+        if is_refused() {
+            return ptr::null_mut();
+        }
+        // SAFETY: as the caller says.
+        unsafe { System.alloc(layout) }
+    }
+
+    unsafe fn realloc(&self, block: *mut u8, layout: Layout, size: usize) -> *mut u8 {
+        if is_refused() {
+            return ptr::null_mut();
+        }
+        // SAFETY: as the caller says.
+        unsafe { System.realloc(block, layout, size) }
+    }
+
+    unsafe fn dealloc(&self, block: *mut u8, layout: Layout) {
+        // SAFETY: as the caller says.
+        unsafe { System.dealloc(block, layout) }
+    }
+}
+
+#[global_allocator]
+static ALLOCATOR: Refusing = Refusing;
+
+/// Gives so many tasks, where the request for memory with this number is refused: how many gives were, each of them
+/// with its task.
+fn refused_gives<T: Send + PartialEq>(
+    number: u64,
+    count: u64,
+    workers: usize,
+    make: impl Fn(u64) -> T + Sync,
+) -> u64 {
+    let refused = Mutex::new(0);
+    let options = Options {
+        threads: Some(workers),
+        k: 1,
+    };
+    let report = work::run(
+        [make(u64::MAX)],
+        |task, more| {
+            if task != make(u64::MAX) {
+                return;
+            }
+            for number_of_task in 0..count {
+                let next = make(number_of_task);
+                LEFT.set(if number_of_task == 0 {
+                    number
+                } else {
+                    LEFT.get()
+                });
+                let gave = more.give(next);
+                let left = LEFT.replace(0);
+                if let Err(GiveError(back)) = gave {
+                    assert!(back == make(number_of_task));
+                    *refused.lock().expect("no panic") += 1;
+                }
+                LEFT.set(left);
+            }
+            LEFT.set(0);
+        },
+        options,
+    );
+    let refused = refused.into_inner().expect("no panic");
+    let report = report.expect("the run goes on");
+    assert_eq!(report.done.iter().sum::<u64>(), 1 + count - refused);
+    assert!(report.left.is_empty());
+    refused
+}
+
+/// Refuses each request of a run in turn, until there are no more.
+fn each_request<T: Send + PartialEq>(
+    count: u64,
+    workers: usize,
+    make: impl Fn(u64) -> T + Sync,
+) -> u64 {
+    let mut refused = 0;
+    for number in 1.. {
+        let before = REFUSED.get();
+        let gives = refused_gives(number, count, workers, &make);
+        // The calling thread may not be the one that gives.
+        let requests = if workers == 1 {
+            REFUSED.get() - before
+        } else {
+            gives
+        };
+        assert!(gives <= 1 && gives == requests);
+        if gives == 0 {
+            break;
+        }
+        refused += 1;
+    }
+    refused
+}
+
+/// Tasks in nodes need memory for these, and all tasks where the queue has no room.
+#[test]
+fn a_task_whose_memory_is_refused_comes_back() {
+    assert!(each_request(1_000, 1, |it| [it; 4]) >= 8);
+    assert!(each_request(1_000, 1, |it| it) == 0);
+    assert!(each_request(150_000, 1, |it| it) >= 5);
+    // Other workers take meanwhile, so it may be that there is room for all.
+    assert!(each_request(5_000, 64, |it| it) < 100);
+}
