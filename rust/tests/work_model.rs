@@ -4,7 +4,7 @@
 //!
 //! A count goes into memory some time after it was written, as on processors: it waits in a buffer of its worker, which
 //! is written in order, and which a fence or a step on a shared word empties.
-use std::collections::{HashSet, VecDeque};
+use std::collections::HashSet;
 
 /// How a task is given, and what it gives: with `depth` 0 nothing, else `WIDTH` tasks of one less.
 const WIDTH: u8 = 2;
@@ -24,9 +24,20 @@ enum Fault {
     EndWordNotChanged,
     EndWakesNobody,
     EndWakesOne,
+    ListWakesNobody,
+    MoveWakesNobody,
 }
 
-/// Where a worker is: each is one atomic step.
+/// Which look it is: the first one after a task, the second one after it says that it waits, or another one.
+#[derive(Clone, Copy, Debug, PartialEq, Eq, Hash)]
+enum Kind {
+    First,
+    Second,
+    Other,
+}
+
+/// Where a worker is: each is one atomic step. What holds the lock of the list is one step, but for a move, during which
+/// it is held.
 #[derive(Clone, Copy, Debug, PartialEq, Eq, Hash)]
 enum Step {
     CountGiven { depth: u8, left: u8 },
@@ -35,9 +46,17 @@ enum Step {
     SeeOthers { depth: u8, left: u8 },
     ChangeWord { depth: u8, left: u8 },
     WakeOne { depth: u8, left: u8 },
+    List { depth: u8, left: u8 },
     CountDone,
     DoneEarly { depth: u8, left: u8 },
     Look,
+    SeeList { kind: Kind },
+    LookIntoList { kind: Kind },
+    MovePut { found: u8 },
+    MovePop { found: u8, moved: u8 },
+    MoveSee { found: u8 },
+    MoveWord { found: u8 },
+    MoveWake { found: u8 },
     Fence,
     AddDone { worker: u8, done: u8 },
     AddGiven { worker: u8, done: u8, given: u8 },
@@ -59,13 +78,13 @@ const GIVEN: usize = 0;
 const DONE: usize = 1;
 const RUN_DONE: usize = 2;
 
-#[derive(Clone, PartialEq, Eq, Hash)]
+#[derive(Clone, Copy, PartialEq, Eq, Hash)]
 struct Worker {
     step: Step,
     counts: [u8; 3],
     in_memory: [u8; 3],
-    /// The counts that are written and not yet in memory, and which they are.
-    buffer: VecDeque<(usize, u8)>,
+    /// Which counts were raised that are not yet in memory, the first in the lowest two bits: each is its number + 1.
+    buffer: u32,
     /// Whether the word that it would sleep on is what it read.
     is_current: bool,
     is_announced: bool,
@@ -73,12 +92,22 @@ struct Worker {
     has_run: bool,
 }
 
-#[derive(Clone, PartialEq, Eq, Hash)]
+#[derive(Clone, Copy, PartialEq, Eq, Hash)]
 struct State {
-    workers: Vec<Worker>,
-    /// How many tasks of each depth wait.
+    /// With two workers the third has ended.
+    workers: [Worker; 3],
+    /// How many tasks of each depth wait, in the queue and in the list.
     queue: [u8; 3],
+    list: [u8; 3],
+    is_locked: bool,
     is_finished: bool,
+}
+
+/// Takes the deepest task: its depth.
+fn take_from(tasks: &mut [u8; 3]) -> Option<u8> {
+    let depth = (0..3).rev().find(|it| tasks[*it] > 0)?;
+    tasks[depth] -= 1;
+    Some(depth as u8)
 }
 
 /// What is wrong with a state, if anything.
@@ -91,30 +120,30 @@ impl State {
             step: Step::Look,
             counts: [0; 3],
             in_memory: [0; 3],
-            buffer: VecDeque::new(),
+            buffer: 0,
             is_current: false,
             is_announced: false,
             has_run: false,
         };
-        let mut workers = vec![idle; workers];
+        let mut all = [idle; 3];
+        for worker in workers..3 {
+            all[worker].step = Step::Ended;
+        }
+        let mut workers = all;
         workers[0].has_run = true;
         workers[0].step = step;
         State {
             workers,
             queue: [0; 3],
+            list: [0; 3],
+            is_locked: false,
             is_finished: false,
         }
     }
 
-    /// Takes a task, the deepest first: its depth.
-    fn take(&mut self) -> Option<u8> {
-        let depth = (0..3).rev().find(|it| self.queue[*it] > 0)?;
-        self.queue[depth] -= 1;
-        Some(depth as u8)
-    }
-
     fn is_idle(&self) -> bool {
         self.queue == [0; 3]
+            && self.list == [0; 3]
             && self.workers.iter().all(|it| {
                 !matches!(
                     it.step,
@@ -125,6 +154,12 @@ impl State {
                         | Step::ChangeWord { .. }
                         | Step::WakeOne { .. }
                         | Step::DoneEarly { .. }
+                        | Step::List { .. }
+                        | Step::MovePut { .. }
+                        | Step::MovePop { .. }
+                        | Step::MoveSee { .. }
+                        | Step::MoveWord { .. }
+                        | Step::MoveWake { .. }
                 )
             })
     }
@@ -137,15 +172,36 @@ impl State {
     }
 }
 
+/// Which tasks end only when all tasks that were given are taken.
+#[derive(Clone, Copy, Debug, PartialEq, Eq)]
+enum Waits {
+    Nobody,
+    Run,
+    Others,
+}
+
 struct Model {
     fault: Fault,
-    /// Whether the task of the run ends only when all tasks that it gave were taken.
-    waits: bool,
+    waits: Waits,
+    /// How many tasks the queue has room for.
+    room: u8,
 }
 
 impl Model {
     fn has(&self, fault: Fault) -> bool {
         self.fault == fault
+    }
+
+    fn has_room(&self, state: &State) -> bool {
+        state.queue.iter().sum::<u8>() < self.room
+    }
+
+    /// The step after a task went into the queue or the list.
+    fn after_put(&self, depth: u8, left: u8) -> Step {
+        match self.fault {
+            Fault::CountedAfterGive => Step::CountAfter { depth, left },
+            _ => Step::SeeOthers { depth, left },
+        }
     }
 
     /// The step after a give, or after the last one.
@@ -174,8 +230,16 @@ impl Model {
 
     /// Adds 1 to a count, which goes into memory later.
     fn count(worker: &mut Worker, which: usize) {
+        let waiting = (32 - worker.buffer.leading_zeros()).div_ceil(2);
+        assert!(waiting < 16);
         worker.counts[which] += 1;
-        worker.buffer.push_back((which, worker.counts[which]));
+        worker.buffer |= (which as u32 + 1) << (2 * waiting);
+    }
+
+    /// The first count of the buffer goes into memory.
+    fn write(worker: &mut Worker) {
+        worker.in_memory[worker.buffer as usize % 4 - 1] += 1;
+        worker.buffer >>= 2;
     }
 
     fn count_done(worker: &mut Worker) {
@@ -185,39 +249,47 @@ impl Model {
     }
 
     fn drain(worker: &mut Worker) {
-        worker.buffer.clear();
+        worker.buffer = 0;
         worker.in_memory = worker.counts;
     }
 
     /// The states to which a step of this worker leads, and that in which one more of its counts is in memory.
     fn nexts(&self, from: &State, at: usize) -> Vec<State> {
         let mut nexts = Vec::new();
-        if let Some((which, count)) = from.workers[at].buffer.front() {
-            let mut next = from.clone();
-            next.workers[at].in_memory[*which] = *count;
-            next.workers[at].buffer.pop_front();
+        if from.workers[at].buffer != 0 {
+            let mut next = *from;
+            Model::write(&mut next.workers[at]);
             nexts.push(next);
         }
         match from.workers[at].step {
             Step::Ended | Step::Asleep => {}
             Step::CountDone if self.is_waiting(from, at) => {}
-            Step::WakeOne { .. } | Step::EndWake => nexts.extend(self.wakes(from, at)),
+            Step::List { .. } | Step::LookIntoList { .. } if from.is_locked => {}
+            Step::WakeOne { .. } | Step::MoveWake { .. } | Step::EndWake => {
+                nexts.extend(self.wakes(from, at))
+            }
             _ => nexts.push(self.step(from, at)),
         }
         nexts
     }
 
-    /// Whether this worker has the task of the run, which waits until other workers have taken what it gave.
+    /// Whether this worker has a task that waits until other workers have taken all that was given.
     fn is_waiting(&self, state: &State, at: usize) -> bool {
-        self.waits && state.workers[at].has_run && state.queue != [0; 3]
+        let waits = match self.waits {
+            Waits::Nobody => false,
+            Waits::Run => state.workers[at].has_run,
+            Waits::Others => !state.workers[at].has_run,
+        };
+        waits && (state.queue, state.list) != ([0; 3], [0; 3])
     }
 
     fn step(&self, from: &State, at: usize) -> State {
-        let mut state = from.clone();
+        let mut state = *from;
         let step = state.workers[at].step;
         let next = match step {
             Step::CountGiven { .. }
             | Step::Give { .. }
+            | Step::List { .. }
             | Step::CountAfter { .. }
             | Step::SeeOthers { .. }
             | Step::ChangeWord { .. }
@@ -226,6 +298,13 @@ impl Model {
             Step::Fence | Step::AddDone { .. } | Step::AddGiven { .. } => {
                 self.step_of_end(&mut state, at, step)
             }
+            Step::SeeList { kind } if state.list == [0; 3] => self.after_nothing(kind),
+            Step::SeeList { kind } => Step::LookIntoList { kind },
+            Step::LookIntoList { kind } => self.look_into_list(&mut state, at, kind),
+            Step::MovePut { .. }
+            | Step::MovePop { .. }
+            | Step::MoveSee { .. }
+            | Step::MoveWord { .. } => self.step_of_move(&mut state, at, step),
             Step::SetEnd => {
                 Model::drain(&mut state.workers[at]);
                 state.is_finished = true;
@@ -252,10 +331,18 @@ impl Model {
             }
             Step::Give { depth, left } => {
                 Model::drain(worker);
-                state.queue[usize::from(depth)] += 1;
+                if self.has_room(state) && state.list == [0; 3] {
+                    state.queue[usize::from(depth)] += 1;
+                    self.after_put(depth, left)
+                } else {
+                    Step::List { depth, left }
+                }
+            }
+            Step::List { depth, left } => {
+                state.list[usize::from(depth)] += 1;
                 match self.fault {
-                    Fault::CountedAfterGive => Step::CountAfter { depth, left },
-                    _ => Step::SeeOthers { depth, left },
+                    Fault::ListWakesNobody => self.after_give(depth, left - 1),
+                    _ => self.after_put(depth, left),
                 }
             }
             Step::CountAfter { depth, left } => {
@@ -345,7 +432,6 @@ impl Model {
     }
 
     fn step_of_wait(&self, state: &mut State, at: usize, step: Step) -> Step {
-        let is_first = step == Step::Look;
         match step {
             Step::Announce => {
                 Model::drain(&mut state.workers[at]);
@@ -367,34 +453,89 @@ impl Model {
             Step::Retract => {
                 state.workers[at].is_announced = false;
                 state.workers[at].is_current = false;
-                // A look that is not the first one: it adds nothing up, and goes on to announce itself.
-                match self.look(state, at) {
-                    Some(next) => next,
-                    None => Step::Announce,
-                }
+                self.look(state, at, Kind::Other)
             }
-            _ => match self.look(state, at) {
-                Some(next) => next,
-                None if is_first && self.has(Fault::NeverAdds) => Step::Announce,
-                None if is_first => Step::Fence,
-                None if self.has(Fault::WordReadAfterLook) => Step::ReadWordLate,
-                None => Step::Sleep,
-            },
+            Step::SecondLook => self.look(state, at, Kind::Second),
+            _ => self.look(state, at, Kind::First),
         }
     }
 
-    /// A look for a task: the step that follows, where the run has ended or a task is there.
-    fn look(&self, state: &mut State, at: usize) -> Option<Step> {
-        let found = if state.is_finished {
-            Some(Step::Ended)
-        } else {
-            state.take().map(|depth| self.begin(depth))
-        };
-        if found.is_some() {
-            state.workers[at].is_announced = false;
-            state.workers[at].is_current = false;
+    /// A look for a task: the step that follows.
+    fn look(&self, state: &mut State, at: usize, kind: Kind) -> Step {
+        if state.is_finished {
+            return Model::leave(state, at, Step::Ended);
         }
-        found
+        match take_from(&mut state.queue) {
+            Some(depth) => Model::leave(state, at, self.begin(depth)),
+            None => Step::SeeList { kind },
+        }
+    }
+
+    /// The same behind the lock, where the list had tasks. It is held while others move into the queue.
+    fn look_into_list(&self, state: &mut State, at: usize, kind: Kind) -> Step {
+        if let Some(depth) = take_from(&mut state.queue) {
+            return Model::leave(state, at, self.begin(depth));
+        }
+        match take_from(&mut state.list) {
+            Some(found) => {
+                state.is_locked = true;
+                Model::leave(state, at, Step::MovePut { found })
+            }
+            None => self.after_nothing(kind),
+        }
+    }
+
+    /// The step after a look that found nothing: the first one adds the counts up, and others do not.
+    fn after_nothing(&self, kind: Kind) -> Step {
+        match kind {
+            Kind::First if self.has(Fault::NeverAdds) => Step::Announce,
+            Kind::First => Step::Fence,
+            Kind::Second if self.has(Fault::WordReadAfterLook) => Step::ReadWordLate,
+            Kind::Second => Step::Sleep,
+            Kind::Other => Step::Announce,
+        }
+    }
+
+    /// The worker does not wait any more.
+    fn leave(state: &mut State, at: usize, next: Step) -> Step {
+        state.workers[at].is_announced = false;
+        state.workers[at].is_current = false;
+        next
+    }
+
+    fn step_of_move(&self, state: &mut State, at: usize, step: Step) -> Step {
+        match step {
+            Step::MovePut { found } => {
+                let mut list = state.list;
+                match take_from(&mut list) {
+                    Some(moved) if self.has_room(state) => {
+                        Model::drain(&mut state.workers[at]);
+                        state.queue[usize::from(moved)] += 1;
+                        Step::MovePop { found, moved }
+                    }
+                    _ => {
+                        state.is_locked = false;
+                        self.begin(found)
+                    }
+                }
+            }
+            Step::MovePop { found, moved } => {
+                state.list[usize::from(moved)] -= 1;
+                match self.fault {
+                    Fault::MoveWakesNobody => Step::MovePut { found },
+                    _ => Step::MoveSee { found },
+                }
+            }
+            Step::MoveSee { found } => match state.workers.iter().any(|it| it.is_announced) {
+                true => Step::MoveWord { found },
+                false => Step::MovePut { found },
+            },
+            Step::MoveWord { found } => {
+                Model::change_word(state);
+                Step::MoveWake { found }
+            }
+            _ => unreachable!("no other step moves tasks"),
+        }
     }
 
     fn change_word(state: &mut State) {
@@ -410,6 +551,7 @@ impl Model {
             .collect();
         let next = match from.workers[at].step {
             Step::WakeOne { depth, left } => self.after_give(depth, left - 1),
+            Step::MoveWake { found } => Step::MovePut { found },
             _ => Step::Ended,
         };
         let is_end = next == Step::Ended;
@@ -425,7 +567,7 @@ impl Model {
             groups
         };
         let woken = |group: Vec<usize>| {
-            let mut state = from.clone();
+            let mut state = *from;
             for worker in group {
                 state.workers[worker].step = Step::Retract;
             }
@@ -439,7 +581,7 @@ impl Model {
     /// what is wrong with one of them.
     fn explore(&self, workers: usize, tasks: u8, depth: u8) -> (usize, Wrong) {
         let first = State::first(workers, self.begin_giving(depth, tasks));
-        let mut seen = HashSet::from([first.clone()]);
+        let mut seen = HashSet::from([first]);
         let mut open = vec![first];
         while let Some(state) = open.pop() {
             if let Some(wrong) = state.wrong() {
@@ -452,23 +594,27 @@ impl Model {
             if nexts.is_empty() && !is_over {
                 return (seen.len(), Some("a worker sleeps for ever"));
             }
-            open.extend(nexts.into_iter().filter(|it| seen.insert(it.clone())));
+            open.extend(nexts.into_iter().filter(|it| seen.insert(*it)));
         }
         (seen.len(), None)
     }
 }
 
-/// The workers, the first tasks and how deep these go.
-const RUNS: [(usize, u8, u8); 6] = [
-    (2, 1, 0),
-    (2, 2, 0),
-    (2, 1, 1),
-    (2, 2, 1),
-    (3, 1, 0),
-    (3, 2, 0),
+/// The workers, the first tasks, how deep these go, the room of the queue, and which tasks wait.
+const RUNS: [(usize, u8, u8, u8, Waits); 10] = [
+    (2, 1, 0, 9, Waits::Nobody),
+    (2, 2, 0, 9, Waits::Run),
+    (2, 1, 1, 9, Waits::Run),
+    (2, 2, 1, 9, Waits::Nobody),
+    (2, 3, 0, 1, Waits::Nobody),
+    (2, 3, 0, 1, Waits::Run),
+    (2, 2, 1, 1, Waits::Run),
+    (3, 1, 0, 9, Waits::Nobody),
+    (3, 2, 0, 9, Waits::Run),
+    (3, 3, 0, 1, Waits::Others),
 ];
 
-const FAULTS: [Fault; 12] = [
+const FAULTS: [Fault; 14] = [
     Fault::GivenAddedFirst,
     Fault::CountedAfterGive,
     Fault::DoneBeforeGives,
@@ -481,22 +627,22 @@ const FAULTS: [Fault; 12] = [
     Fault::EndWordNotChanged,
     Fault::EndWakesNobody,
     Fault::EndWakesOne,
+    Fault::ListWakesNobody,
+    Fault::MoveWakesNobody,
 ];
 
-/// What is wrong with a run of those above, if anything. Each is explored twice: the task of the run waits, or does
-/// not.
+/// What is wrong with a run of those above, if anything.
 fn wrong_with(fault: Fault) -> Wrong {
-    RUNS.iter().find_map(|(workers, tasks, depth)| {
-        [false, true].iter().find_map(|waits| {
-            let model = Model {
-                fault,
-                waits: *waits,
-            };
+    RUNS.iter()
+        .find_map(|(workers, tasks, depth, room, waits)| {
+            let (room, waits) = (*room, *waits);
+            let model = Model { fault, waits, room };
             let (states, wrong) = model.explore(*workers, *tasks, *depth);
-            println!("{fault:?}, {workers} workers, {tasks} tasks, {depth} deep: {states} states");
+            println!(
+                "{fault:?}: {workers} workers, {tasks} tasks, room for {room}: {states} states"
+            );
             wrong
         })
-    })
 }
 
 #[test]
