@@ -30,12 +30,12 @@ fn stack_of(mut order: Order, pancakes: usize) -> Stack {
     stack
 }
 
-/// The number of the order in which the pancakes lie: for each place, how many of those behind it are smaller.
+/// The number of the order in which the pancakes lie: for each place, how many of those after it are smaller.
 fn order_of(stack: &[u8]) -> Order {
-    let mut behind = (1_u32 << stack.len()) - 1;
+    let mut after = (1_u32 << stack.len()) - 1;
     stack.iter().enumerate().fold(0, |order, (place, pancake)| {
-        behind &= !(1 << pancake);
-        let smaller = behind & ((1 << pancake) - 1);
+        after &= !(1 << pancake);
+        let smaller = after & ((1 << pancake) - 1);
         order * (stack.len() - place) as u32 + smaller.count_ones()
     })
 }

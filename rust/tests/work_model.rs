@@ -471,7 +471,7 @@ impl Model {
         }
     }
 
-    /// The same behind the lock, where the list had tasks. It is held while others move into the queue.
+    /// The same under the lock, where the list had tasks. It is held while others move into the queue.
     fn look_into_list(&self, state: &mut State, at: usize, kind: Kind) -> Step {
         if let Some(depth) = take_from(&mut state.queue) {
             return Model::leave(state, at, self.begin(depth));

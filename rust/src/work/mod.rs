@@ -46,8 +46,8 @@
 //! and with fewer than 16 threads less 32 to 62: with 4 threads room for 1.5 million tasks, with 32 for a million, with
 //! 64 for 16,000.
 //!
-//! What does not fit goes to a list behind a lock, first in, first out. While it holds tasks, what is given goes behind
-//! them, and workers move the oldest into the queue once that has room. Each worker can take them, so no task waits for
+//! What does not fit goes to a list under a lock, first in, first out. While it holds tasks, what is given goes there
+//! too, and workers move the oldest into the queue once that has room. Each worker can take them, so no task waits for
 //! one worker. The order is that of the queue first, then that of the list, but a task that is given while the list
 //! begins or comes to its end may be begun before those that other workers gave to it at that moment. A run whose list
 //! is in use is slower, by the lock.

@@ -41,7 +41,7 @@ struct Kept<T> {
 /// What the workers of a run share of the nodes. With it all nodes go, and no task that still lies in one is dropped.
 pub(crate) struct Pool<T>(Mutex<Kept<T>>);
 
-// SAFETY: a node is one worker's at a time, as a task is that lies in it. The pool is behind a lock.
+// SAFETY: a node is one worker's at a time, as a task is that lies in it. A lock guards the pool.
 unsafe impl<T: Send> Sync for Pool<T> {}
 // SAFETY: likewise.
 unsafe impl<T: Send> Send for Pool<T> {}
@@ -70,7 +70,7 @@ impl<T> Pool<T> {
         kept.blocks.try_reserve(1).ok()?;
         let mut block: Vec<Node<T>> = Vec::new();
         block.try_reserve_exact(BATCH).ok()?;
-        // The block stays as it is until the pool goes: its nodes lie in the room behind its length, which is 0.
+        // The block stays as it is until the pool goes: its nodes lie in the room after its length, which is 0.
         let first = block.as_mut_ptr();
         kept.blocks.push(block);
         drop(kept);

@@ -1,7 +1,7 @@
 //! The queue of a run: the library's queue of values, which grows, a list for what it has no room for, and what idle
 //! workers wait by.
 //!
-//! The list is first in, first out, and behind a lock. While tasks are in it, what is given goes behind them, and those
+//! The list is first in, first out, and under a lock. While tasks are in it, what is given goes there too, and those
 //! that take move the oldest of them into the queue where that has room again. So the tasks in the queue are older than
 //! those in the list, but for those that are given while the list fills or empties.
 //!
@@ -209,7 +209,7 @@ impl Queue {
         Ok(())
     }
 
-    /// Puts a value behind those of the list.
+    /// Puts a value after those of the list.
     #[cold]
     fn list(&self, value: Value) -> Result<(), Value> {
         let mut list = self.lock();
