@@ -103,6 +103,11 @@ pub(crate) struct Told {
 /// assert_eq!(report.done.iter().sum::<u64>(), 232);
 /// # Ok::<(), RunError<u32>>(())
 /// ```
+///
+/// ```compile_fail,E0277
+/// fn is_send<T: Send>() {}
+/// is_send::<kfifo::work::More<'static, u32>>();
+/// ```
 pub struct More<'a, T> {
     shared: &'a Shared<T>,
     nodes: Nodes<'a, T>,
