@@ -1,5 +1,5 @@
 //! Gives whose memory is refused: the task comes back, nothing was given, and the run goes on.
-use kfifo::work::{self, GiveError, Options};
+use kfifo::work::{self, Cause, GiveError, Options};
 use std::alloc::{GlobalAlloc, Layout, System};
 use std::cell::Cell;
 use std::ptr;
@@ -127,4 +127,35 @@ fn a_task_whose_memory_is_refused_comes_back() {
     assert!(each_request(150_000, 1, |it| it) >= 5);
     // Other workers take meanwhile, so it may be that there is room for all.
     assert!(each_request(5_000, 64, |it| it) < 100);
+}
+
+/// The run ends where memory for one of the first tasks is refused: all that are not done come back, that one too.
+#[test]
+fn first_tasks_whose_memory_is_refused_come_back() {
+    for workers in [1, 4] {
+        let tasks = (0..1_000_u64).map(|number| {
+            LEFT.set(u64::from(number == 128));
+            [number; 4]
+        });
+        let options = Options {
+            threads: Some(workers),
+            k: 1,
+        };
+        let pause = std::time::Duration::from_micros(10);
+        let ended = match work::run(tasks, |_, _| std::thread::sleep(pause), options) {
+            Err(ended) => ended,
+            // Other workers had freed enough nodes.
+            Ok(report) if workers > 1 => {
+                assert_eq!(report.done.iter().sum::<u64>(), 1_000);
+                continue;
+            }
+            Ok(_) => panic!("there is memory"),
+        };
+        assert!(matches!(ended.why, Cause::OutOfMemory));
+        let report = ended.report;
+        let done = report.done.iter().sum::<u64>();
+        assert_eq!(done + report.left.len() as u64, 1_000);
+        assert!(report.left.contains(&[128; 4]) && report.left.contains(&[999; 4]));
+        assert!(workers > 1 || done == 0);
+    }
 }
