@@ -1,9 +1,9 @@
 //! Gives whose memory is refused: the task comes back, nothing was given, and the run goes on.
-use kfifo::work::{self, Cause, GiveError, Options};
+use kfifo::work::{self, Cause, GiveError, More, Options};
 use std::alloc::{GlobalAlloc, Layout, System};
 use std::cell::Cell;
 use std::ptr;
-use std::sync::Mutex;
+use std::sync::atomic::{AtomicU64, Ordering};
 
 thread_local! {
     /// How many requests this thread still has before one is refused; none is where it is 0.
@@ -49,15 +49,35 @@ unsafe impl GlobalAlloc for Refusing {
 #[global_allocator]
 static ALLOCATOR: Refusing = Refusing;
 
-/// Gives so many tasks, where the request for memory with this number is refused: how many gives were, each of them
-/// with its task.
+/// Gives so many tasks, where the request for memory with this number is refused: how many came back.
+fn give_all<T: PartialEq>(
+    more: &mut More<'_, T>,
+    number: u64,
+    count: u64,
+    make: impl Fn(u64) -> T,
+) -> u64 {
+    let (mut refused, mut left) = (0, number);
+    for number in 0..count {
+        let next = make(number);
+        LEFT.set(left);
+        let gave = more.give(next);
+        left = LEFT.replace(0);
+        if let Err(GiveError(back)) = gave {
+            assert!(back == make(number));
+            refused += 1;
+        }
+    }
+    refused
+}
+
+/// How many gives of a run are refused, where the request for memory with this number is. The others are done.
 fn refused_gives<T: Send + PartialEq>(
     number: u64,
     count: u64,
     workers: usize,
     make: impl Fn(u64) -> T + Sync,
 ) -> u64 {
-    let refused = Mutex::new(0);
+    let refused = AtomicU64::new(0);
     let options = Options {
         threads: Some(workers),
         k: 1,
@@ -65,29 +85,13 @@ fn refused_gives<T: Send + PartialEq>(
     let report = work::run(
         [make(u64::MAX)],
         |task, more| {
-            if task != make(u64::MAX) {
-                return;
+            if task == make(u64::MAX) {
+                refused.store(give_all(more, number, count, &make), Ordering::Relaxed);
             }
-            for number_of_task in 0..count {
-                let next = make(number_of_task);
-                LEFT.set(if number_of_task == 0 {
-                    number
-                } else {
-                    LEFT.get()
-                });
-                let gave = more.give(next);
-                let left = LEFT.replace(0);
-                if let Err(GiveError(back)) = gave {
-                    assert!(back == make(number_of_task));
-                    *refused.lock().expect("no panic") += 1;
-                }
-                LEFT.set(left);
-            }
-            LEFT.set(0);
         },
         options,
     );
-    let refused = refused.into_inner().expect("no panic");
+    let refused = refused.into_inner();
     let report = report.expect("the run goes on");
     assert_eq!(report.done.iter().sum::<u64>(), 1 + count - refused);
     assert!(report.left.is_empty());

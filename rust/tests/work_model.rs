@@ -58,8 +58,7 @@ enum Step {
     MoveWord { found: u8 },
     MoveWake { found: u8 },
     Fence,
-    AddDone { worker: u8, done: u8 },
-    AddGiven { worker: u8, done: u8, given: u8 },
+    Add { place: u8, sums: [u8; 2] },
     SetEnd,
     EndWord,
     EndWake,
@@ -162,6 +161,11 @@ impl State {
                         | Step::MoveWake { .. }
                 )
             })
+    }
+
+    /// Whether a worker has said that it waits.
+    fn is_waited_for(&self) -> bool {
+        self.workers.iter().any(|it| it.is_announced)
     }
 
     fn wrong(&self) -> Wrong {
@@ -292,12 +296,16 @@ impl Model {
             | Step::List { .. }
             | Step::CountAfter { .. }
             | Step::SeeOthers { .. }
-            | Step::ChangeWord { .. }
-            | Step::CountDone
-            | Step::DoneEarly { .. } => self.step_of_task(&mut state, at, step),
-            Step::Fence | Step::AddDone { .. } | Step::AddGiven { .. } => {
-                self.step_of_end(&mut state, at, step)
+            | Step::ChangeWord { .. } => self.step_of_give(&mut state, at, step),
+            Step::DoneEarly { depth, left } => {
+                Model::count_done(&mut state.workers[at]);
+                self.after_give(depth, left)
             }
+            Step::CountDone => {
+                Model::count_done(&mut state.workers[at]);
+                Step::Look
+            }
+            Step::Fence | Step::Add { .. } => self.step_of_end(&mut state, at, step),
             Step::SeeList { kind } if state.list == [0; 3] => self.after_nothing(kind),
             Step::SeeList { kind } => Step::LookIntoList { kind },
             Step::LookIntoList { kind } => self.look_into_list(&mut state, at, kind),
@@ -305,24 +313,27 @@ impl Model {
             | Step::MovePop { .. }
             | Step::MoveSee { .. }
             | Step::MoveWord { .. } => self.step_of_move(&mut state, at, step),
-            Step::SetEnd => {
-                Model::drain(&mut state.workers[at]);
-                state.is_finished = true;
-                Step::EndWord
-            }
-            Step::EndWord => {
-                if !self.has(Fault::EndWordNotChanged) {
-                    Model::change_word(&mut state);
-                }
-                Step::EndWake
-            }
+            Step::SetEnd | Step::EndWord => self.step_of_finish(&mut state, at, step),
             _ => self.step_of_wait(&mut state, at, step),
         };
         state.workers[at].step = next;
         state
     }
 
-    fn step_of_task(&self, state: &mut State, at: usize, step: Step) -> Step {
+    fn step_of_finish(&self, state: &mut State, at: usize, step: Step) -> Step {
+        if step == Step::SetEnd {
+            Model::drain(&mut state.workers[at]);
+            state.is_finished = true;
+            return Step::EndWord;
+        }
+        if !self.has(Fault::EndWordNotChanged) {
+            Model::change_word(state);
+        }
+        Step::EndWake
+    }
+
+    fn step_of_give(&self, state: &mut State, at: usize, step: Step) -> Step {
+        let is_waited_for = state.is_waited_for();
         let worker = &mut state.workers[at];
         match step {
             Step::CountGiven { depth, left } => {
@@ -331,12 +342,11 @@ impl Model {
             }
             Step::Give { depth, left } => {
                 Model::drain(worker);
-                if self.has_room(state) && state.list == [0; 3] {
-                    state.queue[usize::from(depth)] += 1;
-                    self.after_put(depth, left)
-                } else {
-                    Step::List { depth, left }
+                if !self.has_room(state) || state.list != [0; 3] {
+                    return Step::List { depth, left };
                 }
+                state.queue[usize::from(depth)] += 1;
+                self.after_put(depth, left)
             }
             Step::List { depth, left } => {
                 state.list[usize::from(depth)] += 1;
@@ -349,69 +359,40 @@ impl Model {
                 Model::count(worker, GIVEN);
                 Step::SeeOthers { depth, left }
             }
-            Step::SeeOthers { depth, left } => {
-                let others = state.workers.iter().any(|it| it.is_announced);
-                match others {
-                    true if self.has(Fault::WordNotChanged) => Step::WakeOne { depth, left },
-                    true => Step::ChangeWord { depth, left },
-                    false => self.after_give(depth, left - 1),
-                }
-            }
+            Step::SeeOthers { depth, left } if is_waited_for => match self.fault {
+                Fault::WordNotChanged => Step::WakeOne { depth, left },
+                _ => Step::ChangeWord { depth, left },
+            },
+            Step::SeeOthers { depth, left } => self.after_give(depth, left - 1),
             Step::ChangeWord { depth, left } => {
                 Model::change_word(state);
                 Step::WakeOne { depth, left }
             }
-            Step::DoneEarly { depth, left } => {
-                Model::count_done(worker);
-                self.after_give(depth, left)
-            }
-            _ => {
-                Model::count_done(worker);
-                Step::Look
-            }
+            _ => unreachable!("no other step gives tasks"),
         }
     }
 
+    /// The first sum is that of what was done, in the places 0 to 2, and the second one of what was given, 3 to 5.
     fn step_of_end(&self, state: &mut State, at: usize, step: Step) -> Step {
-        let last = state.workers.len() as u8 - 1;
-        let is_second = self.has(Fault::GivenAddedFirst);
-        match step {
-            Step::AddDone { worker, done } => {
-                let done = done + self.read(state, at, worker, !is_second);
-                match worker == last {
-                    true => Step::AddGiven {
-                        worker: 0,
-                        done,
-                        given: 0,
-                    },
-                    false => Step::AddDone {
-                        worker: worker + 1,
-                        done,
-                    },
-                }
+        let Step::Add { place, mut sums } = step else {
+            if !self.has(Fault::NoFence) {
+                Model::drain(&mut state.workers[at]);
             }
-            Step::AddGiven {
-                worker,
-                done,
-                given,
-            } => {
-                let given = given + self.read(state, at, worker, is_second);
-                match worker == last {
-                    true if given == done => Step::SetEnd,
-                    true => Step::Announce,
-                    false => Step::AddGiven {
-                        worker: worker + 1,
-                        done,
-                        given,
-                    },
-                }
-            }
-            _ => {
-                if !self.has(Fault::NoFence) {
-                    Model::drain(&mut state.workers[at]);
-                }
-                Step::AddDone { worker: 0, done: 0 }
-            }
+            return Step::Add {
+                place: 0,
+                sums: [0, 0],
+            };
+        };
+        let is_second = place >= 3;
+        let is_done = is_second == self.has(Fault::GivenAddedFirst);
+        sums[usize::from(is_second)] += self.read(state, at, place % 3, is_done);
+        match place {
+            5 if sums[0] == sums[1] => Step::SetEnd,
+            5 => Step::Announce,
+            _ => Step::Add {
+                place: place + 1,
+                sums,
+            },
         }
     }
 
@@ -526,7 +507,7 @@ impl Model {
                     _ => Step::MoveSee { found },
                 }
             }
-            Step::MoveSee { found } => match state.workers.iter().any(|it| it.is_announced) {
+            Step::MoveSee { found } => match state.is_waited_for() {
                 true => Step::MoveWord { found },
                 false => Step::MovePut { found },
             },
