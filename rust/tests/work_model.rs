@@ -125,8 +125,8 @@ impl State {
             has_run: false,
         };
         let mut all = [idle; 3];
-        for worker in workers..3 {
-            all[worker].step = Step::Ended;
+        for worker in &mut all[workers..] {
+            worker.step = Step::Ended;
         }
         let mut workers = all;
         workers[0].has_run = true;
