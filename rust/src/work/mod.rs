@@ -110,15 +110,15 @@ impl Options {
         })
     }
 
-    /// The sizes of the queue.
-    fn sizes<E>(&self) -> Result<Sizes, Cause<E>> {
+    /// The sizes of the queue for so many workers.
+    fn sizes<E>(&self, workers: usize) -> Result<Sizes, Cause<E>> {
         if !(1..=64).contains(&self.k) {
             return Err(Cause::KOutOfRange);
         }
-        if !(1..=64).contains(&self.workers()) {
+        if !(1..=64).contains(&workers) {
             return Err(Cause::ThreadsOutOfRange);
         }
-        Ok(Sizes::of(self.k, self.workers()))
+        Ok(Sizes::of(self.k, workers))
     }
 }
 
@@ -301,7 +301,7 @@ where
 {
     let workers = options.workers();
     let mut tasks = tasks.into_iter().peekable();
-    let sizes = match options.sizes() {
+    let sizes = match options.sizes(workers) {
         Ok(sizes) => sizes,
         Err(why) => return refused(why, 0, tasks),
     };
