@@ -41,10 +41,16 @@
 //!
 //! # How much waits
 //!
-//! The tasks lie in a queue that grows: it has room for some 16,000 tasks, for k of these each time 1,024 where k is
-//! below 16, and opens as much again when that is full. There may be 129 less twice the number of threads such parts,
-//! and with fewer than 16 threads less 32 to 62: with 4 threads room for 1.5 million tasks, with 32 for a million, with
-//! 64 for 16,000.
+//! The tasks lie in a queue that grows by parts: for some 16,000 tasks each, or for 1,024 times k where k is below 16. A
+//! queue has fewer parts with more threads, so this many tasks fit in:
+//!
+//! | Threads | k = 16 and more | k = 4 | k = 1 |
+//! |---|---|---|---|
+//! | 1 to 8 | 1,500,000 | 460,000 | 115,000 |
+//! | 16 | 1,500,000 | 390,000 | 99,000 |
+//! | 32 | 1,000,000 | 260,000 | 66,000 |
+//! | 48 | 540,000 | 130,000 | 33,000 |
+//! | 64 | 16,000 | 4,000 | 1,000 |
 //!
 //! What does not fit goes to a list under a lock, first in, first out. While it holds tasks, what is given goes there
 //! too, and workers move the oldest into the queue once that has room. Each worker can take them, so no task waits for
