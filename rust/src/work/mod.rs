@@ -35,28 +35,23 @@
 //! - Each task that was given is done exactly once, or comes back in the [`Report`] or the [`RunError`]. A task that
 //!   panics ends the run, and then those that are left are dropped.
 //! - When a task is begun, all tasks that were given before it have been begun, but for k - 1 and one for each other
-//!   worker at most. Where the queue [grows](#how-much-waits), up to one more for each worker may still wait.
+//!   worker at most. Where the queue grows, up to one more for each worker may still wait. What holds of the
+//!   [list](#what-the-queue-has-no-room-for) stands below.
 //! - What a task did before it gave another one happens before that other one.
 //! - Idle workers look for a task for 5 microseconds more, and then sleep. A give wakes one where one sleeps.
 //!
-//! # How much waits
+//! # What the queue has no room for
 //!
-//! The tasks lie in a queue that grows by parts: for some 16,000 tasks each, or for 1,024 times k where k is below 16. A
-//! queue has fewer parts with more threads, so this many tasks fit in:
+//! The tasks lie in a queue that grows from some 4,000 to 16,000. With fewer than 4 threads, or k below 4, these are as
+//! many quarters of that, and with 64 threads it does not grow. A larger queue would make each run dearer by its
+//! opening, and each take by a look at each part that came by growth.
 //!
-//! | Threads | k = 16 and more | k = 4 | k = 1 |
-//! |---|---|---|---|
-//! | 1 to 8 | 1,500,000 | 460,000 | 115,000 |
-//! | 16 | 1,500,000 | 390,000 | 99,000 |
-//! | 32 | 1,000,000 | 260,000 | 66,000 |
-//! | 48 | 540,000 | 130,000 | 33,000 |
-//! | 64 | 16,000 | 4,000 | 1,000 |
-//!
-//! What does not fit goes to a list under a lock, first in, first out. While it holds tasks, what is given goes there
-//! too, and workers move the oldest into the queue once that has room. Each worker can take them, so no task waits for
-//! one worker. The order is that of the queue first, then that of the list, but a task that is given while the list
-//! begins or comes to its end may be begun before those that other workers gave to it at that moment. A run whose list
-//! is in use is slower, by the lock.
+//! What does not fit goes to a list under a lock, first in, first out, as long as there is memory. While it holds
+//! tasks, what is given goes there too, and workers move the oldest into the queue, up to 1,024 at once, where that has
+//! room. Each worker can take them, so no task waits for one worker. The order is that of the queue first, then that of
+//! the list. But a task that is given while the list begins or comes to its end may be begun before those that other
+//! workers give to the list at that moment. And a worker that is stopped by the system while it has the lock holds up
+//! those that give meanwhile.
 //!
 //! # Why one call for tasks that return errors, and one for others
 //!
@@ -93,8 +88,7 @@ pub struct Options {
     /// How many workers there are, 1 to 64: none takes the processors that the machine has for this process. The
     /// calling thread is one of them. With 1 no thread is started.
     pub threads: Option<usize>,
-    /// How far the order may be off, 1 to 64: 16. With a smaller k workers meet more often, and below 16 less
-    /// [fits](self#how-much-waits) into the queue.
+    /// How far the order may be off, 1 to 64: 16. With a smaller k workers meet more often.
     pub k: u32,
 }
 

@@ -17,13 +17,14 @@ use std::collections::VecDeque;
 use std::sync::atomic::{AtomicUsize, Ordering};
 use std::sync::{Mutex, MutexGuard, PoisonError};
 
-/// How many tasks a generation of the queue has room for, if k is 16 at least.
-const ROOM: u32 = 16_384;
-/// The most segments and tokens of a pass, tokens in all, and tokens that a pass may keep, as in `c/kfifo.h`.
+/// How many tasks a generation of the queue has room for at most, and how many generations there are at most. A take
+/// looks at each generation, and each is made by the give that opens it; a task that goes through the list costs less
+/// than one in a queue of many.
+const ROOM: u32 = 4_096;
+const GENERATIONS: u32 = 4;
+/// The most segments, and tokens of a pass, as in `c/kfifo.h`.
 const SEGMENTS: u32 = 1_024;
 const TOKENS: u32 = 1_024;
-const MOST_TOKENS: u32 = 65_536;
-const SPARE_TOKENS: u32 = 32;
 /// How many tasks move from the list into the queue at once.
 const MOVED: usize = 1_024;
 
@@ -34,26 +35,20 @@ pub(crate) struct Sizes {
     pub(crate) segments: u32,
     pub(crate) tokens: u32,
     pub(crate) generations: u32,
-    /// How many passes each worker has.
-    pub(crate) hands: usize,
     pub(crate) versions: Versions,
 }
 
 impl Sizes {
-    /// The sizes for k, 1 to 64, and so many workers, 1 to 64. A pass brings 1,024 tokens at most, so few workers have
-    /// several each.
+    /// The sizes for k, 1 to 64, and so many workers, 1 to 64. Each worker has a pass, which brings 1,024 tokens at
+    /// most.
     pub(crate) fn of(k: u32, workers: usize) -> Sizes {
-        let segments = (ROOM / k).min(SEGMENTS);
-        let room = k * segments;
-        let hands = (room.div_ceil(TOKENS) as usize).div_ceil(workers);
-        let passes = (hands * workers) as u32;
-        let most = TOKENS.min(MOST_TOKENS / passes - SPARE_TOKENS);
+        let passes = workers as u32;
+        let segments = (ROOM.min(TOKENS * passes) / k).min(SEGMENTS);
         Sizes {
             k,
             segments,
-            tokens: room.div_ceil(passes).min(most),
-            generations: 129 - 2 * passes,
-            hands,
+            tokens: (k * segments).div_ceil(passes),
+            generations: GENERATIONS.min(129 - 2 * passes),
             versions: Versions::default(),
         }
     }
@@ -65,10 +60,9 @@ struct Passes(Box<[UnsafeCell<ffi::Pass>]>);
 impl Passes {
     fn open<E>(sizes: &Sizes, workers: usize) -> Result<Passes, Cause<E>> {
         let mut passes = Vec::new();
-        let count = workers * sizes.hands;
-        let room = passes.try_reserve_exact(count);
+        let room = passes.try_reserve_exact(workers);
         room.map_err(|_| Cause::OutOfMemory)?;
-        passes.resize_with(count, ffi::Pass::closed);
+        passes.resize_with(workers, ffi::Pass::closed);
         // SAFETY: the array has as many passes as is said, and each is closed.
         let status = unsafe {
             ffi::kfifo_c_open_values(

@@ -9,8 +9,6 @@ use std::fmt::{self, Debug, Formatter};
 use std::panic::{AssertUnwindSafe, catch_unwind};
 use std::sync::{Mutex, PoisonError};
 
-/// After how many takes a worker goes on with its next pass: one that makes no calls keeps an old generation.
-const TAKES_OF_A_HAND: u32 = 1_024;
 /// After how many takes a worker looks whether the queue has room for what is in the list.
 const TAKES_BETWEEN_REFILLS: u32 = 16;
 /// A worker adds up the backlog at each of its first gives, and then at each give with a number that this divides.
@@ -21,7 +19,6 @@ pub(crate) struct Shared<T> {
     pub(crate) queue: Queue,
     pub(crate) counts: Counts,
     pub(crate) pool: Pool<T>,
-    hands: usize,
 }
 
 impl<T> Shared<T> {
@@ -30,7 +27,6 @@ impl<T> Shared<T> {
             queue: Queue::open(sizes, workers)?,
             counts: Counts::new(workers).ok_or(Cause::OutOfMemory)?,
             pool: Pool::new(),
-            hands: sizes.hands,
         })
     }
 
@@ -111,10 +107,8 @@ pub(crate) struct Told {
 pub struct More<'a, T> {
     shared: &'a Shared<T>,
     nodes: Nodes<'a, T>,
+    /// The number of the worker, and of its pass.
     number: usize,
-    /// The pass that it makes its calls by, and the first of its passes.
-    pass: usize,
-    first_pass: usize,
     takes: u32,
     given: u64,
     done: u64,
@@ -123,13 +117,10 @@ pub struct More<'a, T> {
 
 impl<'a, T> More<'a, T> {
     pub(crate) fn new(shared: &'a Shared<T>, number: usize) -> More<'a, T> {
-        let first_pass = number * shared.hands;
         More {
             shared,
             nodes: Nodes::new(&shared.pool),
             number,
-            pass: first_pass,
-            first_pass,
             takes: 0,
             given: 0,
             done: 0,
@@ -166,8 +157,8 @@ impl<'a, T> More<'a, T> {
         // Before it is given: who takes it and has done it finds this count.
         self.given += 1;
         self.shared.counts.set_given(self.number, self.given);
-        // SAFETY: the passes are this worker's, and so this thread's.
-        if let Err(value) = unsafe { self.shared.queue.give(self.pass, value) } {
+        // SAFETY: the pass is this worker's, and so this thread's.
+        if let Err(value) = unsafe { self.shared.queue.give(self.number, value) } {
             return Err(GiveError(self.take_back(value)));
         }
         if self.given < GIVES_BETWEEN_LOOKS || self.given % GIVES_BETWEEN_LOOKS == 0 {
@@ -277,24 +268,12 @@ impl<'a, T> More<'a, T> {
     #[inline]
     fn look(&mut self, value: &mut Value) -> u32 {
         self.takes = self.takes.wrapping_add(1);
-        if self.takes % TAKES_OF_A_HAND == 0 {
-            self.change_hands();
-        }
         if self.takes % TAKES_BETWEEN_REFILLS == 0 && self.shared.queue.has_list() {
-            // SAFETY: the passes are this worker's, and so this thread's.
-            unsafe { self.shared.queue.refill(self.pass) };
+            // SAFETY: the pass is this worker's, and so this thread's.
+            unsafe { self.shared.queue.refill(self.number) };
         }
         // SAFETY: likewise.
-        unsafe { self.shared.queue.take(self.pass, value) }
-    }
-
-    /// Goes on with the next pass of this worker, which follows the others to the newest generation.
-    #[cold]
-    fn change_hands(&mut self) {
-        self.pass += 1;
-        if self.pass == self.first_pass + self.shared.hands {
-            self.pass = self.first_pass;
-        }
+        unsafe { self.shared.queue.take(self.number, value) }
     }
 
     /// Waits for a task, after a look that came to this status.
@@ -313,7 +292,6 @@ impl<'a, T> More<'a, T> {
                 return status;
             }
             self.told.slept += u64::from(sleeps);
-            self.change_hands();
             status = self.look(value);
         }
     }

@@ -20,7 +20,8 @@ fn run(
     let sizes = Sizes {
         segments,
         tokens: 16 * segments,
-        generations: 20,
+        // One that grows is never worn while it may open another one.
+        generations: if versions.reserve == 0 { 1 } else { 20 },
         versions,
         ..Sizes::of(16, workers)
     };
@@ -82,12 +83,13 @@ fn sizes_are_in_range() {
     for k in 1..=64 {
         for workers in 1..=64 {
             let sizes = Sizes::of(k, workers);
-            let passes = (workers * sizes.hands) as u32;
-            assert!(passes <= 64 && (2..=1_024).contains(&sizes.segments));
+            let passes = workers as u32;
+            assert!((2..=1_024).contains(&sizes.segments));
             assert!((1..=1_024).contains(&sizes.tokens));
             assert!(passes * (sizes.tokens + 32) <= 65_536);
             assert!((1..=129 - 2 * passes).contains(&sizes.generations));
-            assert!(sizes.tokens * passes >= k * sizes.segments * 9 / 10);
+            assert!(sizes.tokens * passes >= k * sizes.segments);
+            assert!(k * sizes.segments >= 960);
         }
     }
     assert_eq!(Options::default().threads, None);
