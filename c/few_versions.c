@@ -67,9 +67,9 @@ uint32_t kfifo_c_open_values(uint32_t k, uint32_t segments, uint32_t probes, uin
                              uint64_t reserve, uint32_t generations, kfifo_value_pass *passes, size_t threads) {
     is_opening = 1;
     /* A queue that grows is not worn out before it has as many generations as it may have. */
-    uint32_t status = kfifo_c_whole_open_values(k, (uint32_t)at_most(segments, SEGMENTS), probes, at_most(last, LAST),
-                                                tokens, at_most(reserve, RESERVE), RESERVE ? generations : 1, passes,
-                                                threads);
+    uint32_t status =
+        kfifo_c_whole_open_values(k, (uint32_t)at_most(segments, SEGMENTS), probes, at_most(last, LAST), tokens,
+                                  at_most(reserve, RESERVE), RESERVE ? generations : 1, passes, threads);
     is_opening = 0;
     return status;
 }
