@@ -66,8 +66,10 @@ uint32_t kfifo_c_open(uint32_t k, uint32_t segments, uint32_t probes, uint64_t l
 uint32_t kfifo_c_open_values(uint32_t k, uint32_t segments, uint32_t probes, uint64_t last, uint32_t tokens,
                              uint64_t reserve, uint32_t generations, kfifo_value_pass *passes, size_t threads) {
     is_opening = 1;
-    uint32_t status = kfifo_c_whole_open_values(k, (uint32_t)at_most(segments, SEGMENTS), probes, at_most(last, LAST),
-                                                tokens, at_most(reserve, RESERVE), generations, passes, threads);
+    /* A queue that grows is not worn out before it has as many generations as it may have. */
+    uint32_t status =
+        kfifo_c_whole_open_values(k, (uint32_t)at_most(segments, SEGMENTS), probes, at_most(last, LAST), tokens,
+                                  at_most(reserve, RESERVE), RESERVE ? generations : 1, passes, threads);
     is_opening = 0;
     return status;
 }

@@ -34,7 +34,9 @@ impl Display for OpenError {
             OpenError::KOutOfRange => "k is not 1 to 64",
             OpenError::SegmentsOutOfRange => "the number of segments is not 2 to 1,024",
             OpenError::ThreadsOutOfRange => "the number of handles is not 1 to 64",
-            OpenError::TokensOutOfRange => "the number of tokens a handle is not 1 to 1,024, or all handles have too many",
+            OpenError::TokensOutOfRange => {
+                "the number of tokens a handle is not 1 to 1,024, or all handles have too many"
+            }
             OpenError::LastOutOfRange => "the greatest version is not 2 to 2^40 - 1",
             OpenError::ReserveOutOfRange => "the reserve is not below the greatest version",
             OpenError::OutOfMemory => "an allocation failed",

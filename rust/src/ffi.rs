@@ -1,5 +1,6 @@
 //! The calls of the library that this crate uses, as `c/kfifo.h` and `c/kfifo_wait.h` declare them.
 use std::ffi::{c_int, c_void};
+use std::mem::MaybeUninit;
 use std::sync::atomic::AtomicU32;
 
 pub(crate) const DONE: u32 = 0;
@@ -90,7 +91,14 @@ impl Waiter {
     }
 }
 
-/// A handle of a queue of cells. All bytes 0 is a closed one.
+impl Waiter {
+    /// Whether the thread has said that it waits: with nothing to take, the next wait is a sleep.
+    pub(crate) fn is_announced(&self) -> bool {
+        self.is_announced != 0
+    }
+}
+
+/// A handle of a queue of cells, or of values. All bytes 0 is a closed one.
 #[repr(C)]
 pub(crate) struct Pass {
     inside: *mut c_void,
@@ -108,7 +116,11 @@ impl Pass {
     }
 }
 
-// Of the calls by a pass the library promises, and has proved:
+/// What a queue of values carries: 64 bits, some of which may never have been written. The library copies them and looks
+/// at none.
+pub(crate) type Value = MaybeUninit<u64>;
+
+// Of the calls by a pass of cells the library promises, and has proved:
 //
 // - `reserve`: DONE writes the number of a cell, below the number of all tokens, that is this pass's alone until
 //   `publish` puts it into the queue. It writes the same number until then.
@@ -121,6 +133,14 @@ impl Pass {
 //   its `receive`, and what comes before its `release` comes before what follows its next `reserve`.
 // - `close_cells`: DONE writes the numbers of the cells that are in the queue, in the order of the queue. There is room
 //   for each cell, else it does nothing.
+//
+// Of those by a pass of values, which has a type of its own in C with the same fields:
+//
+// - `give`: DONE puts the value into the queue. After anything else it is not there.
+// - `take`: GOT writes a value that was in the queue, once for each time that it was given.
+// - What comes before a `give` comes before what follows the `take` of its value.
+// - `close_values`: DONE writes the values that are in the queue. There is room for `values_room` of them, else it does
+//   nothing.
 //
 // Of the caller they require that one thread at a time uses a pass, and that it is open.
 unsafe extern "C" {
@@ -147,6 +167,28 @@ unsafe extern "C" {
         count: *mut usize,
     ) -> u32;
     pub(crate) fn kfifo_c_abandon_cells(passes: *mut Pass, threads: usize);
+    pub(crate) fn kfifo_c_open_values(
+        k: u32,
+        segments: u32,
+        probes: u32,
+        last: u64,
+        tokens: u32,
+        reserve: u64,
+        generations: u32,
+        passes: *mut Pass,
+        threads: usize,
+    ) -> u32;
+    pub(crate) fn kfifo_c_give(pass: *mut Pass, value: Value) -> u32;
+    pub(crate) fn kfifo_c_take(pass: *mut Pass, value: *mut Value) -> u32;
+    pub(crate) fn kfifo_c_values_room(passes: *mut Pass, threads: usize) -> usize;
+    pub(crate) fn kfifo_c_close_values(
+        passes: *mut Pass,
+        threads: usize,
+        values: *mut Value,
+        room: usize,
+        count: *mut usize,
+    ) -> u32;
+    pub(crate) fn kfifo_c_abandon_values(passes: *mut Pass, threads: usize);
     pub(crate) fn kfifo_wait_again(waiter: *mut Waiter, status: *mut u32) -> c_int;
     pub(crate) fn kfifo_wait_given(waits: *const Waits, status: u32) -> u32;
     pub(crate) fn kfifo_wait_taken(waits: *const Waits, status: u32) -> u32;

@@ -4,6 +4,8 @@
 //! queue. A queue does not wear out: before the versions of its words are used up, it goes on in its next *generation*,
 //! once in some 2^40 calls. Only a push that opens it allocates, and the calls of a handle free memory there alone.
 //!
+//! [`work`] is a pool of threads over such a queue, for tasks that give more tasks.
+//!
 //! The queue itself is proved, down to its atomic words, and so is whose a cell is. This crate is a wrapper around its
 //! C library and is not proved: it moves the values and drops them. Its README says what rests on what.
 //!
@@ -48,6 +50,7 @@ pub mod judge;
 mod many;
 mod shared;
 mod values;
+pub mod work;
 
 pub use error::{OpenError, PopError, PushError};
 pub use many::PushAllError;

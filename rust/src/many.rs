@@ -40,7 +40,6 @@ impl<I: Iterator> PushAllError<I> {
     /// assert!(stopped.into_rest().eq([3, 4]));
     /// # Ok::<(), kfifo::OpenError>(())
     /// ```
-    #[must_use]
     pub fn into_rest(self) -> Chain<Once<I::Item>, I> {
         once(self.refused.into_inner()).chain(self.rest)
     }

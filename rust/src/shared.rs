@@ -127,7 +127,7 @@ pub(crate) enum Looks {
 
 /// Pauses after BUSY, mostly the longer the more often it came. How long differs from handle to handle: threads that
 /// made their calls in step could keep each other busy.
-fn pause(number: usize, times: u32) {
+pub(crate) fn pause(number: usize, times: u32) {
     let mixed = (number as u64 + u64::from(times)).wrapping_mul(0x9e37_79b9_7f4a_7c15) >> 32;
     for _ in 0..=mixed % (16 << times.min(6)) {
         spin_loop();

@@ -1,0 +1,323 @@
+//! The queue of a run: the library's queue of values, which grows, a list for what it has no room for, and what idle
+//! workers wait by.
+//!
+//! The list is first in, first out, and under a lock. While tasks are in it, what is given goes there too, and those
+//! that take move the oldest of them into the queue where that has room again. So the tasks in the queue are older than
+//! those in the list, but for those that are given while the list fills or empties.
+//!
+//! How workers wait is what `c/kfifo_wait.h` describes: one that finds nothing looks for 5 microseconds more, says that
+//! it waits, looks once more, and sleeps. A give looks after it whether anyone waits. A task goes into the queue before
+//! it leaves the list, so a look that finds neither came before a give or a move that still looks for who waits.
+use super::error::Cause;
+use crate::Versions;
+use crate::ffi::{self, Value};
+use crate::shared::pause;
+use std::cell::UnsafeCell;
+use std::collections::VecDeque;
+use std::sync::atomic::{AtomicUsize, Ordering};
+use std::sync::{Mutex, MutexGuard, PoisonError};
+
+/// How many tasks a generation of the queue has room for at most, and how many generations there are at most. A take
+/// looks at each generation, and each is made by the give that opens it; a task that goes through the list costs less
+/// than one in a queue of many.
+const ROOM: u32 = 4_096;
+const GENERATIONS: u32 = 4;
+/// The most segments, and tokens of a pass, as in `c/kfifo.h`.
+const SEGMENTS: u32 = 1_024;
+const TOKENS: u32 = 1_024;
+/// How many tasks move from the list into the queue at once.
+const MOVED: usize = 1_024;
+
+/// What a queue is opened with.
+#[derive(Clone, Copy, Debug)]
+pub(crate) struct Sizes {
+    pub(crate) k: u32,
+    pub(crate) segments: u32,
+    pub(crate) tokens: u32,
+    pub(crate) generations: u32,
+    pub(crate) versions: Versions,
+}
+
+impl Sizes {
+    /// The sizes for k, 1 to 64, and so many workers, 1 to 64. Each worker has a pass, which brings 1,024 tokens at
+    /// most.
+    pub(crate) fn of(k: u32, workers: usize) -> Sizes {
+        let passes = workers as u32;
+        let segments = (ROOM.min(TOKENS * passes) / k).min(SEGMENTS);
+        Sizes {
+            k,
+            segments,
+            tokens: (k * segments).div_ceil(passes),
+            generations: GENERATIONS.min(129 - 2 * passes),
+            versions: Versions::default(),
+        }
+    }
+}
+
+/// The passes of a queue of values, which are closed when they are dropped.
+struct Passes(Box<[UnsafeCell<ffi::Pass>]>);
+
+impl Passes {
+    fn open<E>(sizes: &Sizes, workers: usize) -> Result<Passes, Cause<E>> {
+        let mut passes = Vec::new();
+        let room = passes.try_reserve_exact(workers);
+        room.map_err(|_| Cause::OutOfMemory)?;
+        passes.resize_with(workers, ffi::Pass::closed);
+        // SAFETY: the array has as many passes as is said, and each is closed.
+        let status = unsafe {
+            ffi::kfifo_c_open_values(
+                sizes.k,
+                sizes.segments,
+                sizes.k,
+                sizes.versions.last,
+                sizes.tokens,
+                sizes.versions.reserve,
+                sizes.generations,
+                passes.as_mut_ptr(),
+                passes.len(),
+            )
+        };
+        if status != ffi::DONE {
+            debug_assert_eq!(status, ffi::NO_MEMORY);
+            return Err(Cause::OutOfMemory);
+        }
+        Ok(Passes(passes.into_iter().map(UnsafeCell::new).collect()))
+    }
+
+    fn at(&self, number: usize) -> *mut ffi::Pass {
+        self.0[number].get()
+    }
+
+    /// Closes the queue, and returns the values that are in it; none where there is no memory for that.
+    fn close(&mut self) -> Vec<Value> {
+        let passes = self.0.as_mut_ptr().cast();
+        // SAFETY: these are all passes of the queue, and nobody else uses one: `&mut self`.
+        let room = unsafe { ffi::kfifo_c_values_room(passes, self.0.len()) };
+        let mut values = Vec::new();
+        if values.try_reserve_exact(room).is_err() {
+            return values;
+        }
+        values.resize(room, Value::uninit());
+        let mut count = 0;
+        // SAFETY: as above, and there is room for each value.
+        let status = unsafe {
+            ffi::kfifo_c_close_values(passes, self.0.len(), values.as_mut_ptr(), room, &mut count)
+        };
+        values.truncate(if status == ffi::DONE { count } else { 0 });
+        values
+    }
+}
+
+impl Drop for Passes {
+    fn drop(&mut self) {
+        // SAFETY: these are all passes of a queue, and nobody else uses one: `&mut self`. Those that are closed already
+        // stay so.
+        unsafe { ffi::kfifo_c_abandon_values(self.0.as_mut_ptr().cast(), self.0.len()) };
+    }
+}
+
+/// The queue of a run. With it the values go that are left; it does not know what they are.
+pub(crate) struct Queue {
+    passes: Passes,
+    pub(crate) waits: ffi::Waits,
+    list: Mutex<VecDeque<Value>>,
+    /// How many tasks are in the list: it changes under the lock alone.
+    listed: AtomicUsize,
+}
+
+// SAFETY: a pass is reached by `give`, `take` and `refill`, whose callers see to it that one thread at a time uses it,
+// and by those that have the queue alone. A value is no more than bits.
+unsafe impl Sync for Queue {}
+// SAFETY: the library ties no pass to a thread.
+unsafe impl Send for Queue {}
+
+impl Queue {
+    pub(crate) fn open<E>(sizes: &Sizes, workers: usize) -> Result<Queue, Cause<E>> {
+        Ok(Queue {
+            passes: Passes::open(sizes, workers)?,
+            waits: ffi::Waits::open(),
+            list: Mutex::new(VecDeque::new()),
+            listed: AtomicUsize::new(0),
+        })
+    }
+
+    fn lock(&self) -> MutexGuard<'_, VecDeque<Value>> {
+        self.list.lock().unwrap_or_else(PoisonError::into_inner)
+    }
+
+    /// Whether no further task is to be begun.
+    #[inline]
+    pub(crate) fn is_finished(&self) -> bool {
+        self.waits.state.load(Ordering::SeqCst) & ffi::IS_FINISHED != 0
+    }
+
+    /// Says that no further task is to be begun, and wakes all that wait.
+    pub(crate) fn finish(&self) {
+        let state = &self.waits.state;
+        if state.fetch_or(ffi::IS_FINISHED, Ordering::SeqCst) & ffi::IS_FINISHED == 0 {
+            // SAFETY: the waits are this queue's.
+            unsafe { ffi::kfifo_wait_finished(&self.waits) };
+        }
+    }
+
+    /// After a task was given: wakes a worker where one waits.
+    #[inline]
+    fn wake(&self) {
+        if self.waits.state.load(Ordering::SeqCst) > ffi::IS_FINISHED {
+            // SAFETY: the waits are this queue's.
+            unsafe { ffi::kfifo_wait_given(&self.waits, ffi::DONE) };
+        }
+    }
+
+    /// Puts a value into the queue: whether it had room.
+    ///
+    /// # Safety
+    ///
+    /// One thread at a time uses the pass.
+    #[inline]
+    unsafe fn put(&self, pass: usize, value: Value) -> bool {
+        let mut times = 0;
+        loop {
+            // SAFETY: the pass is of an open queue, and the caller says that nobody else uses it.
+            let status = unsafe { ffi::kfifo_c_give(self.passes.at(pass), value) };
+            if status != ffi::BUSY {
+                return status == ffi::DONE;
+            }
+            pause(pass, times);
+            times += 1;
+        }
+    }
+
+    /// Gives a value, and wakes a worker where one waits. Where memory is missing the value comes back.
+    ///
+    /// # Safety
+    ///
+    /// As of `put`.
+    #[inline]
+    pub(crate) unsafe fn give(&self, pass: usize, value: Value) -> Result<(), Value> {
+        // SAFETY: as the caller says.
+        if self.listed.load(Ordering::SeqCst) > 0 || unsafe { !self.put(pass, value) } {
+            self.list(value)?;
+        }
+        self.wake();
+        Ok(())
+    }
+
+    /// Puts a value after those of the list.
+    #[cold]
+    fn list(&self, value: Value) -> Result<(), Value> {
+        let mut list = self.lock();
+        if list.try_reserve(1).is_err() {
+            return Err(value);
+        }
+        list.push_back(value);
+        self.listed.store(list.len(), Ordering::SeqCst);
+        Ok(())
+    }
+
+    /// Whether tasks are in the list.
+    #[inline]
+    pub(crate) fn has_list(&self) -> bool {
+        self.listed.load(Ordering::SeqCst) > 0
+    }
+
+    /// Moves tasks from the list into the queue while that has room for them.
+    ///
+    /// # Safety
+    ///
+    /// As of `put`.
+    #[cold]
+    pub(crate) unsafe fn refill(&self, pass: usize) {
+        // Who has the lock moves them, or gives more.
+        if let Ok(mut list) = self.list.try_lock() {
+            // SAFETY: as the caller says.
+            unsafe { self.move_some(pass, &mut list) };
+        }
+    }
+
+    /// # Safety
+    ///
+    /// As of `put`.
+    unsafe fn move_some(&self, pass: usize, list: &mut VecDeque<Value>) {
+        for _ in 0..MOVED {
+            let Some(value) = list.front() else { break };
+            // SAFETY: as the caller says.
+            if unsafe { !self.put(pass, *value) } {
+                break;
+            }
+            list.pop_front();
+            self.listed.store(list.len(), Ordering::SeqCst);
+            self.wake();
+        }
+    }
+
+    /// One look for a value: GOT, EMPTY, FINISHED, or WORN.
+    ///
+    /// # Safety
+    ///
+    /// As of `put`.
+    #[inline]
+    pub(crate) unsafe fn take(&self, pass: usize, value: &mut Value) -> u32 {
+        let mut times = 0;
+        loop {
+            if self.is_finished() {
+                return ffi::FINISHED;
+            }
+            // SAFETY: as of `put`.
+            let mut status = unsafe { ffi::kfifo_c_take(self.passes.at(pass), value) };
+            if status == ffi::EMPTY && self.has_list() {
+                // SAFETY: as the caller says.
+                status = unsafe { self.take_listed(pass, value) };
+            }
+            if status != ffi::BUSY {
+                return status;
+            }
+            pause(pass, times);
+            times += 1;
+        }
+    }
+
+    /// Takes the oldest value of the list, and moves others into the queue. What others have moved there meanwhile
+    /// comes before it: GOT, EMPTY, BUSY, or WORN.
+    ///
+    /// # Safety
+    ///
+    /// As of `put`.
+    #[cold]
+    unsafe fn take_listed(&self, pass: usize, value: &mut Value) -> u32 {
+        let mut list = self.lock();
+        // SAFETY: as of `put`.
+        let status = unsafe { ffi::kfifo_c_take(self.passes.at(pass), value) };
+        if status != ffi::EMPTY {
+            return status;
+        }
+        let Some(oldest) = list.pop_front() else {
+            return ffi::EMPTY;
+        };
+        *value = oldest;
+        self.listed.store(list.len(), Ordering::SeqCst);
+        // SAFETY: as the caller says.
+        unsafe { self.move_some(pass, &mut list) };
+        ffi::GOT
+    }
+
+    /// Takes all values that are left: those of the queue first, in its order.
+    pub(crate) fn into_values(mut self) -> Vec<Value> {
+        let mut values = Vec::new();
+        let end = loop {
+            let mut value = Value::uninit();
+            // SAFETY: `self` is no reference: nobody else makes a call.
+            match unsafe { ffi::kfifo_c_take(self.passes.at(0), &mut value) } {
+                ffi::GOT => values.push(value),
+                ffi::BUSY => {}
+                end => break end,
+            }
+        };
+        if end != ffi::EMPTY {
+            values.append(&mut self.passes.close());
+        }
+        let list = self.list.get_mut().unwrap_or_else(PoisonError::into_inner);
+        values.extend(list.iter());
+        values
+    }
+}
