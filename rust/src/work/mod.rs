@@ -44,7 +44,7 @@
 //!
 //! The tasks lie in a queue that grows from some 4,000 to 16,000. With fewer than 4 threads, or k below 4, these are as
 //! many quarters of that, and with 64 threads it does not grow. A larger queue would make each run dearer by its
-//! opening, and each take by a look at each part that came by growth.
+//! opening.
 //!
 //! What does not fit goes to a list under a lock, first in, first out, as long as there is memory. While it holds
 //! tasks, what is given goes there too, and workers move the oldest into the queue, up to 1,024 at once, where that has

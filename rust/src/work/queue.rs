@@ -17,9 +17,8 @@ use std::collections::VecDeque;
 use std::sync::atomic::{AtomicUsize, Ordering};
 use std::sync::{Mutex, MutexGuard, PoisonError};
 
-/// How many tasks a generation of the queue has room for at most, and how many generations there are at most. A take
-/// looks at each generation, and each is made by the give that opens it; a task that goes through the list costs less
-/// than one in a queue of many.
+/// How many tasks a generation of the queue has room for at most, and how many generations there are at most. The give
+/// that opens a generation pays for it, so a run of few tasks is cheap, and what many tasks need goes through the list.
 const ROOM: u32 = 4_096;
 const GENERATIONS: u32 = 4;
 /// The most segments, and tokens of a pass, as in `c/kfifo.h`.
