@@ -1,3 +1,4 @@
 pub mod History
 pub mod Joining
 pub mod Renewing
+pub mod Cells
