@@ -9,4 +9,3 @@ pub mod Giving
 pub mod Closing
 pub mod Departures
 pub mod Refusing
-pub mod CellCalls

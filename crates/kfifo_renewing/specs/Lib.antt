@@ -1,4 +1,3 @@
 pub mod History
 pub mod Joining
 pub mod Renewing
-pub mod Cells

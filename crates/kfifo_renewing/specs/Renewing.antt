@@ -1,6 +1,6 @@
 -- The generations of a renewing queue, as a handle has joined them, and what its calls do to each.
 use Rattle.std.specs.Prelude.{◌≡◌, ◌≢◌, ◌⊎◌, ◌<◌, ◌≤◌, ◌==◌, ◌+◌, ◌-◌, ◌*◌, ℕ, not, false, true, List, [], ◌∷◌, ◌++◌}
-use Rattle.std.specs.Prelude.{All, Bool, filter, length, map, Option, Some, None}
+use Rattle.std.specs.Prelude.{All, filter, length, map, Option, Some, None}
 use Rattle.std.specs.List.{Contains}
 use mathlib.Core.List.{IsPrefix}
 use Rattle.logbook.specs.Pages.{Book}
@@ -10,7 +10,6 @@ use Rattle.kfifo_live.specs.declared.payload.Given.{Given}
 use Rattle.kfifo_live.specs.declared.payload.Given.TheVariants as G
 use Rattle.kfifo_live.specs.declared.payload.Taken.{Taken}
 use Rattle.kfifo_live.specs.declared.payload.Taken.TheVariants as K
-use Rattle.kfifo_model.specs.declared.calls.Answer.TheVariants as A
 use Rattle.kfifo_model.specs.declared.calls.TheConstants.{MAX_THREADS}
 use Rattle.kfifo_live.specs.Calls.{IsDisturbed}
 use Rattle.kfifo_live.specs.Capacities.{HasRoom, segments_for, tokens_for}
@@ -18,8 +17,7 @@ use Rattle.kfifo_live.specs.Handles.{further}
 use Rattle.kfifo_live.specs.Pass.{HasNoEvent, IsPassOf, IsSamePass, OpenQueue, PassKeepsPromise}
 use Rattle.kfifo_live.specs.Payloads.{PayCloses}
 use Rattle.kfifo_live.specs.Schedule.{count_up}
-use Rattle.kfifo_live.specs.Tokens.{Dequeues, token_opening}
-use Rattle.kfifo_live.specs.declared.handle.TheConstants.{MAX_TURNS}
+use Rattle.kfifo_live.specs.Tokens.{token_opening}
 use Rattle.kfifo_live.specs.declared.payload.opening.TheConstants.{MOST_TOKENS}
 use Rattle.kfifo_live.specs.declared.tokens.sizes.Sizes.{Sizes}
 use Rattle.kfifo_live.specs.declared.tokens.sizes.SizesFault.{SizesFault}
@@ -51,20 +49,16 @@ holding_again s = record {
   few_probes = s.few_probes;
 }
 
--- what each generation of a queue of these sizes is opened with, bare or with payloads
-abbrev pub opening_with : Bool → Sizes → Opening
-opening_with bare s = token_opening bare s.shape s.threads s.tokens
-
--- and in this queue
-abbrev pub opening_in : Lineage → Opening
-opening_in l = opening_with l.bare l.sizes
+-- what each generation of a queue of these sizes is opened with
+abbrev pub opening_of : Sizes → Opening
+opening_of s = token_opening false s.shape s.threads s.tokens
 
 -- the sizes whose enqueues hold again
 abbrev pub sizes_again : Sizes → Sizes
 sizes_again s = record { shape = holding_again s.shape; threads = s.threads; tokens = s.tokens }
 
 abbrev pub opening_again : Sizes → Opening
-opening_again s = opening_with false (sizes_again s)
+opening_again s = opening_of (sizes_again s)
 
 -- How many generations a queue for so many threads may have at the same time because it grows, at most: it has places
 -- for so many, and for those that its threads may keep
@@ -99,7 +93,7 @@ pub record Numbered : Type 0 where
 
 -- it is opened with the sizes of this queue, and has its number in the history of this queue
 abbrev pub IsOfLineage : Lineage → Numbered → Type 0
-IsOfLineage l g = (g.queue.opened ≡ opening_in l) × (g.book ≡ l.history.book)
+IsOfLineage l g = (g.queue.opened ≡ opening_of l.sizes) × (g.book ≡ l.history.book)
 
 -- the handle of a thread in a generation, and the number of that
 pub record HeldIn (T : Type 0) : Type 0 where
@@ -282,17 +276,10 @@ module _ {T : Type 0} where
   GivesToNewest payload answer old new = (first : Given T) × (here : Generations T)
       × TriesToGive payload first old here × GoesOn first answer here new
 
-  -- a take found the generation of this handle empty
-  abbrev pub FindsEmpty : Pooled T → Pooled T → Type 0
-  FindsEmpty old new = IsSamePass old.held.pass.pass new.held.pass.pass
-      × Dequeues old.held.take_start MAX_TURNS A.Empty old.held.pass new.held.pass
-
--- In what follows `takes` is what a take did in one generation, by what it returned
-module _ {T G : Type 0} (takes : Taken G → Pooled T → Pooled T → Type 0) where
   -- one take from a generation, whose promise is then kept
-  pub record TakesThere (answer : Taken G) (old new : Pooled T) : Type 0 where
+  pub record TakesThere (answer : Taken T) (old new : Pooled T) : Type 0 where
     pub same : IsSamePass old.held.pass.pass new.held.pass.pass
-    pub did : takes answer old new
+    pub takes : ReceivesOne answer old new
     pub busy : answer ≡ K.Busy → IsDisturbed old.held.pass.pass new.held.pass.pass
     pub starts : (new.held.take_start ≡ further old.held.pass.pass old.held.take_start)
         × (new.held.put_start ≡ old.held.put_start)
@@ -300,53 +287,46 @@ module _ {T G : Type 0} (takes : Taken G → Pooled T → Pooled T → Type 0) w
 
   -- The takes from these generations, one after the other, up to the first that is not found empty, and what that one
   -- returned. The others stay as they are. None: each was found empty
-  abbrev pub TakesFirst : Option (Taken G) → List (HeldIn T) → List (HeldIn T) → Type 0
+  abbrev pub TakesFirst : Option (Taken T) → List (HeldIn T) → List (HeldIn T) → Type 0
   TakesFirst answer [] new = (answer ≡ None) × (new ≡ [])
   TakesFirst answer (h ∷ hs) new = (after : HeldIn T) × (afters : List (HeldIn T)) × (new ≡ after ∷ afters)
       × (after.number ≡ h.number)
       × ((TakesThere K.Empty h.handle after.handle × TakesFirst answer hs afters)
-      ⊎ ((taken : Taken G) × (answer ≡ Some taken) × (taken ≢ K.Empty) × TakesThere taken h.handle after.handle
+      ⊎ ((taken : Taken T) × (answer ≡ Some taken) × (taken ≢ K.Empty) × TakesThere taken h.handle after.handle
       × (afters ≡ hs)))
 
-module _ {T G : Type 0} where
   -- What is returned of a take, after which the handle is `new`. Empty: at a look after it, by a pass that had seen it,
   -- the generation was still the newest of the queue. Where another one was, Busy stands for Empty
-  abbrev pub LooksAgain : Taken G → Taken G → Generations T → Generations T → Type 0
+  abbrev pub LooksAgain : Taken T → Taken T → Generations T → Generations T → Type 0
   LooksAgain taken answer old new = ((taken ≢ K.Empty) × (answer ≡ taken) × (new.seen ≡ old.seen))
       ⊎ ((taken ≡ K.Empty) × (((answer ≡ K.Empty) × IsAtNewest old new) ⊎ ((answer ≡ K.Busy) × IsBehind old new)))
 
-module _ {T G : Type 0} (takes : Taken G → Pooled T → Pooled T → Type 0) where
   -- A take from the newest generation. Empty: it found that empty
-  pub record TakesNewest (answer : Taken G) (old new : Generations T) : Type 0 where
-    pub taken : Taken G
-    pub did : TakesThere takes taken old.newest new.newest
+  pub record TakesNewest (answer : Taken T) (old new : Generations T) : Type 0 where
+    pub taken : Taken T
+    pub takes : TakesThere taken old.newest new.newest
     pub then : LooksAgain taken answer old new
 
-  -- A take from the oldest generation that has something: from the newest where each older one was found empty. The
+  -- A take from the oldest generation that has a payload: from the newest where each older one was found empty. The
   -- handle then leaves some that have left their places
-  pub record TakesOldest (answer : Taken G) (old new : Generations T) : Type 0 where
+  pub record TakesOldest (answer : Taken T) (old new : Generations T) : Type 0 where
     pub later : IsLater old new
     pub number : new.number ≡ old.number
-    pub found : Option (Taken G)
+    pub found : Option (Taken T)
     pub looked : List (HeldIn T)
-    pub older : TakesFirst takes found old.older looked
+    pub older : TakesFirst found old.older looked
     pub left : LeavesGone new.seen looked new.older
     pub newest : ((found ≡ Some answer) × (new.newest ≡ old.newest))
         ⊎ ((found ≡ None)
         × ((mid : Generations T) × IsLater old mid × (mid.newest ≡ old.newest) × TakesNewest answer mid new))
 
-  -- What a take did: the handle follows others to the generation that was the newest of the queue at a look, so it is
+  -- What `take` did: the handle follows others to the generation that was the newest of the queue at a look, so it is
   -- in each that has not gone, and takes. Busy: it has taken from none, and at a look another one than its newest was
   -- the newest
-  abbrev pub TakesBy : Taken G → Generations T → Generations T → Type 0
-  TakesBy answer old new = (here : Generations T) × Follows old here
+  abbrev pub TakesFromOldest : Taken T → Generations T → Generations T → Type 0
+  TakesFromOldest answer old new = (here : Generations T) × Follows old here
       × ((IsAtNewest old here × HasAll here × TakesOldest answer here new)
       ⊎ (IsBehind old here × (answer ≡ K.Busy) × (new ≡ here)))
-
-module _ {T : Type 0} where
-  -- what `take` did
-  abbrev pub TakesFromOldest : Taken T → Generations T → Generations T → Type 0
-  TakesFromOldest = TakesBy ReceivesOne
 
   -- What a close of a generation returned: by this handle, and the handles of all other threads
   pub record WereLeft (h : Pooled T) (payloads : List T) : Type 0 where

@@ -1,5 +1,5 @@
 //! A generation: a queue of payloads, with the handles that wait in it for their threads.
-ghost use Rattle.std.specs.Prelude.{◌≡◌, ◌<◌, ◌≤◌, ◌+◌, ◌++◌, [], ◌∷◌, All, IfOk, IfSome, length, map, true};
+ghost use Rattle.std.specs.Prelude.{◌≡◌, ◌<◌, ◌≤◌, ◌+◌, ◌++◌, [], ◌∷◌, All, IfOk, IfSome, false, length, map, true};
 ghost use Rattle.std.specs.Prelude.{vec_capacity};
 ghost use Rattle.kfifo_live.specs.Pass.{HasNoEvent, IsPassOf};
 ghost use Rattle.kfifo_renewing.specs.History.{IsMade};
@@ -75,7 +75,8 @@ impl<T: Drop> Model for Generation<T> {
     } };
 
     ghost invariant = { λ g. All (λ queue. queue ≡ g.queue) g.waiting.items
-        × IsMade g.history.log g.next.number g.queue.table × (g.next.book ≡ g.history.book) };
+        × IsMade g.history.log g.next.number g.queue.table × (g.next.book ≡ g.history.book)
+        × (g.queue.opened.bare ≡ false) };
 }
 
 /// A place for each of these handles, in which it waits, in their order.
@@ -144,6 +145,7 @@ impl<T: Drop> Generation<T> {
     ) -> Result<Generation<T>, AllocError>
         requires handles { All (λ h. IsPassOf queue h.held.pass.pass × HasNoEvent h.held.pass.pass) handles.items }
         requires number { IsMade history.log next.number queue.table × (next.book ≡ history.book) }
+        requires payloads { queue.opened.bare ≡ false }
         ensures { IfOk result (λ g. (g.queue ≡ queue) × (g.number ≡ next.number) × (g.book ≡ history.book)) }
     {
         let waiting = seat_all(alloc, &queue, handles)?;
@@ -159,7 +161,8 @@ impl<T: Drop> Generation<T> {
     /// The queue.
     #[inline(always)]
     pub(crate) fn queue(&self) -> &PooledQueue<T>
-        ensures { result.now ≡ self.now.queue }
+        ensures queue { result.now ≡ self.now.queue }
+        ensures payloads { result.now.opened.bare ≡ false }
     {
         &self.queue
     }
@@ -189,7 +192,8 @@ impl<T: Drop> Generation<T> {
 
     /// The handle of this thread, unless its thread has it already, or has given it back.
     pub(crate) fn take_handle(&self, thread: u32) -> Option<PooledHandle<T>>
-        ensures { IfSome result (λ h. IsPassOf self.now.queue h.held.pass.pass × HasNoEvent h.held.pass.pass) }
+        ensures of { IfSome result (λ h. IsPassOf self.now.queue h.held.pass.pass × HasNoEvent h.held.pass.pass) }
+        ensures payloads { IfSome result (λ h. h.held.pass.pass.opened.bare ≡ false) }
     {
         let place = self.waiting.get(thread as usize)?;
         let (found, claim) = place.turn(FREE, TAKEN);
@@ -246,7 +250,7 @@ impl<T: Drop> Generation<T> {
         threads: u32,
         own: u32,
     ) -> Result<(PooledQueue<T>, Vec<PooledHandle<T>>), CloseFault>
-        ensures queue { IfOk result (λ r. r.0 ≡ self.queue) }
+        ensures queue { IfOk result (λ r. (r.0 ≡ self.queue) × (r.0.opened.bare ≡ false)) }
         ensures of { IfOk result (λ r. All (λ h. IsPassOf self.queue h.held.pass.pass) r.1.items) }
         ensures others { IfOk result (λ r. map (λ h. h.held.pass.pass.thread) r.1.items ≡ other_threads own threads) }
     {

@@ -8,20 +8,19 @@ ghost use Rattle.kfifo_renewing.specs.History.{HasRisen, WasNewest, place_count}
 ghost use Rattle.kfifo_renewing.specs.Joining.{AreAmong, AreSameParts, HasJoined, IsPart, IsUnused, held_by};
 ghost use Rattle.kfifo_renewing.specs.Renewing.{Follows, Generations, GivesToNewest, GoesOn, HasAll, HeldIn};
 ghost use Rattle.kfifo_renewing.specs.Renewing.{IsAtNewest, IsBehind, IsLater, LooksAgain};
-ghost use Rattle.kfifo_renewing.specs.Renewing.{IsOpenedAs, LeavesGone, TakesBy, TakesFirst, TakesFromOldest, TakesNewest};
-ghost use Rattle.kfifo_renewing.specs.Renewing.{TakesOldest, TriesAgain, TriesToGive, all_of, opening_in, with_older};
+ghost use Rattle.kfifo_renewing.specs.Renewing.{IsOpenedAs, LeavesGone, TakesFirst, TakesFromOldest, TakesNewest};
+ghost use Rattle.kfifo_renewing.specs.Renewing.{TakesOldest, TriesAgain, TriesToGive, all_of, opening_of, with_older};
 ghost use Rattle.kfifo_renewing.specs.Renewing.{with_seen};
 
 use crate::generation::Generation;
 use crate::history::History;
 use crate::joined::Joined;
-use crate::kind::{Kind, Payloads};
 use crate::label::PLACES;
 use crate::leaving::Leaving;
 use crate::queue::Shared;
 use kfifo_live::{Given, Taken};
 use std::alloc::{AllocError, Global};
-use std::marker::{Model, PhantomData};
+use std::marker::Model;
 use std::mem::replace;
 use std::sync::Arc;
 
@@ -50,27 +49,26 @@ const LOOKS: u32 = 4 * PLACES;
 /// Clauses see it as the generations that it has joined, its handle in each, and what it has seen of the history of the
 /// queue: which generations were made, and which became the newest.
 #[derive(Drop)]
-pub struct RenewingHandle<T: Drop, K: Kind<T> = Payloads> {
+pub struct RenewingHandle<T: Drop> {
     shared: Arc<Shared<T>, Global>,
     history: History,
-    pub(crate) newest: Leaving<Joined<T>>,
+    newest: Leaving<Joined<T>>,
     /// The same generation. The handle counts among those that give to it, unless that says that there is a later one.
-    pub(crate) generation: Arc<Generation<T>, Global>,
+    generation: Arc<Generation<T>, Global>,
     /// The generations before it that may still have payloads, the oldest first.
-    pub(crate) older: Vec<Leaving<Joined<T>>>,
+    older: Vec<Leaving<Joined<T>>>,
     /// Room for those that the handle is about to join, so that it needs no memory to follow others. Else empty.
     spare: Vec<Leaving<Joined<T>>>,
     thread: u32,
     gives_left: u64,
     gives_between_looks: u64,
-    kind: PhantomData<K>,
 }
 
-impl<T: Drop, K: Kind<T>> Model for RenewingHandle<T, K> {
+impl<T: Drop> Model for RenewingHandle<T> {
     ghost Value = { Generations T };
 
     ghost view = { λ h. record {
-      opened = opening_in h.shared.value;
+      opened = opening_of h.shared.value.sizes;
       thread = h.thread;
       book = h.history.book;
       seen = h.history.log;
@@ -79,11 +77,11 @@ impl<T: Drop, K: Kind<T>> Model for RenewingHandle<T, K> {
       number = h.generation.value.number;
     } };
 
-    ghost invariant = { λ h. HasJoined (opening_in h.shared.value) h.shared.value.history.book h.history.book
-        h.history.log h.generation.value h.newest h.older.items × (h.shared.value.bare ≡ K.bare) };
+    ghost invariant = { λ h. HasJoined (opening_of h.shared.value.sizes) h.shared.value.history.book h.history.book
+        h.history.log h.generation.value h.newest h.older.items };
 }
 
-impl<T: Drop, K: Kind<T>> RenewingHandle<T, K> {
+impl<T: Drop> RenewingHandle<T> {
     /// The handle of this thread, which has joined the first generation.
     pub(crate) fn new(
         alloc: Global,
@@ -92,15 +90,14 @@ impl<T: Drop, K: Kind<T>> RenewingHandle<T, K> {
         generation: Arc<Generation<T>, Global>,
         mut newest: Leaving<Joined<T>>,
         thread: u32,
-    ) -> Result<RenewingHandle<T, K>, AllocError>
-        requires opened { IsOpenedAs (opening_in shared.value) newest.handle }
-        requires bare { shared.value.bare ≡ K.bare }
+    ) -> Result<RenewingHandle<T>, AllocError>
+        requires opened { IsOpenedAs (opening_of shared.value.sizes) newest.handle }
         requires books { (history.book ≡ shared.value.history.book) × (generation.value.book ≡ history.book) }
         requires first { (generation.value.number ≡ 0) × (newest.number ≡ 0) }
         requires part { IsPart history.log newest }
         requires of { IsPassOf generation.value.queue newest.handle.held.pass.pass }
         requires risen { HasRisen history.log }
-        ensures same { IfOk result (λ h. (h.opened ≡ opening_in shared.value) × (h.thread ≡ thread)
+        ensures same { IfOk result (λ h. (h.opened ≡ opening_of shared.value.sizes) × (h.thread ≡ thread)
             × (h.book ≡ history.book)) }
         ensures one { IfOk result (λ h. (h.older ≡ []) × (h.newest ≡ newest.handle) × (h.number ≡ 0)) }
     {
@@ -118,7 +115,6 @@ impl<T: Drop, K: Kind<T>> RenewingHandle<T, K> {
             thread,
             gives_left: gives_between_looks,
             gives_between_looks,
-            kind: PhantomData,
         })
     }
 
@@ -319,10 +315,6 @@ impl<T: Drop, K: Kind<T>> RenewingHandle<T, K> {
         let mut index = 0;
         while index < self.older.len() {
             let joined = &self.older[index];
-            if joined.has_cell() {
-                index += 1;
-                continue;
-            }
             if self
                 .shared
                 .places()
@@ -399,7 +391,7 @@ impl<T: Drop, K: Kind<T>> RenewingHandle<T, K> {
     }
 
     /// Follows others if they have opened a generation. Returns false where it did not come to that.
-    pub(crate) fn keep_up(&mut self) -> bool
+    fn keep_up(&mut self) -> bool
         ensures follows { Follows self.old self.new }
         ensures newest { MatchBool result (IsAtNewest self.old self.new) (IsBehind self.old self.new) }
         ensures all { HasAll self.new }
@@ -411,30 +403,9 @@ impl<T: Drop, K: Kind<T>> RenewingHandle<T, K> {
     }
 
     /// Opens the generation after the newest one, unless another handle has done so, or memory or room is missing.
-    pub(crate) fn renew(&self) {
+    fn renew(&self) {
         self.shared
-            .renew::<K>(&self.generation, &self.newest, self.history.again());
-    }
-
-    /// Counts a give, and looks at the versions that are left at each so many of them.
-    #[inline(always)]
-    pub(crate) fn count_give(&mut self)
-        ensures { self.new ≡ self.old }
-    {
-        self.gives_left = self.gives_left.wrapping_sub(1);
-        self.look_at_versions();
-    }
-
-    /// Opens the generation after the newest one, which has no room, where the queue has fewer than it may have.
-    pub(crate) fn open_more(&mut self)
-        ensures same { self.new ≡ with_older (with_seen self.old self.new.seen) self.new.older }
-        ensures later { IsLater self.old self.new }
-        ensures older { LeavesGone self.new.seen self.old.older self.new.older }
-    {
-        self.leave_gone();
-        if self.older.len() < self.shared.most_older() {
-            self.renew();
-        }
+            .renew(&self.generation, &self.newest, self.history.again());
     }
 
     /// Looks at the versions that the newest generation has left, once the handle has made so many gives, and opens the
@@ -451,167 +422,6 @@ impl<T: Drop, K: Kind<T>> RenewingHandle<T, K> {
         }
     }
 
-    /// Takes from the first of the older generations that is not found empty. Returns None where each was. The handle
-    /// leaves those that are over.
-    fn take_older(&mut self) -> Option<Taken<K::Got>>
-        ensures same { self.new ≡ with_older (with_seen self.old self.new.seen) self.new.older }
-        ensures later { IsLater self.old self.new }
-        ensures takes { (looked : List (HeldIn T)) × TakesFirst K.takes result self.old.older looked
-            × LeavesGone self.new.seen looked self.new.older }
-    {
-        let mut found_empty = false;
-        let taken = self.take_first(&mut found_empty);
-        // Else none is over, and in a queue that has grown a look at each place would cost more than the take.
-        if !found_empty {
-            return taken;
-        }
-        self.retire_over();
-        self.leave_gone();
-        taken
-    }
-
-    /// Takes from the first of the older generations that is not found empty. Says whether it found one empty.
-    fn take_first(&mut self, found_empty: &mut bool) -> Option<Taken<K::Got>>
-        ensures same { self.new ≡ with_older self.old self.new.older }
-        ensures takes { TakesFirst K.takes result self.old.older self.new.older }
-    {
-        take_first::<T, K>(self.older.as_mut_slice(), found_empty)
-    }
-
-    /// Empties the places of the older generations that are over.
-    fn retire_over(&mut self)
-        ensures same { self.new ≡ with_seen self.old self.new.seen }
-        ensures later { IsLater self.old self.new }
-    {
-        self.shared
-            .places()
-            .retire_over(self.older.as_slice(), &mut self.history);
-    }
-
-    /// What a take returns that came to this in the newest generation: Busy in place of Empty where another one is the
-    /// newest by now.
-    #[cold]
-    #[inline(never)]
-    fn look_again(&mut self, taken: Taken<K::Got>) -> Taken<K::Got>
-        ensures same { self.new ≡ with_seen self.old self.new.seen }
-        ensures later { IsLater self.old self.new }
-        ensures looks { LooksAgain taken result self.old self.new }
-    {
-        if let Taken::Empty = taken {
-            // A value may lie in the generation that others have opened meanwhile.
-            if self.is_behind() {
-                return Taken::Busy;
-            }
-        }
-        taken
-    }
-
-    /// Takes from the newest generation, where each older one is empty.
-    fn take_newest(&mut self) -> Taken<K::Got>
-        ensures later { IsLater self.old self.new }
-        ensures same { (self.new.older ≡ self.old.older) × (self.new.number ≡ self.old.number) }
-        ensures takes { TakesNewest K.takes result self.old self.new }
-    {
-        let taken = self.newest.take::<K>(self.generation.queue());
-        self.look_again(taken)
-    }
-
-    /// Takes from the oldest generation that is not empty.
-    fn take_oldest(&mut self) -> Taken<K::Got>
-        ensures { TakesOldest K.takes result self.old self.new }
-    {
-        match self.take_older() {
-            Some(taken) => taken,
-            None => self.take_newest(),
-        }
-    }
-
-    /// The same as `take`, where the handle has older generations, or others to follow.
-    #[cold]
-    #[inline(never)]
-    fn take_late(&mut self) -> Taken<K::Got>
-        ensures { TakesBy K.takes result self.old self.new }
-    {
-        if !self.keep_up() {
-            return Taken::Busy;
-        }
-        self.take_oldest()
-    }
-
-    /// Takes from the oldest generation that is not found empty, once the handle has followed others.
-    #[inline(always)]
-    pub(crate) fn take_in_order(&mut self) -> Taken<K::Got>
-        ensures { TakesBy K.takes result self.old self.new }
-    {
-        let generation: &Generation<T> = &self.generation;
-        let later = generation.next().look(&self.newest, &mut self.history);
-        // One test for both.
-        if later + self.older.len() as u64 != 0 {
-            return self.take_late();
-        }
-        // What is rare goes out of line, and leaves one test of what was taken.
-        match self.newest.take::<K>(generation.queue()) {
-            Taken::Got(got) => Taken::Got(got),
-            taken => self.look_again(taken),
-        }
-    }
-
-    /// Follows others that have opened a newer generation, and returns in how many generations the handle then is.
-    ///
-    /// That is 1, but for the time of a change: an older one stays until it is found empty and no handle can give to it
-    /// any more. Returns None where others opened new ones all the time.
-    pub fn generations(&mut self) -> Option<usize>
-        ensures follows { Follows self.old self.new }
-        ensures count { IfSome result (λ n. n ≡ length (all_of self.new)) }
-        ensures newest { IfSome result (λ n. IsAtNewest self.old self.new) }
-        ensures all { HasAll self.new }
-    {
-        if !self.keep_up() {
-            return None;
-        }
-        self.older.len().checked_add(1)
-    }
-
-    /// Whether the generation to which this handle gives is that to which another handle of its queue gives, as far as
-    /// they have followed others.
-    pub fn is_beside(&self, other: &RenewingHandle<T, K>) -> bool
-        requires { other.now.book ≡ self.now.book }
-        ensures number { result ≡ true ↔ (self.now.number ≡ other.now.number) }
-        ensures same { self.now.number ≡ other.now.number
-            → self.now.newest.held.pass.pass.table ≡ other.now.newest.held.pass.pass.table }
-    {
-        // What both have seen of the history has one generation at a number.
-        let mut history = self.history.again();
-        history.learn(&other.history);
-        self.number() == other.number()
-    }
-
-    /// Where its queue is: the same address for all handles of a queue, and another one for each other queue that is
-    /// open. Nothing is read or written through it.
-    pub fn address(&self) -> *mut u8 {
-        address_of(&self.shared)
-    }
-
-    /// Gives the handle up: what the handles share, and the generations that it has joined, the oldest first.
-    pub(crate) fn into_joined(
-        self,
-    ) -> Result<(Arc<Shared<T>, Global>, Vec<Leaving<Joined<T>>>), AllocError>
-        ensures shared { IfOk result (λ r. (opening_in r.0.value ≡ self.opened) × (r.0.value.bare ≡ K.bare)) }
-        ensures joined { IfOk result (λ r. held_by r.1.items ≡ all_of self) }
-        ensures of { IfOk result (λ r. All (λ p. IsOpenedAs (opening_in r.0.value) p.handle) r.1.items) }
-    {
-        let Self {
-            shared,
-            newest,
-            mut older,
-            ..
-        } = self;
-        older.push(newest)?;
-        Ok((shared, older))
-    }
-}
-
-impl<T: Drop> RenewingHandle<T, Payloads> {
     /// Gives to the newest generation, once it has followed others to it.
     fn try_to_give(&mut self, payload: T) -> Given<T>
         ensures { TriesToGive payload result self.old self.new }
@@ -654,7 +464,10 @@ impl<T: Drop> RenewingHandle<T, Payloads> {
         ensures { TriesAgain payload result self.old self.new }
     {
         let full = self.number();
-        self.open_more();
+        self.leave_gone();
+        if self.older.len() < self.shared.most_older() {
+            self.renew();
+        }
         self.try_next(full, payload)
     }
 
@@ -727,6 +540,93 @@ impl<T: Drop> RenewingHandle<T, Payloads> {
         }
     }
 
+    /// Takes from the first of the older generations that is not found empty. Returns None where each was. The handle
+    /// leaves those that are over.
+    fn take_older(&mut self) -> Option<Taken<T>>
+        ensures same { self.new ≡ with_older (with_seen self.old self.new.seen) self.new.older }
+        ensures later { IsLater self.old self.new }
+        ensures takes { (looked : List (HeldIn T)) × TakesFirst result self.old.older looked
+            × LeavesGone self.new.seen looked self.new.older }
+    {
+        let mut found_empty = false;
+        let taken = self.take_first(&mut found_empty);
+        // Else none is over, and in a queue that has grown a look at each place would cost more than the take.
+        if !found_empty {
+            return taken;
+        }
+        self.retire_over();
+        self.leave_gone();
+        taken
+    }
+
+    /// Takes from the first of the older generations that is not found empty. Says whether it found one empty.
+    fn take_first(&mut self, found_empty: &mut bool) -> Option<Taken<T>>
+        ensures same { self.new ≡ with_older self.old self.new.older }
+        ensures takes { TakesFirst result self.old.older self.new.older }
+    {
+        take_first(self.older.as_mut_slice(), found_empty)
+    }
+
+    /// Empties the places of the older generations that are over.
+    fn retire_over(&mut self)
+        ensures same { self.new ≡ with_seen self.old self.new.seen }
+        ensures later { IsLater self.old self.new }
+    {
+        self.shared
+            .places()
+            .retire_over(self.older.as_slice(), &mut self.history);
+    }
+
+    /// What a take returns that came to this in the newest generation: Busy in place of Empty where another one is the
+    /// newest by now.
+    #[cold]
+    #[inline(never)]
+    fn look_again(&mut self, taken: Taken<T>) -> Taken<T>
+        ensures same { self.new ≡ with_seen self.old self.new.seen }
+        ensures later { IsLater self.old self.new }
+        ensures looks { LooksAgain taken result self.old self.new }
+    {
+        if let Taken::Empty = taken {
+            // A value may lie in the generation that others have opened meanwhile.
+            if self.is_behind() {
+                return Taken::Busy;
+            }
+        }
+        taken
+    }
+
+    /// Takes from the newest generation, where each older one is empty.
+    fn take_newest(&mut self) -> Taken<T>
+        ensures later { IsLater self.old self.new }
+        ensures same { (self.new.older ≡ self.old.older) × (self.new.number ≡ self.old.number) }
+        ensures takes { TakesNewest result self.old self.new }
+    {
+        let taken = self.newest.take(self.generation.queue());
+        self.look_again(taken)
+    }
+
+    /// Takes from the oldest generation that is not empty.
+    fn take_oldest(&mut self) -> Taken<T>
+        ensures { TakesOldest result self.old self.new }
+    {
+        match self.take_older() {
+            Some(taken) => taken,
+            None => self.take_newest(),
+        }
+    }
+
+    /// The same as `take`, where the handle has older generations, or others to follow.
+    #[cold]
+    #[inline(never)]
+    fn take_late(&mut self) -> Taken<T>
+        ensures { TakesFromOldest result self.old self.new }
+    {
+        if !self.keep_up() {
+            return Taken::Busy;
+        }
+        self.take_oldest()
+    }
+
     /// Takes one of the k oldest payloads of the oldest generation that has one, as `PooledHandle::receive` does.
     ///
     /// The handle first follows others that have opened a newer generation. It looks into the older generations first,
@@ -741,7 +641,71 @@ impl<T: Drop> RenewingHandle<T, Payloads> {
     pub fn take(&mut self) -> Taken<T>
         ensures { TakesFromOldest result self.old self.new }
     {
-        self.take_in_order()
+        let generation: &Generation<T> = &self.generation;
+        let later = generation.next().look(&self.newest, &mut self.history);
+        // One test for both.
+        if later + self.older.len() as u64 != 0 {
+            return self.take_late();
+        }
+        // What is rare goes out of line, and leaves one test of what was taken.
+        match self.newest.take(generation.queue()) {
+            Taken::Got(payload) => Taken::Got(payload),
+            taken => self.look_again(taken),
+        }
+    }
+
+    /// Follows others that have opened a newer generation, and returns in how many generations the handle then is.
+    ///
+    /// That is 1, but for the time of a change: an older one stays until it is found empty and no handle can give to it
+    /// any more. Returns None where others opened new ones all the time.
+    pub fn generations(&mut self) -> Option<usize>
+        ensures follows { Follows self.old self.new }
+        ensures count { IfSome result (λ n. n ≡ length (all_of self.new)) }
+        ensures newest { IfSome result (λ n. IsAtNewest self.old self.new) }
+        ensures all { HasAll self.new }
+    {
+        if !self.keep_up() {
+            return None;
+        }
+        self.older.len().checked_add(1)
+    }
+
+    /// Whether the generation to which this handle gives is that to which another handle of its queue gives, as far as
+    /// they have followed others.
+    pub fn is_beside(&self, other: &RenewingHandle<T>) -> bool
+        requires { other.now.book ≡ self.now.book }
+        ensures number { result ≡ true ↔ (self.now.number ≡ other.now.number) }
+        ensures same { self.now.number ≡ other.now.number
+            → self.now.newest.held.pass.pass.table ≡ other.now.newest.held.pass.pass.table }
+    {
+        // What both have seen of the history has one generation at a number.
+        let mut history = self.history.again();
+        history.learn(&other.history);
+        self.number() == other.number()
+    }
+
+    /// Where its queue is: the same address for all handles of a queue, and another one for each other queue that is
+    /// open. Nothing is read or written through it.
+    pub fn address(&self) -> *mut u8 {
+        address_of(&self.shared)
+    }
+
+    /// Gives the handle up: what the handles share, and the generations that it has joined, the oldest first.
+    pub(crate) fn into_joined(
+        self,
+    ) -> Result<(Arc<Shared<T>, Global>, Vec<Leaving<Joined<T>>>), AllocError>
+        ensures shared { IfOk result (λ r. opening_of r.0.value.sizes ≡ self.opened) }
+        ensures joined { IfOk result (λ r. held_by r.1.items ≡ all_of self) }
+        ensures of { IfOk result (λ r. All (λ p. IsOpenedAs (opening_of r.0.value.sizes) p.handle) r.1.items) }
+    {
+        let Self {
+            shared,
+            newest,
+            mut older,
+            ..
+        } = self;
+        older.push(newest)?;
+        Ok((shared, older))
     }
 }
 
@@ -775,22 +739,21 @@ fn address_of<T: Drop>(shared: &Shared<T>) -> *mut u8
 
 /// Takes from the first of these generations that is not empty. Says whether it found one empty: that one is over if
 /// nobody gave to it any more before that.
-fn take_first<T: Drop, K: Kind<T>>(
+fn take_first<T: Drop>(
     generations: &mut [Leaving<Joined<T>>],
     found_empty: &mut bool,
-) -> Option<Taken<K::Got>>
-    requires { All (λ p. p.handle.held.pass.pass.opened.bare ≡ K.bare) generations.old }
+) -> Option<Taken<T>>
     ensures same { AreSameParts generations.old generations.new }
-    ensures takes { TakesFirst K.takes result (held_by generations.old) (held_by generations.new) }
+    ensures takes { TakesFirst result (held_by generations.old) (held_by generations.new) }
 {
     let (first, rest) = generations.split_first_mut()?;
     // This look comes before the take: a payload that is given after the take would be lost with the generation.
     let has_givers = first.generation().has_givers();
-    match first.take_here::<K>() {
+    match first.take_here() {
         Taken::Empty => {
             first.set_over(!has_givers);
             *found_empty = true;
-            take_first::<T, K>(rest, found_empty)
+            take_first(rest, found_empty)
         }
         taken => Some(taken),
     }

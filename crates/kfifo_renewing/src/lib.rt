@@ -2,14 +2,12 @@
 //! before it while that has versions left.
 #![tactic(auto)]
 
-mod cells;
 mod change;
 mod fault;
 mod generation;
 mod handle;
 mod history;
 mod joined;
-mod kind;
 mod label;
 mod leaving;
 mod places;
@@ -18,5 +16,4 @@ mod queue;
 pub use fault::{CapacityFault, RenewFault};
 pub use handle::RenewingHandle;
 pub use kfifo_exclusive::Exclusive;
-pub use kind::{Cells, Kind, Payloads};
 pub use queue::{DEFAULT_RESERVE, NO_RENEWAL, Renewals, close, open, open_with};

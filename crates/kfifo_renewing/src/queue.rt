@@ -1,6 +1,6 @@
 //! What the handles of a renewing queue share, its opening and its end.
 ghost use Rattle.std.specs.Prelude.{◌≡◌, ◌<◌, ◌≤◌, ◌*◌, ◌++◌, ◌⊎◌, ◌↔◌, All, IfOk, IfSome, IsErrOf, ℕ, List, [], ◌∷◌};
-ghost use Rattle.std.specs.Prelude.{MatchResult, None, false, length, map};
+ghost use Rattle.std.specs.Prelude.{MatchResult, None, length, map};
 ghost use Rattle.kfifo_live.specs.Capacities.{sizes_fault};
 ghost use Rattle.kfifo_live.specs.Pass.{HasNoEvent, IsPassOf};
 ghost use Rattle.kfifo_live.specs.Refusals.{IsOutOf};
@@ -17,7 +17,7 @@ ghost use Rattle.kfifo_renewing.specs.Joining.{held_by};
 ghost use Rattle.kfifo_renewing.specs.Renewing.{AreInRange, ClosesAll, ClosesEach, Generations, HasOne, HaveOne};
 ghost use Rattle.kfifo_renewing.specs.Renewing.{IsOfLineage};
 ghost use Rattle.kfifo_renewing.specs.Renewing.{IsOpenedAs, OpensFor, RefusesFor, WereLeft, generations_for};
-ghost use Rattle.kfifo_renewing.specs.Renewing.{opening_again, opening_with};
+ghost use Rattle.kfifo_renewing.specs.Renewing.{opening_again, opening_of};
 ghost use Rattle.kfifo_renewing.specs.Renewing.{sizes_again};
 ghost use Rattle.kfifo_renewing.specs.declared.queue.TheConstants.{DEFAULT_RESERVE};
 
@@ -26,7 +26,6 @@ use crate::generation::Generation;
 use crate::handle::RenewingHandle;
 use crate::history::{History, Numbers};
 use crate::joined::Joined;
-use crate::kind::Kind;
 use crate::label::{Label, PLACES};
 use crate::leaving::Leaving;
 use crate::places::{Lineage, Places};
@@ -66,6 +65,19 @@ impl<T: Drop> Model for Shared<T> {
     ghost view = { λ s. s.places };
 
     ghost invariant = { λ s. (s.numbers ≡ s.places.history.book) × AreInRange s.places.sizes };
+}
+
+/// A queue as a generation is opened, with the handles of all threads.
+fn open_queue<T: Drop>(
+    alloc: Global,
+    sizes: &Sizes,
+) -> Result<(PooledQueue<T>, Vec<PooledHandle<T>>), AllocError>
+    requires { AreInRange sizes.now }
+    ensures opened { IfOk result (λ r. r.0.opened ≡ opening_of sizes.now) }
+    ensures of { IfOk result (λ r. All (λ h. IsPassOf r.0 h.held.pass.pass × HasNoEvent h.held.pass.pass) r.1.items) }
+{
+    let opened = PooledQueue::open_with_payloads(alloc, *sizes)?;
+    Ok(opened)
 }
 
 impl<T: Drop> Shared<T> {
@@ -120,14 +132,13 @@ impl<T: Drop> Shared<T> {
     }
 
     /// A new generation, with a number of its own, and the pen that may write its word.
-    fn make<K: Kind<T>>(&self, history: &mut History) -> Option<(Generation<T>, Pen)>
-        requires book { history.old.book ≡ self.now.history.book }
-        requires bare { self.now.bare ≡ K.bare }
+    fn make(&self, history: &mut History) -> Option<(Generation<T>, Pen)>
+        requires { history.old.book ≡ self.now.history.book }
         ensures book { history.new.book ≡ history.old.book }
         ensures of { IfSome result (λ r. IsOfLineage self.now r.0) }
         ensures pen { IfSome result (λ r. (r.1.book ≡ r.0.book) × (r.1.nib ≡ nib may_write (key_of r.0.number) 0)) }
     {
-        let (queue, handles) = K::open(self.alloc, &self.places.lineage.sizes).ok()?;
+        let (queue, handles) = open_queue(self.alloc, &self.places.lineage.sizes).ok()?;
         let (next, pen) = self.numbers.number(&queue, history)?;
         let generation = Generation::new(self.alloc, queue, handles, next, history.again()).ok()?;
         Some((generation, pen))
@@ -135,7 +146,7 @@ impl<T: Drop> Shared<T> {
 
     /// Opens the generation after this one, which was the newest, by the handle with this part. It does not where
     /// another handle has opened that, memory or room is missing, or the queue opens none.
-    pub(crate) fn renew<K: Kind<T>>(
+    pub(crate) fn renew(
         &self,
         newest: &Generation<T>,
         part: &Leaving<Joined<T>>,
@@ -143,14 +154,13 @@ impl<T: Drop> Shared<T> {
     )
         requires books { (newest.now.book ≡ self.now.history.book) × (history.book ≡ self.now.history.book) }
         requires newest { WasNewest history.log newest.now.number }
-        requires bare { self.now.bare ≡ K.bare }
     {
         let seen = history.again();
         let is_newest = newest.next().look(part, &mut history) == 0;
         if !(self.renews() || self.grows()) || !is_newest || !self.places.has_room() {
             return;
         }
-        let Some((generation, mut pen)) = self.make::<K>(&mut history) else {
+        let Some((generation, mut pen)) = self.make(&mut history) else {
             return;
         };
         history.learn(&seen);
@@ -222,21 +232,19 @@ fn share<T: Drop>(
     numbers: Numbers,
     labels: Vec<Label>,
     sizes: Sizes,
-    bare: bool,
     renewals: Renewals,
 ) -> Result<(Arc<Shared<T>, Global>, usize, History), AllocError>
     requires sizes { AreInRange sizes }
     requires generations { (1 ≤ renewals.generations) × (renewals.generations ≤ generations_for sizes.threads) }
-    requires of { generation.now.value.queue.opened ≡ opening_with bare sizes }
+    requires of { generation.now.value.queue.opened ≡ opening_of sizes }
     requires numbers { (numbers ≡ generation.now.value.book) × AreLabels numbers labels.items }
-    ensures shared { IfOk result (λ r. (r.0.value.sizes ≡ sizes) × (r.0.value.bare ≡ bare)
+    ensures shared { IfOk result (λ r. (r.0.value.sizes ≡ sizes)
         × (r.0.value.history.book ≡ generation.now.value.book)) }
     ensures there { IfOk result (λ r. (r.2.book ≡ generation.now.value.book) × (r.1 < place_count)
         × IsPlaced r.2.log generation.now.value.number r.1) }
 {
     let lineage = Lineage {
         sizes,
-        bare,
         history: generation.history().again(),
     };
     // Handles keep at most one old generation each, and two are there while a change goes on: so there is room for a
@@ -262,15 +270,14 @@ fn share<T: Drop>(
 }
 
 /// The handle of this thread, which has joined the first generation.
-fn join_first<T: Drop, K: Kind<T>>(
+fn join_first<T: Drop>(
     alloc: Global,
     shared: &Arc<Shared<T>, Global>,
     generation: &Arc<Generation<T>, Global>,
     place: usize,
     seen: &History,
     thread: u32,
-) -> Result<RenewingHandle<T, K>, AllocError>
-    requires bare { shared.now.value.bare ≡ K.bare }
+) -> Result<RenewingHandle<T>, AllocError>
     requires of { IsOfLineage shared.now.value generation.now.value }
     requires first { generation.now.value.number ≡ 0 }
     requires there { (seen.now.book ≡ generation.now.value.book) × (place < place_count)
@@ -288,17 +295,17 @@ fn join_first<T: Drop, K: Kind<T>>(
 }
 
 /// A handle for each of the threads, which has joined the first generation.
-fn join_all<T: Drop, K: Kind<T>>(
+fn join_all<T: Drop>(
     alloc: Global,
     generation: Generation<T>,
     numbers: Numbers,
     labels: Vec<Label>,
     sizes: Sizes,
     renewals: Renewals,
-) -> Result<Vec<RenewingHandle<T, K>>, AllocError>
+) -> Result<Vec<RenewingHandle<T>>, AllocError>
     requires sizes { AreInRange sizes }
     requires generations { (1 ≤ renewals.generations) × (renewals.generations ≤ generations_for sizes.threads) }
-    requires of { generation.queue.opened ≡ opening_with K.bare sizes }
+    requires of { generation.queue.opened ≡ opening_of sizes }
     requires numbers { (numbers ≡ generation.book) × AreLabels numbers labels.items }
     requires first { generation.number ≡ 0 }
     ensures each { IfOk result (λ handles. All (HasOne generation.queue generation.book) handles.items) }
@@ -306,15 +313,7 @@ fn join_all<T: Drop, K: Kind<T>>(
     ensures count { IfOk result (λ handles. length handles.items ≡ sizes.threads) }
 {
     let generation = Arc::new(alloc, generation)?;
-    let (shared, place, seen) = share(
-        alloc,
-        &generation,
-        numbers,
-        labels,
-        sizes,
-        K::is_bare(),
-        renewals,
-    )?;
+    let (shared, place, seen) = share(alloc, &generation, numbers, labels, sizes, renewals)?;
     let mut handles = Vec::with_capacity(alloc, sizes.threads as usize)?;
     for thread in 0..sizes.threads {
         let handle = join_first(alloc, &shared, &generation, place, &seen, thread)?;
@@ -324,17 +323,17 @@ fn join_all<T: Drop, K: Kind<T>>(
 }
 
 /// Opens the first generation, and joins it. All sizes were tested.
-fn open_first<T: Drop, K: Kind<T>>(
+fn open_first<T: Drop>(
     alloc: Global,
     sizes: Sizes,
     renewals: Renewals,
-) -> Result<Vec<RenewingHandle<T, K>>, AllocError>
+) -> Result<Vec<RenewingHandle<T>>, AllocError>
     requires sizes { AreInRange sizes }
     requires generations { (1 ≤ renewals.generations) × (renewals.generations ≤ generations_for sizes.threads) }
-    ensures { IfOk result (λ handles. HaveOne (opening_with K.bare sizes) handles.items
+    ensures { IfOk result (λ handles. HaveOne (opening_of sizes) handles.items
         × (length handles.items ≡ sizes.threads)) }
 {
-    let (queue, waiting) = K::open(alloc, &sizes)?;
+    let (queue, waiting) = open_queue(alloc, &sizes)?;
     let (numbers, labels, next, history) = Numbers::open(alloc, &queue)?;
     let generation = Generation::new(alloc, queue, waiting, next, history)?;
     let handles = join_all(alloc, generation, numbers, labels, sizes, renewals)?;
@@ -469,7 +468,7 @@ fn close_one<T: Drop>(
     joined: Leaving<Joined<T>>,
     sizes: &Sizes,
 ) -> Result<Vec<T>, CloseFault>
-    requires { IsOpenedAs (opening_with false sizes.now) joined.handle }
+    requires { IsOpenedAs (opening_of sizes.now) joined.handle }
     ensures { IfOk result (λ left. WereLeft joined.handle left.items) }
 {
     let (generation, handle) = joined.into_part().into_parts();
@@ -488,7 +487,7 @@ fn close_each<T: Drop>(
     all: Vec<Leaving<Joined<T>>>,
     sizes: &Sizes,
 ) -> Result<Vec<T>, CloseFault>
-    requires { All (λ p. IsOpenedAs (opening_with false sizes.now) p.handle) all.items }
+    requires { All (λ p. IsOpenedAs (opening_of sizes.now) p.handle) all.items }
     ensures { IfOk result (λ left. ClosesEach (held_by all.items) left.items) }
 {
     let mut left = Vec::new(alloc);

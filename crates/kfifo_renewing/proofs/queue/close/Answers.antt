@@ -1,19 +1,14 @@
 -- The generations of the last handle are closed.
-use Rattle.std.proofs.Common.{All, Bool, false, List, sym, ap, ◌∙◌, subst}
+use Rattle.std.proofs.Common.{All, List, sym, ap, ◌∙◌, subst}
 use Rattle.kfifo_renewing.specs.Joining.{PartView}
-use Rattle.kfifo_renewing.specs.Renewing.{ClosesEach, HeldIn, IsOpenedAs, opening_with}
+use Rattle.kfifo_renewing.specs.Renewing.{ClosesEach, HeldIn, IsOpenedAs, opening_of}
 use Rattle.kfifo_live.specs.declared.tokens.sizes.Sizes.{Sizes}
 use Rattle.kfifo_renewing.specs.declared.places.Lineage.{Lineage}
 use Rattle.kfifo_renewing.proofs.queue.close.Goals as goal
 
 pub close_each-requires : goal.close_each-requires
-close_each-requires g c =
-    let all = c.in_ok-shared.all.items in
-    let plain = subst
-    (λ (bare : Bool). All (λ (p : PartView g.row.T.Denot). IsOpenedAs (opening_with bare c.in_ok-shared.shared.value.sizes) p.handle) all)
-    c.in_ok-shared.ensures.shared.1 c.in_ok-shared.ensures.of in
-    subst (λ (sizes : Sizes). All (λ (p : PartView g.row.T.Denot). IsOpenedAs (opening_with false sizes) p.handle) all)
-    (sym (c.sizes-sizes.ensures ∙ ap (λ (l : Lineage). l.sizes) c.in-Some-into_inner.ensures)) plain
+close_each-requires g c = subst (λ (sizes : Sizes). All (λ (p : PartView g.row.T.Denot). IsOpenedAs (opening_of sizes) p.handle) c.in_ok-shared.all.items)
+    (sym (c.sizes-sizes.ensures ∙ ap (λ (l : Lineage). l.sizes) c.in-Some-into_inner.ensures)) c.in_ok-shared.ensures.of
 
 pub returns : goal.returns
 returns g c = (

@@ -1,14 +1,14 @@
 -- There are sizes for the capacity, and all handles have joined a generation of these.
-use Rattle.std.proofs.Common.{false, ◌≡◌, length, ◌∙◌, subst}
+use Rattle.std.proofs.Common.{◌≡◌, ap, length, ◌∙◌, subst}
 use Rattle.kfifo_live.specs.declared.tokens.sizes.Sizes.{Sizes}
-use Rattle.kfifo_renewing.specs.Renewing.{HaveOne, opening_with}
+use Rattle.kfifo_renewing.specs.Renewing.{HaveOne, opening_of}
 use Rattle.kfifo_renewing.proofs.queue.open.Goals as goal
 
 pub returns-in-Ok-open_first : goal.returns-in-Ok-open_first
 returns-in-Ok-open_first g c =
     let handles = c.in-Ok-open_first.handles.items in
     let sizes = c.in-Ok.ensures.sizes in
-    let opened = subst (λ (s : Sizes). HaveOne (opening_with false s) handles × (length handles ≡ s.threads)) c.hold_again.ensures
+    let opened = subst (λ (s : Sizes). HaveOne (opening_of s) handles × (length handles ≡ s.threads)) c.hold_again.ensures
     c.in-Ok-open_first.ensures in (
       sizes.0,
       record {

@@ -1,8 +1,8 @@
 -- What the tests refuse is refused, and the sizes are those that hold again.
-use Rattle.std.proofs.Common.{false, ◌≡◌, length, subst}
+use Rattle.std.proofs.Common.{◌≡◌, length, subst}
 use Rattle.kfifo_live.specs.declared.tokens.sizes.Sizes.{Sizes}
 use Rattle.kfifo_renewing.specs.declared.fault.RenewFault.TheVariants.{GenerationsOutOfRange}
-use Rattle.kfifo_renewing.specs.Renewing.{HaveOne, opening_with}
+use Rattle.kfifo_renewing.specs.Renewing.{HaveOne, opening_of}
 use Rattle.kfifo_renewing.proofs.Refusing.{err_of}
 use Rattle.kfifo_renewing.proofs.queue.open_with.Goals as goal
 
@@ -17,4 +17,4 @@ returns-in-Err-clause-generations g c most =
 pub returns-in-Ok-clause-ok : goal.returns-in-Ok-clause-ok
 returns-in-Ok-clause-ok g c =
     let handles = c.in-Ok.handles.items in
-    subst (λ (s : Sizes). HaveOne (opening_with false s) handles × (length handles ≡ s.threads)) c.hold_again.ensures c.in-Ok.ensures
+    subst (λ (s : Sizes). HaveOne (opening_of s) handles × (length handles ≡ s.threads)) c.hold_again.ensures c.in-Ok.ensures

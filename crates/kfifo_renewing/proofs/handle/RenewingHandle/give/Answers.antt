@@ -4,11 +4,11 @@ use Rattle.kfifo_live.specs.declared.payload.Given.TheVariants as G
 use Rattle.kfifo_pool.specs.Pooled.{GivesOne, Pooled}
 use Rattle.kfifo_live.specs.Pass.{IsSamePass}
 use Rattle.kfifo_renewing.specs.History.{Finds, sight_of}
-use Rattle.kfifo_renewing.specs.Renewing.{Generations, GivesToNewest, GoesOn, Numbered, opening_in, with_newest, with_seen}
+use Rattle.kfifo_renewing.specs.Renewing.{Generations, GivesToNewest, GoesOn, Numbered, opening_of, with_newest, with_seen}
 use Rattle.kfifo_renewing.proofs.Joining.{numbered-by}
 use Rattle.kfifo_renewing.proofs.Following.{Looked, joins-after, looked-follows, same-but-seen}
 use Rattle.kfifo_renewing.proofs.Giving.{gave-here, gives-after}
-use Rattle.kfifo_renewing.proofs.handle.RenewingHandle+T+Payloads.give.Goals as goal
+use Rattle.kfifo_renewing.proofs.handle.RenewingHandle.give.Goals as goal
 
 pub returns-then-self-eq0 : goal.returns-then-self-eq0
 returns-then-self-eq0 g c =
@@ -16,21 +16,18 @@ returns-then-self-eq0 g c =
     c.give_late.ensures
 
 pub invariant_of-self-then-look-ne0 : goal.invariant_of-self-then-look-ne0
-invariant_of-self-then-look-ne0 g c = (
-  joins-after (opening_in c.self.inside.shared.value) c.self.inside.shared.value.history.book
-      c.self.inside.history.book c.look.new.history.book c.self.inside.history.log c.look.new.history.log
-      c.self.inside.generation.value c.self.inside.newest c.self.inside.newest c.self.inside.older.items (sight_of c.self.inside.newest.handle.held.pass.pass)
-      c.look.result c.self.invariant.0 (subst
-      (λ k. Finds (sight_of c.self.inside.newest.handle.held.pass.pass) k c.look.result c.self.inside.history.log c.look.new.history.log)
-      (c.next.ensures.0 ∙ ap (λ (v : Numbered). v.number) c.deref-generation.ensures) c.look.ensures.finds)
-      c.look.ensures.book (refl, refl, (refl, refl, refl)),
-  c.self.invariant.1,
-)
+invariant_of-self-then-look-ne0 g c = joins-after (opening_of c.self.inside.shared.value.sizes) c.self.inside.shared.value.history.book
+    c.self.inside.history.book c.look.new.history.book c.self.inside.history.log c.look.new.history.log
+    c.self.inside.generation.value c.self.inside.newest c.self.inside.newest c.self.inside.older.items (sight_of c.self.inside.newest.handle.held.pass.pass)
+    c.look.result c.self.invariant (subst
+    (λ k. Finds (sight_of c.self.inside.newest.handle.held.pass.pass) k c.look.result c.self.inside.history.log c.look.new.history.log)
+    (c.next.ensures.0 ∙ ap (λ (v : Numbered). v.number) c.deref-generation.ensures) c.look.ensures.finds)
+    c.look.ensures.book (refl, refl, (refl, refl, refl))
 
 pub returns-then-look-ne0 : goal.returns-then-look-ne0
 returns-then-look-ne0 g c =
     let T = g.row.T.Denot in
-    let i = c.self.invariant.0 in
+    let i = c.self.invariant in
     let log = c.self.inside.history.log in
     let new = c.look.new.history.log in
     let n = c.self.inside.generation.value.number in
@@ -40,7 +37,7 @@ returns-then-look-ne0 g c =
     let now = c.args.self.now in
     let looked = subst (Looked found new) c.self.view_is (
       finds,
-      numbered-by (opening_in c.self.inside.shared.value) c.self.inside.shared.value.history.book c.self.inside.history.book
+      numbered-by (opening_of c.self.inside.shared.value.sizes) c.self.inside.shared.value.history.book c.self.inside.history.book
           log c.self.inside.generation.value c.self.inside.newest c.self.inside.older.items i,
     ) in
     let h = c.self.inside.newest.handle in
@@ -55,33 +52,27 @@ returns-then-look-ne0 g c =
     (subst (λ (v : Generations T). GivesToNewest c.args.payload r v end) here c.give_late-then-look-ne0.ensures)
 
 pub invariant_of-self-in-Done : goal.invariant_of-self-in-Done
-invariant_of-self-in-Done g c = (
-  joins-after (opening_in c.self.inside.shared.value) c.self.inside.shared.value.history.book
-      c.self.inside.history.book c.look.new.history.book c.self.inside.history.log c.look.new.history.log
-      c.self.inside.generation.value c.self.inside.newest c.give.new.self c.self.inside.older.items (sight_of c.self.inside.newest.handle.held.pass.pass)
-      c.look.result c.self.invariant.0 (subst
-      (λ k. Finds (sight_of c.self.inside.newest.handle.held.pass.pass) k c.look.result c.self.inside.history.log c.look.new.history.log)
-      (c.next.ensures.0 ∙ ap (λ (v : Numbered). v.number) c.deref-generation.ensures) c.look.ensures.finds)
-      c.look.ensures.book c.give.ensures.same,
-  c.self.invariant.1,
-)
+invariant_of-self-in-Done g c = joins-after (opening_of c.self.inside.shared.value.sizes) c.self.inside.shared.value.history.book
+    c.self.inside.history.book c.look.new.history.book c.self.inside.history.log c.look.new.history.log
+    c.self.inside.generation.value c.self.inside.newest c.give.new.self c.self.inside.older.items (sight_of c.self.inside.newest.handle.held.pass.pass)
+    c.look.result c.self.invariant (subst
+    (λ k. Finds (sight_of c.self.inside.newest.handle.held.pass.pass) k c.look.result c.self.inside.history.log c.look.new.history.log)
+    (c.next.ensures.0 ∙ ap (λ (v : Numbered). v.number) c.deref-generation.ensures) c.look.ensures.finds)
+    c.look.ensures.book c.give.ensures.same
 
 pub invariant_of-self-in_default : goal.invariant_of-self-in_default
-invariant_of-self-in_default g c = (
-  joins-after (opening_in c.self.inside.shared.value) c.self.inside.shared.value.history.book
-      c.self.inside.history.book c.look.new.history.book c.self.inside.history.log c.look.new.history.log
-      c.self.inside.generation.value c.self.inside.newest c.give.new.self c.self.inside.older.items (sight_of c.self.inside.newest.handle.held.pass.pass)
-      c.look.result c.self.invariant.0 (subst
-      (λ k. Finds (sight_of c.self.inside.newest.handle.held.pass.pass) k c.look.result c.self.inside.history.log c.look.new.history.log)
-      (c.next.ensures.0 ∙ ap (λ (v : Numbered). v.number) c.deref-generation.ensures) c.look.ensures.finds)
-      c.look.ensures.book c.give.ensures.same,
-  c.self.invariant.1,
-)
+invariant_of-self-in_default g c = joins-after (opening_of c.self.inside.shared.value.sizes) c.self.inside.shared.value.history.book
+    c.self.inside.history.book c.look.new.history.book c.self.inside.history.log c.look.new.history.log
+    c.self.inside.generation.value c.self.inside.newest c.give.new.self c.self.inside.older.items (sight_of c.self.inside.newest.handle.held.pass.pass)
+    c.look.result c.self.invariant (subst
+    (λ k. Finds (sight_of c.self.inside.newest.handle.held.pass.pass) k c.look.result c.self.inside.history.log c.look.new.history.log)
+    (c.next.ensures.0 ∙ ap (λ (v : Numbered). v.number) c.deref-generation.ensures) c.look.ensures.finds)
+    c.look.ensures.book c.give.ensures.same
 
 pub returns-in-Done : goal.returns-in-Done
 returns-in-Done g c =
     let T = g.row.T.Denot in
-    let i = c.self.invariant.0 in
+    let i = c.self.invariant in
     let log = c.self.inside.history.log in
     let new = c.look.new.history.log in
     let n = c.self.inside.generation.value.number in
@@ -91,7 +82,7 @@ returns-in-Done g c =
     let now = c.args.self.now in
     let looked = subst (Looked found new) c.self.view_is (
       finds,
-      numbered-by (opening_in c.self.inside.shared.value) c.self.inside.shared.value.history.book c.self.inside.history.book
+      numbered-by (opening_of c.self.inside.shared.value.sizes) c.self.inside.shared.value.history.book c.self.inside.history.book
           log c.self.inside.generation.value c.self.inside.newest c.self.inside.older.items i,
     ) in
     let h = c.give.new.self.handle in
@@ -108,7 +99,7 @@ returns-in-Done g c =
 pub returns-in_default : goal.returns-in_default
 returns-in_default g c =
     let T = g.row.T.Denot in
-    let i = c.self.invariant.0 in
+    let i = c.self.invariant in
     let log = c.self.inside.history.log in
     let new = c.look.new.history.log in
     let n = c.self.inside.generation.value.number in
@@ -118,7 +109,7 @@ returns-in_default g c =
     let now = c.args.self.now in
     let looked = subst (Looked found new) c.self.view_is (
       finds,
-      numbered-by (opening_in c.self.inside.shared.value) c.self.inside.shared.value.history.book c.self.inside.history.book
+      numbered-by (opening_of c.self.inside.shared.value.sizes) c.self.inside.shared.value.history.book c.self.inside.history.book
           log c.self.inside.generation.value c.self.inside.newest c.self.inside.older.items i,
     ) in
     let h = c.give.new.self.handle in

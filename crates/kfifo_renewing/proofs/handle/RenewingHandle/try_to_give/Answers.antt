@@ -3,7 +3,7 @@ use Rattle.std.proofs.Common.{ap, inl, inr, refl, subst}
 use Rattle.kfifo_pool.specs.Pooled.{GivesOne, Pooled}
 use Rattle.kfifo_live.specs.Pass.{IsSamePass}
 use Rattle.kfifo_renewing.specs.Renewing.{Generations, with_newest}
-use Rattle.kfifo_renewing.proofs.handle.RenewingHandle+T+Payloads.try_to_give.Goals as goal
+use Rattle.kfifo_renewing.proofs.handle.RenewingHandle.try_to_give.Goals as goal
 
 pub returns-then-not-keep_up : goal.returns-then-not-keep_up
 returns-then-not-keep_up g c =

@@ -1,7 +1,7 @@
 -- A look at the versions, a first try, and what follows it.
 use Rattle.std.proofs.Common.{subst}
 use Rattle.kfifo_renewing.specs.Renewing.{Generations, TriesToGive}
-use Rattle.kfifo_renewing.proofs.handle.RenewingHandle+T+Payloads.give_late.Goals as goal
+use Rattle.kfifo_renewing.proofs.handle.RenewingHandle.give_late.Goals as goal
 
 pub returns : goal.returns
 returns g c =

@@ -3,7 +3,7 @@ use Rattle.std.proofs.Common.{All, sym, subst}
 use Rattle.kfifo_live.specs.Pass.{HasNoEvent}
 use Rattle.kfifo_pool.specs.Pooled.{Pooled}
 use Rattle.kfifo_renewing.proofs.Departures.{new_unused}
-use Rattle.kfifo_renewing.proofs.kind.PayloadsKind.open.Goals as goal
+use Rattle.kfifo_renewing.proofs.queue.open_queue.Goals as goal
 
 pub returns-clause-of : goal.returns-clause-of
 returns-clause-of g c i d inside =
