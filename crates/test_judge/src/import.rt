@@ -1,6 +1,6 @@
 //! A log where memory is refused, one of a queue that returned an item which no call can put, and logs in pieces.
 use crate::plain::{import_text, read_log, read_log_to_judge};
-use kfifo_import::{ImportFault, Line, LogReader, Refusal};
+use kfifo_import::{ImportFault, Line, Log, LogReader, MAX_LOG_CALLS, Refusal, log_to_judge};
 use std::alloc::Global;
 use std::test::Fail;
 
@@ -62,6 +62,23 @@ fn cut_at(alloc: Global, bytes: &[u8], cut: usize) -> Result<Vec<Line>, Refusal>
     reader.take(first)?;
     reader.take(second)?;
     reader.finish()
+}
+
+/// The log to be judged that comes in these two pieces, by the short example of the reader.
+fn judge_pieces(alloc: Global, first: &[u8], second: &[u8]) -> Result<Log, Refusal> {
+    let mut reader = LogReader::new(alloc, MAX_LOG_CALLS);
+    reader.take(first)?;
+    reader.take(second)?;
+    let log = log_to_judge(alloc, reader.finish()?)?;
+    Ok(log)
+}
+
+#[test]
+fn judges_a_log_in_two_pieces(rt: HostRuntime) -> Result<(), Fail> {
+    let (first, second) = FOREIGN.as_bytes().split_at(40);
+    let log = judge_pieces(rt.alloc(), first, second).map_err(|refusal| refusal.fault)?;
+    assert_eq!(rt; log.calls.len(), 2);
+    Ok(())
 }
 
 /// The lines of a log that comes a byte at a time.
