@@ -55,7 +55,7 @@ const MARKED: &str =
 const WIDER: &str =
     "\u{FEFF}thread,op,item,first,last,answer\n\n0,enq,5,10,20,done\r\n\n1,deq,,30,,,\"x\ny\"";
 
-/// The lines of a log that comes in two pieces, of which the first has so many bytes.
+/// The lines of a log that comes in two pieces, cut at this byte.
 fn cut_at(alloc: Global, bytes: &[u8], cut: usize) -> Result<Vec<Line>, Refusal> {
     let mut reader = LogReader::new(alloc, 2);
     let (first, second) = bytes.split_at(cut.min(bytes.len()));
