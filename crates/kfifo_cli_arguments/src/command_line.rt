@@ -13,7 +13,7 @@ use kfifo_cli_requests::Request;
 use std::alloc::{AllocError, Global};
 
 /// The version of the program.
-const VERSION: &str = "0.3.0";
+const VERSION: &str = "0.4.0";
 
 const EXAMPLES: &str = "\
 Examples:

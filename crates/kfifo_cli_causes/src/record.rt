@@ -25,7 +25,10 @@ pub fn record_words(alloc: Global, bytes: &[u8], fault: RecordFault) -> Option<S
     let call = call_of(number, member)?;
     match fault {
         RecordFault::NumberOutOfRange(_) => call.out_of_range(alloc),
-        RecordFault::WrongAnswer(_) => call.wrong_answer(alloc),
+        RecordFault::WrongAnswer(_) => {
+            let answer = kfifo_import::shown(alloc, bytes_at(member, "answer")?).ok()?;
+            call.wrong_answer(alloc, answer.as_str())
+        }
         RecordFault::EndsEarly(_) => call.ends_early(alloc),
         RecordFault::OutOfOrder(_) => {
             let before = number.checked_sub(1)?;
@@ -48,7 +51,6 @@ fn call_of(number: usize, member: &Value) -> Option<Call<'_>> {
         item: member.get("item").and_then(Value::as_u64),
         first: member.get("first")?.as_u64()?,
         last: member.get("last").and_then(Value::as_u64),
-        answer: bytes_at(member, "answer"),
     })
 }
 

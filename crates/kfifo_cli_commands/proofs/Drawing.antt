@@ -8,7 +8,8 @@ use Rattle.kfifo_cli_commands.specs.declared.cut.Cut.{Cut}
 use Rattle.kfifo_cli_requests.specs.declared.requests.DrawOptions.{DrawOptions}
 use Rattle.kfifo_cli_commands.specs.Cuts.{AsksFor, IsCutFault}
 use Rattle.kfifo_cli_commands.specs.Pictures.{IsDrawRefusal, IsNoPicture, IsUndrawn}
-use Rattle.kfifo_cli_commands.specs.Inputs.{IsCallsInput, IsCallsUnread}
+use Rattle.kfifo_cli_commands.specs.Inputs.{IsCallsInput, IsCallsRefusal, IsCallsUnread}
+use Rattle.kfifo_cli_commands.proofs.Picturing.{no_calls}
 use Rattle.kfifo_cli_commands.specs.Records.{IsOrderFault}
 
 module _ (input : Option (List ℕ)) (before after : ℕ) (options : DrawOptions) where
@@ -45,7 +46,7 @@ module _ (input : Option (List ℕ)) (before after : ℕ) (options : DrawOptions
   order_refused fault (inr w) = subst (λ f. IsDrawRefusal options input before after f) (sym w.0) w.1
 
   -- an input that was not read is a refusal
-  pub input_refused : (fault : Fault) → (fault ≡ Memory) ⊎ ((fault ≡ Input) × IsCallsUnread input before after)
+  input_refused : (fault : Fault) → (fault ≡ Memory) ⊎ ((fault ≡ Input) × IsCallsUnread input before after)
       → IsDrawRefusal options input before after fault
   input_refused fault (inl is) = subst (λ f. IsDrawRefusal options input before after f) (sym is) tt
   input_refused fault (inr w) = subst (λ f. IsDrawRefusal options input before after f) (sym w.0) w.1
@@ -80,6 +81,14 @@ module _ (input : Option (List ℕ)) (before after : ℕ) (options : DrawOptions
     picture_refused Unexplained u = absurd u
     picture_refused Memory u = tt
     picture_refused Output u = absurd u
+
+  -- an input without calls is a refusal
+  pub calls_refused : (cut : Cut) → AsksFor options cut → (fault : Fault) → IsCallsRefusal input before after fault
+      → IsDrawRefusal options input before after fault
+  calls_refused cut asked fault (inl memory) = input_refused fault (inl memory)
+  calls_refused cut asked fault (inr (inl unread)) = input_refused fault (inr unread)
+  calls_refused cut asked fault (inr (inr none)) = picture_refused cut asked none.0 none.1 fault
+      (no_calls options.check.k options.evidence cut none.0 fault none.2)
 
   -- a refusal is no failure of writing
   pub refusal_told : (fault : Fault) → IsDrawRefusal options input before after fault → fault ≢ Output

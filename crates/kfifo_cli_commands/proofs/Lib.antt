@@ -1,4 +1,5 @@
 pub mod Types
+pub mod Intake
 pub mod Dispatching
 pub mod Feeding
 pub mod Outcomes

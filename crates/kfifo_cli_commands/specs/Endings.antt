@@ -12,13 +12,13 @@ use Rattle.kfifo_cli_texts.specs.Printing.{Nothing, Part, Tells, Whole, Written}
 use Rattle.kfifo_cli_commands.specs.Explanations.{IsExplainRefusal}
 use Rattle.kfifo_cli_commands.specs.FileVerdicts.{IsJudgeFiles}
 use Rattle.kfifo_cli_commands.specs.Imports.{IsImport, IsImportRefusal}
-use Rattle.kfifo_cli_commands.specs.Inputs.{read_from}
+use Rattle.kfifo_cli_commands.specs.Inputs.{IsCallsRefusal, read_from}
 use Rattle.kfifo_cli_commands.specs.Pictures.{IsDraw, IsDrawRefusal}
 use Rattle.kfifo_cli_commands.specs.Records.{IsCheck, IsCheckRefusal, IsMeasure, IsMeasureRefusal}
 use Rattle.kfifo_cli_commands.specs.RealRuns.{IsRealRun, IsRealRunRefusal}
 use Rattle.kfifo_cli_commands.specs.Replays.{IsReplayAnswer, IsReplayRefusal}
 use Rattle.kfifo_cli_commands.specs.Runs.{IsRunAnswer, IsRunRefusal}
-use Rattle.kfifo_cli_commands.specs.Verdicts.{IsJudge, IsLeast, IsVerdictRefusal}
+use Rattle.kfifo_cli_commands.specs.Verdicts.{IsJudge, IsLeast}
 
 -- the text for a request, and its status
 abbrev pub Answers : Request → Option (List ℕ) → List ℕ → ℕ → Type 0
@@ -45,9 +45,9 @@ IsCause (Run options) input before after fault = IsRunRefusal options fault
 IsCause (Check options) input before after fault = IsCheckRefusal options input before after fault
 IsCause Measure input before after fault = IsMeasureRefusal input before after fault
 IsCause (Replay options) input before after fault = IsReplayRefusal options fault
-IsCause (Judge options) input before after fault = IsVerdictRefusal (read_from options.file input) before after fault
+IsCause (Judge options) input before after fault = IsCallsRefusal (read_from options.file input) before after fault
 IsCause (JudgeFiles options) input before after fault = fault ≡ Memory
-IsCause (Least options) input before after fault = IsVerdictRefusal (read_from options.file input) before after fault
+IsCause (Least options) input before after fault = IsCallsRefusal (read_from options.file input) before after fault
 IsCause (Record options) input before after fault = IsRealRunRefusal options fault
 IsCause (Import options) input before after fault = IsImportRefusal (read_from options.file input) before after fault
 IsCause (Draw options) input before after fault = IsDrawRefusal options (read_from options.file input) before after

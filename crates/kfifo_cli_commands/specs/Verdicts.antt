@@ -1,5 +1,5 @@
 -- What the commands `judge` and `least` come to, by their options, their input and its failed reads.
-use Rattle.std.specs.Prelude.{◌≡◌, ◌⊎◌, ℕ, List, MatchBool, Option, option_map}
+use Rattle.std.specs.Prelude.{◌≡◌, ℕ, List, MatchBool, Option, option_map}
 use Rattle.kfifo_model.specs.declared.calls.Call.{Call}
 use Rattle.kfifo_model.specs.declared.logged.LoggedCall.{LoggedCall}
 use Rattle.kfifo_judge.specs.declared.outcome.Outcome.{Outcome}
@@ -9,7 +9,7 @@ use Rattle.kfifo_judge.specs.Reports.{IsReport}
 use Rattle.kfifo_cli_texts.specs.declared.fault.Fault.{Fault}
 use Rattle.kfifo_cli_texts.specs.declared.fault.Fault.TheVariants.{Input, Memory}
 use Rattle.kfifo_cli_requests.specs.declared.requests.JudgeOptions.{JudgeOptions}
-use Rattle.kfifo_cli_commands.specs.Inputs.{IsCalls, IsCallsInput, IsCallsUnread, IsNoCalls, logged_calls}
+use Rattle.kfifo_cli_commands.specs.Inputs.{IsCalls, IsCallsInput, logged_calls}
 use Rattle.kfifo_cli_commands.specs.Statuses.{outcome_status, status_number}
 
 -- This is the text and the outcome for the calls of these bytes, as `IsAnswer` says of calls with what a log says of
@@ -51,12 +51,3 @@ pub record IsLeast (input : Option (List ℕ)) (text : List ℕ) (status : ℕ) 
   pub bytes : List ℕ
   pub read : IsCallsInput input bytes
   pub bounded : IsBounded bytes text status
-
--- the bytes of the input have no calls, for this reason
-abbrev pub HasNoCalls : Option (List ℕ) → Fault → Type 0
-HasNoCalls input fault = (bytes : List ℕ) × IsCallsInput input bytes × IsNoCalls bytes fault
-
--- why neither has an answer: memory was refused, the input was not read whole, or it has no calls
-abbrev pub IsVerdictRefusal : Option (List ℕ) → ℕ → ℕ → Fault → Type 0
-IsVerdictRefusal input before after fault = (fault ≡ Memory) ⊎ ((fault ≡ Input) × IsCallsUnread input before after)
-    ⊎ HasNoCalls input fault

@@ -53,11 +53,11 @@ impl Failure {
         Failure::from(fault).with_words(words)
     }
 
-    /// The failure of a call that takes a log in CSV. The words behind it are read from the log's bytes.
-    pub(crate) fn of_log(alloc: Global, bytes: &[u8], refusal: Refusal) -> Failure
+    /// The failure of a call that takes a log in CSV.
+    pub(crate) fn of_log(alloc: Global, refusal: Refusal) -> Failure
         ensures { result.fault ≡ log_fault refusal.fault }
     {
-        let words = log_words(alloc, bytes, refusal.fault);
+        let words = log_words(alloc, &refusal);
         Failure::from(refusal).with_words(words)
     }
 }
@@ -99,9 +99,10 @@ impl From<Refusal> for Failure {
     ghost from_gives = { λ given failure. failure.fault ≡ log_fault given.fault };
 
     fn from(refusal: Refusal) -> Failure {
+        let Refusal { fault, wrong, .. } = refusal;
         Failure {
-            fault: Fault::from(refusal.fault),
-            detail: match refusal.wrong {
+            fault: Fault::from(fault),
+            detail: match wrong {
                 Some(wrong) => Detail::Field(wrong),
                 None => Detail::Nothing,
             },

@@ -1,13 +1,11 @@
 //! The line that the command `judge` has for a file of several.
-ghost use Rattle.std.specs.Prelude.{◌≡◌, IfErr, IfOk, MatchResult, string_bytes};
+ghost use Rattle.std.specs.Prelude.{◌≡◌, IfErr, IfOk, string_bytes};
 ghost use Rattle.kfifo_cli_commands.specs.FileVerdicts.{HasVerdict, IsFaultLine, IsFileFault, IsFileLine};
 ghost use Rattle.kfifo_cli_commands.specs.FileVerdicts.{IsFileVerdict, fault_said, named_line};
-ghost use Rattle.kfifo_cli_commands.specs.Inputs.{IsNoCalls};
-ghost use Rattle.kfifo_cli_commands.specs.Verdicts.{AnswersCalls};
 
+use crate::calls::read_calls_named;
 use crate::explaining::words_behind;
 use crate::failure::Failure;
-use crate::input::{read_calls, read_calls_named};
 use crate::progress::Progress;
 use crate::tally::Found;
 use kfifo_cli_requests::JudgeFilesOptions;
@@ -46,23 +44,7 @@ fn verdict_of<H: Files, P: Progress>(
     ensures ok { IfOk result (λ a. HasVerdict options.entry name.now (string_bytes a.0) a.1) }
     ensures err { IfErr result (λ failure. IsFileFault failure.fault) }
 {
-    let bytes = read_calls_named(alloc, files, name)?;
-    verdict_in(alloc, options, name, bytes, progress)
-}
-
-/// The line of the verdict on the calls of these bytes.
-fn verdict_in<P: Progress>(
-    alloc: Global,
-    options: JudgeFilesOptions<'_>,
-    name: &str,
-    bytes: Vec<u8>,
-    progress: &mut P,
-) -> Result<(String, Outcome), Failure>
-    ensures { MatchResult result
-        (λ a. AnswersCalls (IsFileVerdict options.entry name.now) bytes.items (string_bytes a.0) a.1)
-        (λ failure. IsNoCalls bytes.items failure.fault) }
-{
-    let calls = read_calls(alloc, bytes, progress)?;
+    let calls = read_calls_named(alloc, files, name, progress)?;
     let said = verdict_on(alloc, options, name, &calls.history, calls.logged())?;
     Ok(said)
 }

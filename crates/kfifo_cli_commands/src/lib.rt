@@ -2,6 +2,7 @@
 //! here; `kfifo_cli_requests` has the options, and `kfifo_cli_texts` how words, lines and faults are written.
 #![tactic(auto)]
 
+mod calls;
 mod commands;
 mod cut;
 mod ending;

@@ -16,14 +16,14 @@ pub trait Progress {
 /// A part of the work on the calls of an input.
 #[derive(Clone, Copy, Debug, PartialEq, Eq)]
 pub enum Stage {
-    /// So many bytes are parsed.
-    Parsing(usize),
+    /// So many bytes of a log are read and parsed so far.
+    Reading(u64),
     /// So many calls are judged, or looked for evidence.
     Judging(usize),
 }
 
-/// Bytes that are parsed in about a second.
-const LONG_TEXT: usize = 33_554_432;
+/// Bytes that are read and parsed in about a second.
+const LONG_TEXT: u64 = 33_554_432;
 
 /// Calls that are judged in about a second.
 const LONG_HISTORY: usize = 1_000_000;
@@ -32,10 +32,19 @@ impl Stage {
     /// Whether it takes long enough to be shown.
     pub fn is_long(self) -> bool {
         match self {
-            Stage::Parsing(bytes) => bytes >= LONG_TEXT,
+            Stage::Reading(bytes) => bytes >= LONG_TEXT,
             Stage::Judging(calls) => calls >= LONG_HISTORY,
         }
     }
+}
+
+/// Adds the bytes of a piece to those that were read before, and tells the progress at each 33,554,432 further ones.
+pub(crate) fn tell_read<P: Progress>(progress: &mut P, before: u64, piece: usize) -> u64 {
+    let read = before.saturating_add(piece as u64);
+    if read / LONG_TEXT > before / LONG_TEXT {
+        progress.begun(Stage::Reading(read));
+    }
+    read
 }
 
 /// Gets told why there is no answer. No answer depends on what it does with that.

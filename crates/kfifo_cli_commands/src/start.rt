@@ -170,9 +170,9 @@ impl<C: Clock, W: Write> Progress for Showing<'_, C, W> {
         if let Some(screen) = &mut self.screen {
             // A line that cannot be written changes nothing.
             let _ = match stage {
-                Stage::Parsing(bytes) => {
+                Stage::Reading(bytes) => {
                     let size = bytes / 1_000_000;
-                    write!(screen, "\rkfifo: parsing {size} MB")
+                    write!(screen, "\rkfifo: read {size} MB")
                 }
                 Stage::Judging(calls) => write!(screen, "\rkfifo: judging {calls} calls"),
             };

@@ -1,9 +1,8 @@
 //! Files that the command line names.
 ghost use Rattle.std.specs.Prelude.{◌≤◌, IfOk, length};
-ghost use Rattle.kfifo_judge.specs.Inputs.{IsLongRecord};
 ghost use Rattle.kfifo_judge.specs.declared.streams.TheConstants.{MAX_BYTES};
 
-use kfifo_judge::{FromStd, ReadFault, read_all, read_record_or_log};
+use kfifo_judge::{FromStd, ReadFault, read_all};
 use std::alloc::Global;
 use std::rt::Files;
 use std::{fs, io};
@@ -13,18 +12,16 @@ use std::{fs, io};
 pub enum FileFault {
     /// It could not be opened or read, for the reason that the system gave.
     Failed(Option<io::Error>),
-    /// It has over 16,777,216 bytes, which are allowed; of `read_calls_file`, it is a record of so many.
+    /// It has over 16,777,216 bytes, which are allowed.
     TooLong,
     /// An allocation failed.
     Memory,
 }
 
-/// A file to be read.
-fn open<R: Files>(files: &R, path: &str) -> Result<FromStd<R::File>, FileFault> {
-    match fs::open(files, path) {
-        Ok(file) => Ok(FromStd::new(file)),
-        Err(error) => Err(FileFault::Failed(Some(error))),
-    }
+/// Returns a file to be read.
+pub fn open_file<R: Files>(files: &R, path: &str) -> io::Result<FromStd<R::File>> {
+    let file = fs::open(files, path)?;
+    Ok(FromStd::new(file))
 }
 
 /// Why a file was not read that gave this fault.
@@ -40,19 +37,11 @@ fn fault_of<T: Drop>(fault: ReadFault, file: FromStd<T>) -> FileFault {
 pub fn read_file<R: Files>(alloc: Global, files: &R, path: &str) -> Result<Vec<u8>, FileFault>
     ensures { IfOk result (λ bytes. length bytes.items ≤ MAX_BYTES) }
 {
-    let mut file = open(files, path)?;
+    let mut file = match open_file(files, path) {
+        Ok(file) => file,
+        Err(error) => return Err(FileFault::Failed(Some(error))),
+    };
     match read_all(alloc, &mut file) {
-        Ok(bytes) => Ok(bytes),
-        Err(fault) => Err(fault_of(fault, file)),
-    }
-}
-
-/// The bytes of a file that is a record or a log: of a record at most 16,777,216.
-pub fn read_calls_file<R: Files>(alloc: Global, files: &R, path: &str) -> Result<Vec<u8>, FileFault>
-    ensures { IfOk result (λ bytes. ¬ (IsLongRecord bytes.items)) }
-{
-    let mut file = open(files, path)?;
-    match read_record_or_log(alloc, &mut file) {
         Ok(bytes) => Ok(bytes),
         Err(fault) => Err(fault_of(fault, file)),
     }

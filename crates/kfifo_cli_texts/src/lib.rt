@@ -15,7 +15,7 @@ mod trace;
 mod words;
 
 pub use fault::Fault;
-pub use files::{FileFault, read_calls_file, read_file};
+pub use files::{FileFault, open_file, read_file};
 pub use order::order_of;
 pub use picks::{Group, MAX_PICKS, read_group, read_picks};
 pub use printing::Printer;

@@ -1,5 +1,6 @@
 //! Gets of items that no call can put.
-ghost use Rattle.std.specs.Prelude.{◌≡◌, ◌≢◌, ◌<◌, ◌≤◌, IfOk, MatchResult, length, map, true};
+ghost use Rattle.std.specs.Prelude.{◌≡◌, ◌≢◌, ◌<◌, ◌≤◌, IfErr, IfOk, MatchResult, None, length, map};
+ghost use Rattle.std.specs.Prelude.{true};
 ghost use Rattle.std.specs.List.{All, list_any};
 ghost use Rattle.std.specs.List.Sorted.{IsNonDecreasingBy};
 ghost use Rattle.kfifo_model.specs.Validity.{IsItem};
@@ -7,7 +8,9 @@ ghost use Rattle.kfifo_import.specs.declared.log.TheConstants.{MAX_LOG_CALLS};
 ghost use Rattle.kfifo_import.specs.Foreign as specs;
 ghost use Rattle.kfifo_import.specs.Foreign.{AreToJudge, IsFaultToJudge, IsLogToJudge, items_put};
 
-use crate::log::{ImportFault, Line, Log, MAX_LOG_CALLS, log_of};
+use crate::cause::Oddity;
+use crate::log::{ImportFault, Line, Log, MAX_LOG_CALLS, log_told};
+use crate::wrong::Refusal;
 use kfifo_model::{Answer, Call, End, MAX_ITEM, Op};
 use std::alloc::{AllocError, Global};
 
@@ -147,6 +150,21 @@ fn with_puttable_items(alloc: Global, lines: Vec<Line>) -> Result<Vec<Line>, All
     all_with(alloc, lines.as_slice(), free)
 }
 
+/// The log that these lines are, as `log_to_judge` gives it. `odd` is what was kept of their text.
+pub(crate) fn judged_told(
+    alloc: Global,
+    lines: Vec<Line>,
+    odd: Option<Oddity>,
+) -> Result<Log, Refusal>
+    requires { length lines.items ≤ MAX_LOG_CALLS }
+    ensures log { MatchResult result (λ log. IsLogToJudge lines.items log.history log.calls.items)
+        (λ refusal. IsFaultToJudge lines.items refusal.fault) }
+    ensures plain { IfErr result (λ refusal. refusal.wrong ≡ None) }
+{
+    let judged = with_puttable_items(alloc, lines)?;
+    log_told(alloc, judged, odd)
+}
+
 /// Returns the log that at most 16,777,215 lines are, to be judged: as `log_of`, but for gets of items that no call can
 /// put. In the record each of them got an item that no line puts, one and the same; its `LoggedCall` has the item of
 /// the log.
@@ -161,6 +179,6 @@ pub fn log_to_judge(alloc: Global, lines: Vec<Line>) -> Result<Log, ImportFault>
     ensures { MatchResult result (λ log. IsLogToJudge lines.items log.history log.calls.items)
         (IsFaultToJudge lines.items) }
 {
-    let judged = with_puttable_items(alloc, lines)?;
-    log_of(alloc, judged)
+    let log = judged_told(alloc, lines, None)?;
+    Ok(log)
 }

@@ -2,6 +2,7 @@
 #![tactic(auto)]
 
 mod answers;
+mod cause;
 mod ends;
 mod foreign;
 mod log;
@@ -13,6 +14,7 @@ mod walk;
 mod wrong;
 
 pub use answers::{put_answer, take_answer};
+pub use cause::{Cause, FaultyCall};
 pub use foreign::log_to_judge;
 pub use kfifo_model::LoggedCall;
 pub use log::{ImportFault, Line, Log, MAX_LOG_CALLS, log_of, record_of};

@@ -1,11 +1,13 @@
 //! Logs of calls, whose steps are times of a clock.
-ghost use Rattle.std.specs.Prelude.{◌≡◌, IfOk, List, MatchResult, map};
+ghost use Rattle.std.specs.Prelude.{◌≡◌, IfErr, IfOk, List, MatchResult, None, map};
 ghost use Rattle.kfifo_import.specs.Lines as specs;
 ghost use Rattle.kfifo_import.specs.Lines.{fault_among, lines_by};
 ghost use Rattle.kfifo_import.specs.Logs.{AreByFirst, IsImportFault, IsLogOf, IsRecordOfLog, calls_of, logged_call};
 
+use crate::cause::{Oddity, call_cause};
 use crate::moments::{Moment, by_time};
 use crate::stamping::stamped;
+use crate::wrong::Refusal;
 use kfifo_model::{Call, History, LoggedCall, Op, RecordFault, logged_line};
 use std::alloc::{AllocError, AllocFailed, Global};
 use thiserror::Error;
@@ -219,6 +221,30 @@ fn by_beginning(alloc: Global, lines: Vec<Line>) -> Result<(Vec<Call>, Vec<Logge
     Ok((calls, logged))
 }
 
+/// The log that has these lines, as `log_of` gives it. `odd` is what was kept of their text.
+pub(crate) fn log_told(alloc: Global, lines: Vec<Line>, odd: Option<Oddity>) -> Result<Log, Refusal>
+    ensures log { MatchResult result (λ log. IsLogOf lines.items log.history log.calls.items)
+        (λ refusal. IsImportFault lines.items refusal.fault) }
+    ensures plain { IfErr result (λ refusal. refusal.wrong ≡ None) }
+{
+    if lines.len() > MAX_LOG_CALLS {
+        return Err(Refusal::from(ImportFault::TooMany));
+    }
+    // The lines, which take the most memory, go before the stamps are made.
+    let (calls, logged) = by_beginning(alloc, lines)?;
+    let found = stamped(alloc, calls.as_slice())?;
+    match History::new(found) {
+        Ok(history) => Ok(Log {
+            history,
+            calls: logged,
+        }),
+        Err(fault) => {
+            let cause = call_cause(calls.as_slice(), logged.as_slice(), odd, fault);
+            Err(Refusal::from(fault_of(logged.as_slice(), fault)).with_cause(cause))
+        }
+    }
+}
+
 /// The log that has these lines. Its record has the calls in the order of their first times; where two are equal, the
 /// earlier line comes first. The log also has where each call stands and when it was. In the record, stamps stand in
 /// place of times: the places of the calls' beginnings and ends in the order of time, where at one time beginnings come
@@ -229,19 +255,8 @@ fn by_beginning(alloc: Global, lines: Vec<Line>) -> Result<(Vec<Call>, Vec<Logge
 pub fn log_of(alloc: Global, lines: Vec<Line>) -> Result<Log, ImportFault>
     ensures { MatchResult result (λ log. IsLogOf lines.items log.history log.calls.items) (IsImportFault lines.items) }
 {
-    if lines.len() > MAX_LOG_CALLS {
-        return Err(ImportFault::TooMany);
-    }
-    // The lines, which take the most memory, go before the stamps are made.
-    let (calls, logged) = by_beginning(alloc, lines)?;
-    let found = stamped(alloc, calls.as_slice())?;
-    match History::new(found) {
-        Ok(history) => Ok(Log {
-            history,
-            calls: logged,
-        }),
-        Err(fault) => Err(fault_of(logged.as_slice(), fault)),
-    }
+    let log = log_told(alloc, lines, None)?;
+    Ok(log)
 }
 
 /// The record alone of the log that has these lines, with the refusals of `log_of`.

@@ -1,13 +1,16 @@
 //! Logs that come in pieces.
 ghost use Rattle.std.specs.Prelude.{◌≡◌, ◌≢◌, ◌⊎◌, ◌++◌, ◌≤◌, [], ℕ, IfErr, IfOk, List, MatchBool, None, OnOk, Some};
-ghost use Rattle.std.specs.Prelude.{length};
+ghost use Rattle.std.specs.Prelude.{MatchResult, length};
 ghost use Rattle.csv.specs.Reading.{strip_bom};
+ghost use Rattle.kfifo_import.specs.Foreign.{IsJudgedLog, IsUnjudged};
 ghost use Rattle.kfifo_import.specs.Readers.{HasReadAll, IsReading, Reads, Refuses};
 ghost use Rattle.kfifo_import.specs.Spots.{IsOpen};
 ghost use Rattle.kfifo_import.specs.Tables.{ReadsLog};
 ghost use Rattle.kfifo_import.specs.declared.walk.Spot.TheVariants as spots;
 
-use crate::log::{ImportFault, Line};
+use crate::cause::{Cause, Oddity};
+use crate::foreign::judged_told;
+use crate::log::{ImportFault, Line, Log, MAX_LOG_CALLS};
 use crate::table::Table;
 use crate::walk::{RowReader, without_mark};
 use crate::wrong::Refusal;
@@ -30,7 +33,7 @@ fn fits(width: Option<usize>, found: usize) -> bool
 /// let mut reader = LogReader::new(alloc, MAX_LOG_CALLS);
 /// reader.take(first)?;
 /// reader.take(second)?;
-/// let log = log_to_judge(alloc, reader.finish()?)?;
+/// let log = reader.log_to_judge()?;
 /// ```
 ///
 /// The log is all pieces, one after the other. What is said of a piece holds whatever comes after it. A fault may be
@@ -95,7 +98,8 @@ impl LogReader {
         let front = self.row.front();
         let found = self.row.row().len();
         if !fits(self.width, found) {
-            return Err(Refusal::from(ImportFault::Csv(front)));
+            let cause = self.width.map(|wide| Cause::Width(found, wide));
+            return Err(Refusal::from(ImportFault::Csv(front)).with_cause(cause));
         }
         self.table
             .take(self.alloc, self.row.row(), front, self.most)?;
@@ -193,17 +197,45 @@ impl LogReader {
         self.close_ended()
     }
 
-    /// Returns the lines of the log, each with its call, in their order: all pieces have come.
-    ///
-    /// Refused is what a line itself has wrong and was not refused before, and a log without a header.
-    pub fn finish(mut self) -> Result<Vec<Line>, Refusal>
-        ensures ok { IfOk result (λ lines. (text : List ℕ) → IsReading self text [] → ReadsLog text lines.items
-            × (length lines.items ≤ self.most)) }
+    /// The lines of the log, as `finish` gives them, and what was kept of their text.
+    pub(crate) fn ended(mut self) -> Result<(Vec<Line>, Option<Oddity>), Refusal>
+        ensures ok { IfOk result (λ both. (text : List ℕ) → IsReading self text [] → ReadsLog text both.0.items
+            × (length both.0.items ≤ self.most)) }
         ensures err { IfErr result (λ refusal. (text : List ℕ) → IsReading self text []
             → Refuses self.most (strip_bom text) refusal) }
     {
         self.flush()?;
         self.last()?;
         self.table.into_lines()
+    }
+
+    /// Returns the lines of the log, each with its call, in their order: all pieces have come.
+    ///
+    /// Refused is what a line itself has wrong and was not refused before, and a log without a header.
+    pub fn finish(self) -> Result<Vec<Line>, Refusal>
+        ensures ok { IfOk result (λ lines. (text : List ℕ) → IsReading self text [] → ReadsLog text lines.items
+            × (length lines.items ≤ self.most)) }
+        ensures err { IfErr result (λ refusal. (text : List ℕ) → IsReading self text []
+            → Refuses self.most (strip_bom text) refusal) }
+    {
+        let (lines, _) = self.ended()?;
+        Ok(lines)
+    }
+
+    /// Returns the log, to be judged, as `log_to_judge` gives that of its lines: all pieces have come, and none was
+    /// refused.
+    ///
+    /// Refused is what `finish` refuses, and then what `log_to_judge` does.
+    pub fn log_to_judge(self) -> Result<Log, Refusal>
+        requires reading { (text : List ℕ) × IsReading self text [] }
+        requires most { self.most ≡ MAX_LOG_CALLS }
+        ensures log { (text : List ℕ) → IsReading self text [] → MatchResult result
+            (λ log. IsJudgedLog text log.history log.calls.items) (λ refusal. IsUnjudged text refusal.fault) }
+        ensures each { IfOk result (λ log. length log.calls.items ≡ length log.history) }
+    {
+        let alloc = self.alloc;
+        let (lines, odd) = self.ended()?;
+        let log = judged_told(alloc, lines, odd)?;
+        Ok(log)
     }
 }

@@ -17,8 +17,9 @@ ghost use Rattle.kfifo_import.specs.Taking.{IsNotTaken, IsWrongIn, Takes};
 ghost use Rattle.kfifo_import.specs.Wrong.{TellsWrong};
 
 use crate::answers::{put_answer, take_answer};
-use crate::foreign::log_to_judge;
-use crate::log::{ImportFault, Line, Log, MAX_LOG_CALLS, log_of};
+use crate::cause::{Cause, Oddity, header_cause, is_odd, oddity_of};
+use crate::foreign::judged_told;
+use crate::log::{ImportFault, Line, Log, MAX_LOG_CALLS, log_told};
 use crate::reader::LogReader;
 use crate::walk::without_mark;
 use crate::wrong::{Field, Refusal, wrong_field};
@@ -242,6 +243,8 @@ pub(crate) struct Table {
     columns: Option<Columns>,
     /// The lines below the header.
     lines: Vec<Line>,
+    /// What the line of a call has and its record cannot have: of the call that begins first.
+    odd: Option<Oddity>,
 }
 
 impl Table {
@@ -252,18 +255,19 @@ impl Table {
         Table {
             columns: None,
             lines: Vec::new(alloc),
+            odd: None,
         }
     }
 
-    /// The lines, where the header was read.
-    pub(crate) fn into_lines(self) -> Result<Vec<Line>, Refusal>
-        ensures ok { IfOk result (λ lines. IsSome self.columns × (lines ≡ self.lines)) }
+    /// The lines, where the header was read, and what was kept of their text.
+    pub(crate) fn into_lines(self) -> Result<(Vec<Line>, Option<Oddity>), Refusal>
+        ensures ok { IfOk result (λ both. IsSome self.columns × (both.0 ≡ self.lines)) }
         ensures err { IfErr result (λ refusal. (self.columns ≡ None) × (refusal.fault ≡ ImportFault.Csv 1)
             × (refusal.wrong ≡ None)) }
     {
         match self.columns {
-            Some(_) => Ok(self.lines),
-            None => Err(Refusal::from(ImportFault::Csv(1))),
+            Some(_) => Ok((self.lines, self.odd)),
+            None => Err(Refusal::from(ImportFault::Csv(1)).with_cause(Some(Cause::NoHeader))),
         }
     }
 
@@ -283,7 +287,10 @@ impl Table {
             IsWrongIn self.old.columns number (fields_of row.now) refusal.wrong refusal.fault) }
     {
         let Some(columns) = self.columns else {
-            let columns = columns_of(row).ok_or(ImportFault::Csv(number))?;
+            let Some(columns) = columns_of(row) else {
+                let refusal = Refusal::from(ImportFault::Csv(number));
+                return Err(refusal.with_cause(header_cause(row)));
+            };
             self.columns = Some(columns);
             return Ok(());
         };
@@ -294,11 +301,31 @@ impl Table {
             return Err(Refusal {
                 fault: ImportFault::NotACall(number),
                 wrong: wrong_field(alloc, row, &columns, number),
+                cause: None,
             });
         };
+        if is_odd(&line.call) {
+            self.odd = oddity_of(alloc, self.odd.take(), row, &columns, &line);
+        }
         self.lines.push(line)?;
         Ok(())
     }
+}
+
+/// The lines of a log in CSV, as `lines_of` gives them, and what was kept of their text.
+fn told_lines(
+    alloc: Global,
+    text: &[u8],
+    most: usize,
+) -> Result<(Vec<Line>, Option<Oddity>), Refusal>
+    ensures ok { IfOk result (λ both. ReadsLog text.now both.0.items) }
+    ensures few { IfOk result (λ both. length both.0.items ≤ most) }
+    ensures err { IfErr result (λ refusal. IsTextFault most (strip_bom text.now) refusal.fault) }
+    ensures wrong { IfErr result (λ refusal. TellsWrong (strip_bom text.now) refusal.wrong refusal.fault) }
+{
+    let mut reader = LogReader::plain(alloc, most);
+    reader.feed(without_mark(text))?;
+    reader.ended()
 }
 
 /// Returns the lines of a log in CSV, each with its call, in their order.
@@ -314,9 +341,8 @@ pub fn lines_of(alloc: Global, text: &[u8], most: usize) -> Result<Vec<Line>, Re
     ensures err { IfErr result (λ refusal. IsTextFault most (strip_bom text.now) refusal.fault) }
     ensures wrong { IfErr result (λ refusal. TellsWrong (strip_bom text.now) refusal.wrong refusal.fault) }
 {
-    let mut reader = LogReader::plain(alloc, most);
-    reader.feed(without_mark(text))?;
-    reader.finish()
+    let (lines, _) = told_lines(alloc, text, most)?;
+    Ok(lines)
 }
 
 /// The log that a text in CSV is, of so many calls at most.
@@ -328,8 +354,8 @@ fn log_in(alloc: Global, text: &[u8], most: usize) -> Result<Log, Refusal>
     ensures few { IfOk result (λ log. length log.history ≤ most) }
     ensures each { IfOk result (λ log. length log.calls.items ≡ length log.history) }
 {
-    let lines = lines_of(alloc, text, most)?;
-    let log = log_of(alloc, lines)?;
+    let (lines, odd) = told_lines(alloc, text, most)?;
+    let log = log_told(alloc, lines, odd)?;
     Ok(log)
 }
 
@@ -369,8 +395,8 @@ pub fn read_log_to_judge(alloc: Global, text: &[u8]) -> Result<Log, Refusal>
     ensures few { IfOk result (λ log. length log.history ≤ MAX_LOG_CALLS) }
     ensures each { IfOk result (λ log. length log.calls.items ≡ length log.history) }
 {
-    let lines = lines_of(alloc, text, MAX_LOG_CALLS)?;
-    let log = log_to_judge(alloc, lines)?;
+    let (lines, odd) = told_lines(alloc, text, MAX_LOG_CALLS)?;
+    let log = judged_told(alloc, lines, odd)?;
     Ok(log)
 }
 

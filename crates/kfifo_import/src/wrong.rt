@@ -9,6 +9,7 @@ ghost use Rattle.kfifo_import.specs.Wrong as specs;
 ghost use Rattle.kfifo_import.specs.declared.wrong.Allowed.{Allowed};
 ghost use Rattle.kfifo_import.specs.declared.wrong.Field.{Field};
 
+use crate::cause::Cause;
 use crate::log::{ImportFault, Line};
 use crate::table::{Columns, whole};
 use csv::ByteRecord;
@@ -37,7 +38,7 @@ pub enum Field {
 }
 
 /// All fields.
-const FIELDS: [Field; 6] = [
+pub(crate) const FIELDS: [Field; 6] = [
     Field::Thread,
     Field::Op,
     Field::Item,
@@ -47,8 +48,8 @@ const FIELDS: [Field; 6] = [
 ];
 
 impl Field {
-    /// The name of the field in the header.
-    pub(crate) fn name(self) -> &'static str
+    /// Returns the name of the field in the header.
+    pub fn name(self) -> &'static str
         ensures { result.now ≡ name_of self }
     {
         match self {
@@ -148,7 +149,7 @@ impl fmt::Display for WrongField {
 }
 
 /// What stands in a field of a row, nothing where the row ends before it.
-fn text_in(row: &ByteRecord, place: usize) -> &[u8]
+pub(crate) fn text_in(row: &ByteRecord, place: usize) -> &[u8]
     ensures { result.now ≡ specs.text_in (fields_of row.now) place }
 {
     match row.get(place) {
@@ -303,13 +304,33 @@ pub struct Refusal {
     pub fault: ImportFault,
     /// Of a line that is no call, the field that makes it none. None of other faults, and where memory ran out for it.
     pub wrong: Option<WrongField>,
+    /// Of a header, a width and a call at fault, what stands there. None of other faults.
+    pub cause: Option<Cause>,
+}
+
+impl Refusal {
+    /// The same with this cause.
+    pub(crate) fn with_cause(self, cause: Option<Cause>) -> Refusal
+        ensures fault { result.fault ≡ self.fault }
+        ensures wrong { result.wrong ≡ self.wrong }
+    {
+        Refusal {
+            fault: self.fault,
+            wrong: self.wrong,
+            cause,
+        }
+    }
 }
 
 impl From<ImportFault> for Refusal {
     ghost from_gives = { λ given refusal. (refusal.fault ≡ given) × (refusal.wrong ≡ None) };
 
     fn from(fault: ImportFault) -> Refusal {
-        Refusal { fault, wrong: None }
+        Refusal {
+            fault,
+            wrong: None,
+            cause: None,
+        }
     }
 }
 

@@ -1,9 +1,12 @@
 -- The texts of records.
-use Rattle.std.specs.Prelude.{ℕ, ◌≡◌, ◌⊎◌, ◌<◌, ◌≤◌, List, None, length, slice_index}
+use Rattle.std.specs.Prelude.{ℕ, ◌≡◌, ◌≢◌, ◌⊎◌, ◌<◌, ◌≤◌, ◌++◌, List, [], Option, None, IfSome, length, slice_index}
+use Rattle.std.specs.Io.KnownBytes.{Consumes}
 use Rattle.std.specs.Str.{IsUtf8}
 use Rattle.serde_json.specs.Data.{Data}
 use Rattle.serde_json.specs.Read.{read}
 use Rattle.kfifo_judge.specs.declared.streams.TheConstants.{MAX_BYTES}
+use Rattle.kfifo_judge.specs.declared.streams.Begun.{Begun}
+use Rattle.kfifo_judge.specs.declared.streams.Begun.TheVariants.{Whole, Log}
 use Rattle.kfifo_model.specs.declared.history.RecordFault.{RecordFault}
 use Rattle.kfifo_model.specs.Records.{IsReadFault}
 use Rattle.kfifo_model.specs.RecordTexts.{IsJson}
@@ -33,6 +36,15 @@ pub record BeginsRecord (bytes : List ℕ) : Type 0 where
 -- the input is a record of over 16,777,216 bytes: a log may have any number
 abbrev pub IsLongRecord : List ℕ → Type 0
 IsLongRecord bytes = BeginsRecord bytes × (MAX_BYTES < length bytes)
+
+-- whatever comes behind these bytes, of which there are some, they begin no record
+abbrev pub BeginsLog : List ℕ → Type 0
+BeginsLog bytes = (bytes ≢ []) × ((more : List ℕ) → ¬ (BeginsRecord (bytes ++ more)))
+
+-- what was read of an input is all of it, and no record that is too long, or the first bytes of a log
+abbrev pub IsBegun : Option (List ℕ) → Option (List ℕ) → Begun → Type 0
+IsBegun before after (Whole bytes) = IfSome before (λ given. given ≡ bytes.items) × ¬ (IsLongRecord bytes.items)
+IsBegun before after (Log bytes) = Consumes before after bytes.items × BeginsLog bytes.items
 
 -- the bytes are no JSON text
 abbrev pub IsNoJson : List ℕ → Type 0

@@ -1,6 +1,6 @@
 //! How an input begins: as a record in JSON or as a log in CSV.
 ghost use Rattle.std.specs.Prelude.{◌↔◌, ◌≤◌, IsTrue, length};
-ghost use Rattle.kfifo_judge.specs.Inputs.{AreSpaces, BeginsRecord, EndsSpaces, IsLongRecord, IsSpace};
+ghost use Rattle.kfifo_judge.specs.Inputs.{AreSpaces, BeginsLog, BeginsRecord, EndsSpaces, IsLongRecord, IsSpace};
 
 use crate::streams::MAX_BYTES;
 
@@ -46,4 +46,13 @@ pub(crate) fn is_long_record(bytes: &[u8], place: usize) -> bool
     ensures { IsTrue result ↔ IsLongRecord bytes.now }
 {
     bytes.len() > MAX_BYTES && begins_there(bytes, place)
+}
+
+/// Whether a text whose white space ends there begins a log: its first byte that is no white space is there, and is no
+/// `[`.
+pub(crate) fn begins_log(bytes: &[u8], place: usize) -> bool
+    requires { EndsSpaces bytes.now place }
+    ensures { IsTrue result → BeginsLog bytes.now }
+{
+    place < bytes.len() && bytes[place] != b'['
 }

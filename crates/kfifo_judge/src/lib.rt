@@ -34,5 +34,5 @@ pub use record::{StreamFault, read_record};
 pub use report::{fault_report, judge_report};
 pub use stream_answers::{check_stream, measure_stream};
 pub use streams::{
-    FromStd, MAX_BYTES, ReadFault, Sink, Source, read_all, read_record_or_log, write_all,
+    Begun, FromStd, MAX_BYTES, ReadFault, Sink, Source, begin_reading, read_all, write_all,
 };

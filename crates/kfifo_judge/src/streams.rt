@@ -4,10 +4,10 @@ ghost use Rattle.std.specs.Prelude.{IfErr, IfSome, Err, IsTrue, false, MatchResu
 ghost use Rattle.std.specs.Io.{ReadsAtMost, WritesAtMost};
 ghost use Rattle.std.specs.Io.KnownBytes.{Appends, Consumes, Keeps, ReadConsumes, WriteAppends};
 ghost use Rattle.kfifo_judge.specs.Streams.{countable, CountsOne, CountsRead, CountsWrite, AppendsPart};
-ghost use Rattle.kfifo_judge.specs.Inputs.{IsLongRecord};
+ghost use Rattle.kfifo_judge.specs.Inputs.{IsBegun, IsLongRecord};
 ghost use Rattle.kfifo_judge.specs.ReadCounts.{IsReadCount};
 
-use crate::beginning::{is_long_record, skip_spaces};
+use crate::beginning::{begins_log, is_long_record, skip_spaces};
 use std::alloc::{AllocError, Global};
 use std::io;
 use std::io::{Read, Write};
@@ -127,7 +127,7 @@ pub enum ReadFault {
     /// A call of the source failed.
     #[error("reading failed")]
     Failed,
-    /// Over 16,777,216 bytes came, which are allowed; of `read_record_or_log`, over so many of a record.
+    /// Over 16,777,216 bytes came, which are allowed; of `begin_reading`, over so many of a record.
     #[error("the input is over 16,777,216 bytes")]
     TooLong,
     /// An allocation failed.
@@ -171,12 +171,29 @@ pub fn read_all<R: Source>(alloc: Global, source: &mut R) -> Result<Vec<u8>, Rea
     }
 }
 
-/// Returns all that a source gives, a record or a log: a record of at most 16,777,216 bytes, a log of any number.
+/// What was read of an input that is a record or a log.
+#[derive(Drop)]
+pub enum Begun {
+    /// All of it: a record in JSON, or white space alone.
+    Whole(Vec<u8>),
+    /// The first bytes of a log, to which further ones belong as long as the source gives some.
+    Log(Vec<u8>),
+}
+
+/// Reads an input that is a record or a log: a record whole, of a log the first bytes alone. A record has at most
+/// 16,777,216 bytes, a log any number.
+///
+/// ```rust
+/// match begin_reading(alloc, source)? {
+///     Begun::Whole(bytes) => parse(bytes),
+///     Begun::Log(bytes) => parse_more(bytes, source),
+/// }
+/// ```
+///
 /// Refuses: Failed where a call of the source failed, which is not made again; TooLong where the input begins as a
 /// record and over 16,777,216 bytes came; Memory where an allocation failed.
-pub fn read_record_or_log<R: Source>(alloc: Global, source: &mut R) -> Result<Vec<u8>, ReadFault>
-    ensures read { IfOk result (λ v. IfSome (R.remaining source.old) (λ xs. xs ≡ v.items)) }
-    ensures small { IfOk result (λ v. ¬ (IsLongRecord v.items)) }
+pub fn begin_reading<R: Source>(alloc: Global, source: &mut R) -> Result<Begun, ReadFault>
+    ensures read { IfOk result (IsBegun (R.remaining source.old) (R.remaining source.new)) }
     ensures too_long { result ≡ Err ReadFault.TooLong → IfSome (R.remaining source.old) IsLongRecord }
     ensures failures { MatchResult result (λ _. R.failed source.new ≡ R.failed source.old)
         (λ f. IsReadCount f (R.failed source.old) (R.failed source.new)) }
@@ -189,10 +206,13 @@ pub fn read_record_or_log<R: Source>(alloc: Global, source: &mut R) -> Result<Ve
             return Err(ReadFault::Failed);
         };
         if count == 0 {
-            return Ok(bytes);
+            return Ok(Begun::Whole(bytes));
         }
         bytes.extend_from_slice(&piece[..count])?;
         spaces = skip_spaces(bytes.as_slice(), spaces);
+        if begins_log(bytes.as_slice(), spaces) {
+            return Ok(Begun::Log(bytes));
+        }
         if is_long_record(bytes.as_slice(), spaces) {
             return Err(ReadFault::TooLong);
         }

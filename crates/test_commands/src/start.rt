@@ -61,14 +61,14 @@ fn shows_what_is_done_with_a_long_log(rt: HostRuntime) -> Result<(), Fail> {
     let mut notes = Vec::new(rt.alloc());
     let begun = Instant::now(&Still(2)).ok();
     let mut progress = Showing::new(&Still(2), begun, Some(&mut shown), &mut notes);
-    progress.begun(Stage::Parsing(33_554_431));
+    progress.begun(Stage::Reading(33_554_431));
     progress.begun(Stage::Judging(999_999));
-    progress.begun(Stage::Parsing(351_666_715));
+    progress.begun(Stage::Reading(351_666_715));
     progress.begun(Stage::Judging(10_000_000));
     progress.ended();
     drop(progress);
     let wanted = format!(in rt.alloc();
-        "\rkfifo: parsing 351 MB{BLANKS}\rkfifo: judging 10000000 calls{BLANKS}"
+        "\rkfifo: read 351 MB{BLANKS}\rkfifo: judging 10000000 calls{BLANKS}"
     )?;
     assert_eq!(rt; shown.as_slice(), wanted.as_bytes());
     Ok(())

@@ -1,6 +1,10 @@
 //! A log where memory is refused, one of a queue that returned an item which no call can put, and logs in pieces.
 use crate::plain::{import_text, read_log, read_log_to_judge};
-use kfifo_import::{ImportFault, Line, Log, LogReader, MAX_LOG_CALLS, Refusal, log_to_judge};
+use crate::streams::source_of;
+use kfifo_import::{
+    ImportFault, Line, Log, LogReader, MAX_LOG_CALLS, Refusal, lines_of, log_to_judge,
+};
+use kfifo_judge::{Begun, ReadFault, Source, begin_reading};
 use std::alloc::Global;
 use std::test::Fail;
 
@@ -69,7 +73,7 @@ fn judge_pieces(alloc: Global, first: &[u8], second: &[u8]) -> Result<Log, Refus
     let mut reader = LogReader::new(alloc, MAX_LOG_CALLS);
     reader.take(first)?;
     reader.take(second)?;
-    let log = log_to_judge(alloc, reader.finish()?)?;
+    let log = reader.log_to_judge()?;
     Ok(log)
 }
 
@@ -78,6 +82,50 @@ fn judges_a_log_in_two_pieces(rt: HostRuntime) -> Result<(), Fail> {
     let (first, second) = FOREIGN.as_bytes().split_at(40);
     let log = judge_pieces(rt.alloc(), first, second).map_err(|refusal| refusal.fault)?;
     assert_eq!(rt; log.calls.len(), 2);
+    Ok(())
+}
+
+/// The log to be judged of these bytes, by the short examples of its lines.
+fn judge_lines(alloc: Global, bytes: &[u8]) -> Result<Log, Refusal> {
+    let lines = lines_of(alloc, bytes, MAX_LOG_CALLS)?;
+    let log = log_to_judge(alloc, lines)?;
+    Ok(log)
+}
+
+#[test]
+fn judges_a_log_by_its_lines(rt: HostRuntime) -> Result<(), Fail> {
+    let log = judge_lines(rt.alloc(), FOREIGN.as_bytes()).map_err(|refusal| refusal.fault)?;
+    assert_eq!(rt; log.calls.len(), 2);
+    Ok(())
+}
+
+/// How many bytes of a record came: all.
+fn parse(bytes: Vec<u8>) -> Result<usize, ReadFault> {
+    Ok(bytes.len())
+}
+
+/// How many bytes of a log came, with one piece more.
+fn parse_more<R: Source>(bytes: Vec<u8>, source: &mut R) -> Result<usize, ReadFault> {
+    let mut piece = [0_u8; 64];
+    let more = source.read(&mut piece).unwrap_or(0);
+    Ok(bytes.len().saturating_add(more))
+}
+
+/// How many bytes of an input came, by the short example of its beginning.
+fn begin<R: Source>(alloc: Global, source: &mut R) -> Result<usize, ReadFault> {
+    match begin_reading(alloc, source)? {
+        Begun::Whole(bytes) => parse(bytes),
+        Begun::Log(bytes) => parse_more(bytes, source),
+    }
+}
+
+#[test]
+fn begins_to_read_a_record_or_a_log(rt: HostRuntime) -> Result<(), Fail> {
+    let record = " [ a record is read whole ] ";
+    let read = begin(rt.alloc(), &mut source_of(record, 0));
+    assert!(rt; matches!(read, Ok(count) if count == record.len()));
+    let read = begin(rt.alloc(), &mut source_of(FOREIGN, 0));
+    assert!(rt; matches!(read, Ok(count) if count > 7 && count < FOREIGN.len()));
     Ok(())
 }
 

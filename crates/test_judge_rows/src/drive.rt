@@ -15,7 +15,7 @@
 //! | `judge`, `least` | what is said of the record, and then its outcome; or its fault |
 //! | `evidence`, `witness`, `verdict`, `bounds` | what `evidence`, `witness`, `judge` and `least_k` return |
 //! | `import` | the calls of a log, or its fault |
-//! | `lines` | how many lines a log has below its header, or its fault |
+//! | `lines` | how many lines a log has below its header, or its fault, where it comes in pieces of 1 to 40 bytes |
 //! | `wrong` | what is said of the field that makes a line of a log no call, or `none` |
 //! | `draw`, `svg` | the picture in characters, or as SVG; or its fault |
 //! | `form` | whether the picture as SVG is well formed |
@@ -33,12 +33,15 @@ use crate::input::input_of;
 use crate::pictures::{add_picture, form_line};
 use crate::plain;
 use crate::streams::{Input, Output, Page, Pieces};
-use kfifo_import::Refusal;
+use kfifo_import::{Line, Refusal};
 use kfifo_judge::FromStd;
 use kfifo_model::History;
 use serde_json::Value;
 use std::alloc::{AllocError, Global};
 use test_rows::{flag, items, list, number, small, text};
+
+/// The most bytes of a piece in which a log comes.
+const MOST_IN_A_PIECE: usize = 40;
 
 /// The k of a question.
 pub(crate) fn k_of(ask: &Value) -> u32 {
@@ -227,7 +230,17 @@ fn add_log(alloc: Global, input: &str, lines: &mut Vec<String>) -> Result<(), Al
     }
 }
 
-/// How many lines a log has, which is read in pieces.
+/// Whether a log comes to the same lines, or to the same fault.
+fn are_same(first: &Result<Vec<Line>, Refusal>, second: &Result<Vec<Line>, Refusal>) -> bool {
+    match (first, second) {
+        (Ok(first), Ok(second)) => first.as_slice() == second.as_slice(),
+        (Err(first), Err(second)) => first.fault == second.fault,
+        _ => false,
+    }
+}
+
+/// How many lines a log has, or its fault, where that is the same in pieces of any size; else a size of pieces in which
+/// it is not.
 fn count_line(alloc: Global, input: &str) -> Result<String, AllocError> {
     let file = Pieces {
         bytes: input.as_bytes(),
@@ -235,23 +248,30 @@ fn count_line(alloc: Global, input: &str) -> Result<String, AllocError> {
     let Ok(bytes) = plain::bytes_of(alloc, file) else {
         return "not read".to_string(alloc);
     };
-    match plain::count_lines(alloc, bytes.as_slice()) {
-        Ok(count) => format!(in alloc; "{count} lines"),
+    let found = plain::lines_at_once(alloc, bytes.as_slice());
+    for size in 1..=MOST_IN_A_PIECE {
+        let again = plain::lines_in_pieces(alloc, bytes.as_slice(), size);
+        if !are_same(&found, &again) {
+            return format!(in alloc; "not in pieces of {size} bytes");
+        }
+    }
+    match found {
+        Ok(lines) => {
+            let count = lines.len();
+            format!(in alloc; "{count} lines")
+        }
         Err(refusal) => plain::told(alloc, &refusal.fault),
     }
 }
 
 /// The line of the field of a log that is wrong.
 fn wrong_line(alloc: Global, input: &str) -> Result<String, AllocError> {
-    match plain::import_text(alloc, input.as_bytes()) {
-        Err(
-            Refusal {
-                wrong: Some(wrong),
-                ..
-            },
-        ) => wrong.to_string(alloc),
-        _ => "none".to_string(alloc),
+    if let Err(refusal) = plain::import_text(alloc, input.as_bytes()) {
+        if let Some(wrong) = &refusal.wrong {
+            return wrong.to_string(alloc);
+        }
     }
+    "none".to_string(alloc)
 }
 
 /// Adds a line for each call.

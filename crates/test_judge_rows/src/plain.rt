@@ -3,7 +3,7 @@
 
 use crate::streams::{Input, Output, Pieces};
 use kfifo_draw::{DrawFault, Drawing, Marking, Part, Style};
-use kfifo_import::{MAX_LOG_CALLS, Refusal, lines_of};
+use kfifo_import::{Line, LogReader, MAX_LOG_CALLS, Refusal, lines_of};
 use kfifo_judge::{FromStd, Outcome, ReadFault, StreamFault, read_all};
 use kfifo_model::History;
 use serde_json::Value;
@@ -109,10 +109,22 @@ pub(crate) fn bytes_of(alloc: Global, file: Pieces<'_>) -> Result<Vec<u8>, ReadF
     read_all(alloc, &mut FromStd::new(file))
 }
 
-/// How many lines a log has below its header.
-pub(crate) fn count_lines(alloc: Global, bytes: &[u8]) -> Result<usize, Refusal> {
-    let lines = lines_of(alloc, bytes, MAX_LOG_CALLS)?;
-    Ok(lines.len())
+/// The lines of a log, which comes at once.
+pub(crate) fn lines_at_once(alloc: Global, bytes: &[u8]) -> Result<Vec<Line>, Refusal> {
+    lines_of(alloc, bytes, MAX_LOG_CALLS)
+}
+
+/// The lines of a log that comes in pieces of so many bytes.
+pub(crate) fn lines_in_pieces(
+    alloc: Global,
+    bytes: &[u8],
+    size: usize,
+) -> Result<Vec<Line>, Refusal> {
+    let mut reader = LogReader::new(alloc, MAX_LOG_CALLS);
+    for piece in bytes.chunks(size.max(1)) {
+        reader.take(piece)?;
+    }
+    reader.finish()
 }
 
 pub(crate) fn evidence(alloc: Global, history: &History, k: u32) -> Result<String, AllocError> {

@@ -57,7 +57,7 @@ Without --order the answer is `order` or `no order`. With it the answer is
   fault 5 not a run at <N>    place N, from 0, is the first whose answer is not
                               legal there
 
-Faults, each a line on standard error, behind it one that says what is wrong,
+Faults, each a line on standard error, followed by one that says what is wrong,
 and one that names its explanation:
   kfifo: order fault          the value of --order, or its file, is no order or
                               cannot be read; the input is not read then

@@ -49,16 +49,16 @@ worker ends when it finds the queue empty, or after 65536 tries to take a task;
 what is left then, the program works off itself. Where no thread can be made,
 workers run one after the other.
 
-The answer is a line <ID> <SUM> for each task, by rising ID; no line where there
-are no tasks. It does not depend on the number of workers, the sizes of the
-queue or the seed: these say who does the work, and where threads meet.
+The answer is a line <ID> <SUM> for each task, in ascending order of ID; no line
+where there are no tasks. It does not depend on the number of workers, the sizes
+of the queue or the seed: these say who does the work, and where threads meet.
 
 --seed is what the workers draw the slots from at which they begin to look, each
 in a way of its own.
 
 Limits: 1024 tasks, 63 workers.
 
-Faults, each a line on standard error, behind it one that says what is wrong,
+Faults, each a line on standard error, followed by one that says what is wrong,
 and one that names its explanation; nothing is on standard output then:
   kfifo: shape fault 1       k is not 1 to 64
   kfifo: shape fault 2       there are not 2 to 1024 segments

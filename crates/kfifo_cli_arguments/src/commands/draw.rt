@@ -64,7 +64,7 @@ label. With --text it is lines of at most 120 characters:
 the calls that overlap one of them or stand within --around calls of one. Where
 there is no evidence nothing is marked, and all calls are drawn, if they are at
 most 4096. --calls draws the calls with these numbers, --lines those in these
-lines of a log: <A>-<B> goes from A to B, both among them, and may go on behind
+lines of a log: <A>-<B> goes from A to B, both included, and may go on after
 the last one. With --evidence they say in place of --around what is drawn. What
 is drawn is a part: it keeps the numbers, the marks and the verdict of the
 whole.
@@ -74,7 +74,7 @@ whole.
 whether the order is legal for --k. Where it is not, the call at which it fails
 is marked, and the fault is named as by `kfifo check`.
 
-Faults, each a line on standard error, behind it one that says what is wrong,
+Faults, each a line on standard error, followed by one that says what is wrong,
 and one that names its explanation:
   kfifo: draw fault 1         over 4096 calls are to be drawn: draw a part by
                               --evidence, --calls or --lines

@@ -33,11 +33,11 @@ Some answers stand in no other list:
   legal                       of `check --order`: the order is legal; of
                               `judge`: an order of the calls is legal for this k
   order                       of `check`: an order of the calls is legal; with
-                              call numbers behind it, the order itself
+                              call numbers after it, the order itself
   the order fails             of `draw --order`: the order is not legal, for the
-                              reason behind it; or `the order is legal`
+                              reason after it; or `the order is legal`
   no calls                    of `draw --text`: the record is empty
-  call <N> item <X> overtaken <C>   of `measure`: so many items that were put
+  call <N> item <X> overtaken <C>   of `measure`: that many items that were put
                                     after X were got before it
   most <C>                    of `measure`: the greatest of these counts
   head <S> v<V>               of `run`: the head's segment, and the version of
@@ -62,33 +62,35 @@ Exit statuses:
 Statuses of the library for C:
   KFIFO_DONE                  the item or the value is in the queue, or was
                               already taken; of a take: one was taken
-  KFIFO_FULL                  the ring was full: the item or the value is not in
-                              the queue
+  KFIFO_FULL                  there is no room or no free cell: nothing was put
+                              or reserved
   KFIFO_EMPTY                 the queue was empty
   KFIFO_BUSY                  each round of the call was lost to other threads:
                               nothing was put or taken
   KFIFO_WORN                  a version would pass the greatest one: nothing was
                               put or taken
   KFIFO_BAD_CALL              a pointer is null, an argument is out of range, or
-                              a handle is closed or missing: nothing was done
+                              a handle is closed, missing, of another kind or
+                              without such a cell: nothing was done
   KFIFO_NO_MEMORY             an allocation failed: nothing was done
   KFIFO_BAD_THREADS           the number of threads is not 1 to 64
   KFIFO_LOST                  of a close: an allocation failed, the queue is
                               closed, and what was left in it is lost
-  KFIFO_NO_TOKEN              of a give: the handle has no token and found none
-                              in the pool, so the value is not in the queue
   KFIFO_BAD_K                 k is not 1 to 64
   KFIFO_BAD_SEGMENTS          the number of segments is not 2 to 1024
   KFIFO_BAD_LAST              the greatest version is not 2 to 1099511627775
   KFIFO_BAD_PROBES            the number of probes is not 1 to k
-  KFIFO_BAD_TOKENS            the number of tokens a thread is not 1 to 1024
   KFIFO_TIMED_OUT             of a call that waits: its time was up, and nothing
                               was put or taken
   KFIFO_FINISHED              of a call that waits: the queue was finished, and
                               nothing was put, or it was empty then
   KFIFO_BAD_RESERVE           the reserve is not below the greatest version
+  KFIFO_BAD_CAPACITY          the capacity is 0, or greater than a queue with
+                              this k for so many threads can have
+  KFIFO_BAD_LAYOUT            the alignment of a cell is no power of two from 1
+                              to 4096, or its size is 0 or no multiple of it
 
-Faults, each a line on standard error, behind it one that says what is wrong,
+Faults, each a line on standard error, followed by one that says what is wrong,
 and one that names its explanation:
   kfifo: explain fault 1      the words are those of no fault and no answer
   kfifo: memory               an allocation failed

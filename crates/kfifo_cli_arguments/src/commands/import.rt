@@ -20,7 +20,7 @@ Examples:
 pub(crate) const DETAILS: &str = "\
 FILE, or standard input where no file is named, has the log: CSV of at most
 16777216 bytes. Its first line names the fields, in any order, and each line
-behind it is one call, in any order of lines:
+after it is one call, in any order of lines:
   thread,op,item,first,last,answer
   0,enq,7,1000,1840,done
   1,deq,7,1310,2075,got
@@ -39,13 +39,13 @@ An unfinished call has neither `last` nor `answer`. A dequeue that was cut off
 is taken to have got nothing: where your queue cannot know that, leave such a
 dequeue out only if its item turns up again.
 
-The answer is the record of the log, as one line of JSON: its calls by rising
-`first` (of equal ones the earlier line first), with stamps that are the places
-of all beginnings and ends by rising time. At one time beginnings come before
-ends, so a call comes before another in the record exactly where its `last` is
-less than the other's `first`.
+The answer is the record of the log, as one line of JSON: its calls in ascending
+order of `first` (of equal ones the earlier line first), with stamps that are
+the places of all beginnings and ends in ascending order of time. At one time
+beginnings come before ends, so a call comes before another in the record
+exactly where its `last` is less than the other's `first`.
 
-Faults, each a line on standard error, behind it one that says what is wrong,
+Faults, each a line on standard error, followed by one that says what is wrong,
 and one that names its explanation; lines are counted from 1:
   kfifo: input                          the file or standard input cannot be
                                         read, or has over 16777216 bytes

@@ -80,13 +80,12 @@ The answer is one of these:
   call <N>, line <L>: thread <T> put <X> from <FIRST> to <LAST>
                               the same of a log, with the line and the times of
                               the log
-  , got by call <M>           behind a put: its item was got by call M. An Empty
+  , got by call <M>           after a put: its item was got by call M. An Empty
                               that names it came too early
-  , never got                 behind a put: its item was lost, or was left
+  , never got                 after a put: its item was lost, or was left
                               inside at the end of the log
-  and the line `calls <N>, items left <M>`, then behind an overtaking the lines
-  of `kfifo least`, which say for which k
-  there may be an order.
+  and the line `calls <N>, items left <M>`, then after an overtaking the lines
+  of `kfifo least`, which say for which k there may be an order.
 
   undecided for k = <K>       neither an order nor a reason was found, for what
                               the next line says.
@@ -94,12 +93,12 @@ The answer is one of these:
                               more of them may find an order
   nothing is left to try      the search saw nothing that it could do otherwise;
                               more tries do not help
-  after <N> tries             behind either: so many choices were undone
-  ; items repeat              behind either: an item is put or got more than
+  after <N> tries             after either: that many choices were undone
+  ; items repeat              after either: an item is put or got more than
                               once. Give each its own number
 
-Call numbers are places in the array, from 0; those of a log are by rising first
-time.
+Call numbers are places in the array, from 0; those of a log are in ascending
+order of first time.
 
 Of several files, each is judged by itself, and has a line:
   <FILE>: legal, calls <N>
@@ -112,7 +111,7 @@ Of several files, each is judged by itself, and has a line:
 `kfifo judge FILE` says all of one of them. Of several, - is the name of a file.
 
 With --json the verdict is an object in one line, and so is that of each of
-several files, with no line behind them. What does not apply is null.
+several files, with no line after them. What does not apply is null.
   calls, left     how many calls were judged, and how many items were left
   evidence        of `no order`: its kind, 1 to 7, and its name, a headline, and
                   the calls that it names (named)
@@ -125,7 +124,7 @@ several files, with no line behind them. What does not apply is null.
 A file of several that has no verdict has the status `fault`, the fault, and
 what is wrong (words).
 
-Faults, each a line on standard error, behind it one that says what is wrong,
+Faults, each a line on standard error, followed by one that says what is wrong,
 and one that names its explanation:
   kfifo: input                the file or standard input cannot be read, or is a
                               record of over 16777216 bytes

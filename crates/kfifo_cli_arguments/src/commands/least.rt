@@ -33,7 +33,7 @@ or, where no k at all would do,
   no order                    with the reason and the calls that it names, as
                               `kfifo judge --help` says
 
-Faults, each a line on standard error, behind it one that says what is wrong,
+Faults, each a line on standard error, followed by one that says what is wrong,
 and one that names its explanation:
   kfifo: input                the file or standard input cannot be read, or is a
                               record of over 16777216 bytes

@@ -18,16 +18,16 @@ The record is one as `kfifo check --help` says, on standard input: at most
 unfinished carry one item, and no two dequeues got one.
 
 Each finished enqueue that was answered \"done\" has a line
-`call <NUMBER> item <ITEM> overtaken <COUNT>`, by rising call number. COUNT is
-the number of items that were put after ITEM and taken before it, or taken while
-it never was, whatever the order of calls that overlap. The last line is
-`most <COUNT>`, the greatest count, 0 where there is none.
+`call <NUMBER> item <ITEM> overtaken <COUNT>`, in ascending order of NUMBER.
+COUNT is the number of items that were put after ITEM and taken before it, or
+taken while it never was, whatever the order of calls that overlap. The last
+line is `most <COUNT>`, the greatest count, 0 where there is none.
 
 This command takes no --k. Each count is below k in a queue whose dequeues take
 one of the k oldest items. Without --k, `kfifo check` tries k = 2 and
 `kfifo judge` k = 1.
 
-Faults, each a line on standard error, behind it one that says what is wrong,
+Faults, each a line on standard error, followed by one that says what is wrong,
 and one that names its explanation:
   kfifo: input                reading failed, or over 16777216 bytes came
   kfifo: no input             no byte came; in a pipe the command before has

@@ -52,7 +52,7 @@ items are distinct `kfifo measure` finds none overtaken k times.
 
 Limits: 64 scripts, each of at most 1024 calls with its repetitions.
 
-Faults, each a line on standard error, behind it one that says what is wrong,
+Faults, each a line on standard error, followed by one that says what is wrong,
 and one that names its explanation; nothing is on standard output then:
   kfifo: shape fault 1       k is not 1 to 64
   kfifo: shape fault 2       there are not 2 to 1024 segments

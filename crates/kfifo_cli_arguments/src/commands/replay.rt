@@ -50,7 +50,7 @@ goes on with it. The value is `none`, or groups joined by commas:
   <THREAD>x<COUNT>  this thread COUNT times in a row, at least once
 Numbers have 1 to 10 decimal digits, and no sign. What the picks leave undone is
 not done, but with --stop: then each thread other than THREAD goes to the end of
-its script, by rising number, behind the picks.
+its script after the picks, the threads in ascending order.
 
 The answer has a line each:
   steps <N>        how many steps were made
@@ -80,7 +80,7 @@ read; its stamps are the numbers of the steps, from 0.
 Limits: 64 scripts of 64 calls each, 16777216 picks, and 65536 steps with
 --trace.
 
-Faults, each a line on standard error, behind it one that says what is wrong,
+Faults, each a line on standard error, followed by one that says what is wrong,
 and one that names its explanation; nothing is on standard output then:
   kfifo: shape fault 1       k is not 1 to 64
   kfifo: shape fault 2       there are not 2 to 1024 segments

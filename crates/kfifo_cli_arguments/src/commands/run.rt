@@ -46,7 +46,7 @@ Then come the head and the tail, as `head <SEGMENT> v<VERSION>`, and each slot
 of the queue, as `slot <SEGMENT>.<SLOT> <ITEM> v<VERSION>`, with 0 for the item
 of an empty slot.
 
-Faults, each a line on standard error, behind it one that says what is wrong,
+Faults, each a line on standard error, followed by one that says what is wrong,
 and one that names its explanation:
   kfifo: shape fault 1       k is not 1 to 64
   kfifo: shape fault 2       there are not 2 to 1024 segments

@@ -133,7 +133,7 @@ value as `first`.
         help: Help::Check,
         line: "  kfifo: record fault 7",
         advice: "\
-Allowed: calls by rising `first`, no two of which begin at one stamp.
+Allowed: calls in ascending order of `first`, no two with one `first`.
 To do: sort the calls by `first`. In a log in CSV lines may stand in any order,
 and two calls may begin at one time.
 ",

@@ -60,7 +60,8 @@ To do: nothing.
         help: Help::Explain,
         line: "  KFIFO_FULL ",
         advice: "\
-To do: take something and put it again, or open a queue with more segments.
+To do: take something and put it again, or open a queue with more segments or a
+greater capacity.
 ",
     },
     Topic {
@@ -122,14 +123,6 @@ To do: take all that is left before you close a queue.
 ",
     },
     Topic {
-        words: "KFIFO_NO_TOKEN",
-        help: Help::Explain,
-        line: "  KFIFO_NO_TOKEN ",
-        advice: "\
-To do: take a value and give again, or open a queue with more tokens a thread.
-",
-    },
-    Topic {
         words: "KFIFO_BAD_K",
         help: Help::Explain,
         line: "  KFIFO_BAD_K ",
@@ -144,7 +137,7 @@ To do: open a queue with such a k.
         line: "  KFIFO_BAD_SEGMENTS ",
         advice: "\
 Allowed: 2 to 1024 segments.
-To do: open a queue with so many.
+To do: open a queue with that many.
 ",
     },
     Topic {
@@ -163,15 +156,6 @@ To do: open a queue with KFIFO_LAST.
         advice: "\
 Allowed: 1 to k probes.
 To do: open a queue with k probes.
-",
-    },
-    Topic {
-        words: "KFIFO_BAD_TOKENS",
-        help: Help::Explain,
-        line: "  KFIFO_BAD_TOKENS ",
-        advice: "\
-Allowed: 1 to 1024 tokens a thread.
-To do: open a queue with so many.
 ",
     },
     Topic {
@@ -197,6 +181,23 @@ To do: make no more calls, and close the queue.
         advice: "\
 Allowed: a reserve from 0 to the greatest version less 1.
 To do: open a queue with KFIFO_RESERVE, or with 0 for one that wears out.
+",
+    },
+    Topic {
+        words: "KFIFO_BAD_CAPACITY",
+        help: Help::Explain,
+        line: "  KFIFO_BAD_CAPACITY ",
+        advice: "\
+To do: open a queue with a smaller capacity, with a greater k, or for fewer
+threads, or one that grows.
+",
+    },
+    Topic {
+        words: "KFIFO_BAD_LAYOUT",
+        help: Help::Explain,
+        line: "  KFIFO_BAD_LAYOUT ",
+        advice: "\
+To do: take `sizeof` and `_Alignof` of what a cell is to hold.
 ",
     },
 ];

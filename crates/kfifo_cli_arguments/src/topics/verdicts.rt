@@ -13,7 +13,7 @@ for a put that is missing in the log.
 ";
 
 const NOT_EMPTY: &str = "\
-To do: see behind each put whether its item was got later: then the queue said
+To do: see after each put whether its item was got later: then the queue said
 empty too early; or never: then it was lost, or was left inside at the end of
 the log. Drain the queue until it answers empty before the log ends.
 ";

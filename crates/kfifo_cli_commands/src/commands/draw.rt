@@ -1,16 +1,16 @@
 //! The command `draw`: a picture of a record or a log, or of a part of it.
-ghost use Rattle.std.specs.Prelude.{◌≡◌, ◌≢◌, ◌≤◌, ◌⊎◌, None, true, IfErr, IfOk, IsSome};
+ghost use Rattle.std.specs.Prelude.{◌≡◌, ◌≢◌, ◌≤◌, ◌⊎◌, ℕ, List, None, true, IfErr, IfOk, IsSome};
 ghost use Rattle.std.specs.Prelude.{MatchResult, length, option_map};
 ghost use Rattle.kfifo_cli_commands.specs.Cuts.{LacksEvidence};
-ghost use Rattle.kfifo_cli_commands.specs.Inputs.{read_from};
+ghost use Rattle.kfifo_cli_commands.specs.Inputs.{IsCalls, read_from};
 ghost use Rattle.kfifo_cli_commands.specs.Pictures.{HasFew, IsDraw, IsDrawRefusal, IsNoPicture, IsNotDrawn};
 ghost use Rattle.kfifo_cli_commands.specs.Pictures.{IsPicture, IsPictureOf};
 ghost use Rattle.kfifo_cli_commands.specs.Records.{IsOrder, IsOrderFault, FailsWell};
 ghost use Rattle.kfifo_draw.specs.Drawing.{AreFew, AreMany, IsInPart};
 
+use crate::calls::{Calls, read_calls_given};
 use crate::cut::{Cut, cut_of, is_of_lines, part_of};
 use crate::failure::Failure;
-use crate::input::{read_calls, read_calls_given};
 use crate::progress::Progress;
 use kfifo_cli_requests::DrawOptions;
 use kfifo_cli_texts::{Fault, order_of};
@@ -40,8 +40,8 @@ pub fn answer<H: Files, S: Source, P: Progress>(
 {
     let cut = cut_of(options)?;
     let order = order_given(alloc, files, options)?;
-    let bytes = read_calls_given(alloc, files, options.file, input)?;
-    let text = picture(alloc, bytes, options, cut, &order, progress)?;
+    let calls = read_calls_given(alloc, files, options.file, input, progress)?;
+    let text = picture(alloc, &calls, options, cut, &order)?;
     Ok(text)
 }
 
@@ -74,25 +74,24 @@ fn style_of(options: DrawOptions<'_>) -> Style {
 }
 
 /// The picture of these calls of an input, with this order.
-fn picture<P: Progress>(
+fn picture<'x>(
     alloc: Global,
-    bytes: Vec<u8>,
+    calls: &'x Calls,
     options: DrawOptions<'_>,
     cut: Cut,
-    order: &Option<Vec<usize>>,
-    progress: &mut P,
-) -> Result<String, Failure>
-    ensures { MatchResult result (λ _. IsPicture options.entry.check.k options.entry.evidence cut bytes.items)
-        (λ failure. IsNoPicture options.entry.check.k options.entry.evidence cut bytes.items failure.fault) }
+    order: &'x Option<Vec<usize>>,
+) -> Result<String, Fault>
+    ensures { (bytes : List ℕ) → IsCalls bytes calls.now.history (option_map (λ logged. logged.items) calls.now.logged)
+        → MatchResult result (λ _. IsPicture options.entry.check.k options.entry.evidence cut bytes)
+        (λ fault. IsNoPicture options.entry.check.k options.entry.evidence cut bytes fault) }
 {
-    let calls = read_calls(alloc, bytes, progress)?;
     let history = &calls.history;
     if let Some(logged) = &calls.logged {
         let text = picture_of(alloc, history, logged.as_slice(), options, cut, order)?;
         return Ok(text);
     }
     if is_of_lines(cut) {
-        return Err(Failure::from(Fault::NoLines));
+        return Err(Fault::NoLines);
     }
     let text = picture_of(alloc, history, &[], options, cut, order)?;
     Ok(text)

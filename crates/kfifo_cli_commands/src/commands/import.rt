@@ -32,7 +32,7 @@ pub fn answer<H: Files, S: Source>(
     let bytes = read_given(alloc, files, options.file, input)?;
     let history = match import_text(alloc, bytes.as_slice()) {
         Ok(history) => history,
-        Err(refusal) => return Err(Failure::of_log(alloc, bytes.as_slice(), refusal)),
+        Err(refusal) => return Err(Failure::of_log(alloc, refusal)),
     };
     let text = record_line(alloc, &history)?;
     Ok(text)

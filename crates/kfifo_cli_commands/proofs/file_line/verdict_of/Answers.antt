@@ -1,8 +1,19 @@
-use Rattle.std.proofs.Common.{inr}
-use Rattle.kfifo_cli_commands.proofs.Filing.{err_of}
+use Rattle.std.proofs.Common.{List, option_map, subst}
+use Rattle.std.specs.Prelude.{string_bytes}
+use Rattle.kfifo_model.specs.declared.logged.LoggedCall.{LoggedCall}
+use Rattle.kfifo_cli_commands.specs.FileVerdicts.{IsFileVerdict}
 use Rattle.kfifo_cli_commands.proofs.file_line.verdict_of.Goals as goal
 
-pub returns-clause-err : goal.returns-clause-err
-returns-clause-err g c = err_of _ _ _
-    (λ failure none. inr (inr (c.in_ok-bytes.bytes.items, c.in_ok-bytes.ensures.ok, none)))
-    c.verdict_in.result c.verdict_in.ensures
+pub returns-clause-ok : goal.returns-clause-ok
+returns-clause-ok g c =
+    let read = c.in_ok-calls.ensures.ok in (
+      read.0,
+      read.1.1,
+      record {
+        history = c.in_ok-calls.calls.history;
+        logged = option_map (λ logged. logged.items) c.in_ok-calls.calls.logged;
+        calls = read.2;
+        answer = subst (λ (logged : List LoggedCall). IsFileVerdict c.args.options c.args.name.now logged c.in_ok-calls.calls.history
+            (string_bytes c.in_ok-said.said.0) c.in_ok-said.said.1) c.logged.ensures c.in_ok-said.ensures;
+      },
+    )

@@ -4,7 +4,7 @@ use Rattle.kfifo_import.proofs.reader.LogReader.close.Goals as goal
 pub returns-then-not-fits-clause-err : goal.returns-then-not-fits-clause-err
 returns-then-not-fits-clause-err c = λ text left is.
     let miss = rw (c.if-not-fits.true, c.len-found.ensures, c.row.ensures) at c.fits.ensures in
-    rw (c.from.ensures.0, c.from.ensures.1, c.front-front.ensures)
+    rw (c.with_cause.ensures.fault, c.with_cause.ensures.wrong, c.from.ensures.0, c.from.ensures.1, c.front-front.ensures)
     (refused_width c.args.self.now text left c.requires is miss.0 miss.1 miss.2, tt)
 
 pub returns-in_err-take-clause-err : goal.returns-in_err-take-clause-err

@@ -1,7 +1,7 @@
 use Rattle.std.proofs.Common.{[], ◌∙◌}
 use Rattle.csv.specs.Reading.{strip_bom}
 use Rattle.kfifo_import.proofs.Readers.{begun, handed, plain_reading, then_err, then_lines}
-use Rattle.kfifo_import.proofs.table.lines_of.Goals as goal
+use Rattle.kfifo_import.proofs.table.told_lines.Goals as goal
 
 pub returns-in_err-feed-clause-err : goal.returns-in_err-feed-clause-err
 returns-in_err-feed-clause-err c =
@@ -24,8 +24,8 @@ returns-clause-few c =
     (begun c.plain-reader.result (strip_bom text) c.without_mark.result.now c.without_mark.ensures c.plain-reader.ensures.reads) in
     let reading = plain_reading (λ held. held.items) c.feed.new.self.head c.feed.new.self text []
     (c.in_ok-feed.ensures.same.1 ∙ c.plain-reader.ensures.none) read in
-    then_lines c.finish.result _ _ c.finish.ensures.ok
-    (λ lines says. rw (c.in_ok-feed.ensures.same.0, c.plain-reader.ensures.most) at (says text reading).1)
+    then_lines c.ended.result _ _ c.ended.ensures.ok
+    (λ both says. rw (c.in_ok-feed.ensures.same.0, c.plain-reader.ensures.most) at (says text reading).1)
 
 pub returns-clause-err : goal.returns-clause-err
 returns-clause-err c =
@@ -34,5 +34,5 @@ returns-clause-err c =
     (begun c.plain-reader.result (strip_bom text) c.without_mark.result.now c.without_mark.ensures c.plain-reader.ensures.reads) in
     let reading = plain_reading (λ held. held.items) c.feed.new.self.head c.feed.new.self text []
     (c.in_ok-feed.ensures.same.1 ∙ c.plain-reader.ensures.none) read in
-    then_err c.finish.result _ _ c.finish.ensures.err
+    then_err c.ended.result _ _ c.ended.ensures.err
     (λ refusal says. rw (c.in_ok-feed.ensures.same.0, c.plain-reader.ensures.most) at (says text reading).0)

@@ -1,7 +1,7 @@
 use Rattle.std.proofs.Common.{◌≡◌, ◌≤◌, ◌-◌, ◌^◌, length, vec_len}
 use Rattle.std.specs.Io.KnownBytes.{Consumes}
 use Rattle.kfifo_judge.specs.Inputs.{AreSpaces, IsLongRecord}
-use Rattle.kfifo_judge.proofs.streams.read_record_or_log.Given as goal
+use Rattle.kfifo_judge.proofs.streams.begin_reading.Given as goal
 
 abbrev pub invariant-pieces : goal.invariant-pieces
 invariant-pieces g l = record {

@@ -7,7 +7,7 @@ use Rattle.kfifo_import.specs.Logs.{IsImportFault, calls_of, import_fault, logge
 use Rattle.kfifo_import.specs.Stamping.{AreStamped}
 use Rattle.kfifo_import.proofs.Logs.{calls_rise, refused}
 use Rattle.kfifo_import.proofs.Order.{same_fault}
-use Rattle.kfifo_import.proofs.log.log_of.Goals as goal
+use Rattle.kfifo_import.proofs.log.log_told.Goals as goal
 
 pub stamped-requires-clause-few : goal.stamped-requires-clause-few
 stamped-requires-clause-few c =
@@ -25,8 +25,8 @@ stamped-requires-clause-by_first c =
     let by = c.in_ok-calls.ensures in
     rw (c.as_slice.ensures.value ∙ by.2) (calls_rise by.0 by.1.rise)
 
-pub returns-in-Ok : goal.returns-in-Ok
-returns-in-Ok c =
+pub returns-in-Ok-clause-log : goal.returns-in-Ok-clause-log
+returns-in-Ok-clause-log c =
     let by = c.in_ok-calls.ensures in
     let made : AreStamped (calls_of by.0) c.in_ok-found.found.items = rw (c.as_slice.ensures.value ∙ by.2) at c.in_ok-found.ensures in
     record {
@@ -38,12 +38,13 @@ returns-in-Ok c =
       logged = by.3;
     }
 
-pub returns : goal.returns
-returns c =
+pub returns-in-Err-clause-log : goal.returns-in-Err-clause-log
+returns-in-Err-clause-log c =
     let by = c.in_ok-calls.ensures in
     let made : AreStamped (calls_of by.0) c.in_ok-found.found.items = rw (c.as_slice.ensures.value ∙ by.2) at c.in_ok-found.ensures in
-    let logged : c.as_slice-in-Err.result.now ≡ map logged_call by.0 = c.as_slice-in-Err.ensures.value ∙ by.3 in
-    let is : c.fault_of.result ≡ import_fault by.0 c.in-Err.fault =
-    c.fault_of.ensures ∙ (ap (λ l. fault_among l c.in-Err.fault) logged ∙ same_fault by.0 c.in-Err.fault) in
+    let logged : c.as_slice-in-Err-3.result.now ≡ map logged_call by.0 = c.as_slice-in-Err-3.ensures.value ∙ by.3 in
+    let is : c.with_cause.result.fault ≡ import_fault by.0 c.in-Err.fault =
+    c.with_cause.ensures.fault ∙ (c.from-in-Err.ensures.0 ∙ (c.fault_of.ensures ∙ (ap (λ l. fault_among l c.in-Err.fault) logged
+    ∙ same_fault by.0 c.in-Err.fault))) in
     subst (IsImportFault c.args.lines.items) (sym is)
     (refused c.args.lines.items by.0 c.in_ok-found.found.items c.in-Err.fault by.1 made c.in-Err.ensures)
