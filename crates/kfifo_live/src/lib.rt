@@ -3,6 +3,7 @@
 #![tactic(auto)]
 
 mod closing;
+mod count;
 mod dequeue;
 mod enqueue;
 mod fault;

@@ -68,6 +68,19 @@ impl Queue {
     {
         self.shape
     }
+
+    /// About how many items are in the queue: those that lie in the segments of head and tail, and k for each segment
+    /// between them, in which a call may have taken one back. Calls that run meanwhile are counted or not. It makes
+    /// 2k + 1 loads at most, and writes nothing.
+    pub fn len(&self) -> usize
+        ensures { result ≤ self.now.opened.shape.n * self.now.opened.shape.k }
+    {
+        let ring = Ring {
+            words: &self.table.shared,
+            shape: &self.shape,
+        };
+        ring.count()
+    }
 }
 
 impl Pass {

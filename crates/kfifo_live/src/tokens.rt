@@ -109,6 +109,15 @@ impl<T: Drop> TokenQueue<T> {
         self.shape.last().saturating_sub(ends.version())
     }
 
+    /// About how many tokens are in the queue: those that lie in the segments of head and tail, and k for each segment
+    /// between them, in which a call may have taken one back. Calls that run meanwhile are counted or not. It makes
+    /// 2k + 1 loads at most, and writes nothing.
+    pub fn len(&self) -> usize
+        ensures { result ≤ self.now.opened.shape.n * self.now.opened.shape.k }
+    {
+        self.ring().count()
+    }
+
     /// The words of the queue, as a ring.
     #[inline(always)]
     fn ring(&self) -> Ring<'_, T>

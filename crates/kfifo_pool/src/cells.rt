@@ -1,5 +1,5 @@
 //! The cells of a handle, and the calls that reserve, publish, receive and release them.
-ghost use Rattle.std.specs.Prelude.{◌≡◌, None, true};
+ghost use Rattle.std.specs.Prelude.{◌≡◌, ◌↔◌, None, false, true};
 ghost use Rattle.kfifo_live.specs.Calls.{IsDisturbed};
 ghost use Rattle.kfifo_live.specs.Handles.{further};
 ghost use Rattle.kfifo_live.specs.Pass.{IsPassOf, IsSamePass, PassKeepsPromise};
@@ -95,14 +95,10 @@ fn of_taken<T: Drop>(taken: Taken<Token<T>>) -> (Taken<u32>, Option<Token<T>>)
 
 impl<T: Drop> PooledHandle<T> {
     /// Whether the handle has a cell, reserved or received.
-    pub fn has_cell(&self) -> bool {
+    pub fn has_cell(&self) -> bool
+        ensures { result ≡ false ↔ (self.now.cells ≡ no_cells) }
+    {
         self.cells.reserved.is_some() || self.cells.received.is_some()
-    }
-
-    /// Whether the handle has reserved a cell.
-    #[inline(always)]
-    pub fn has_reserved(&self) -> bool {
-        self.cells.reserved.is_some()
     }
 
     /// The cell that the handle has reserved.

@@ -1,5 +1,5 @@
 //! The queue and the free tokens that no handle has.
-ghost use Rattle.std.specs.Prelude.{◌≡◌, ◌≤◌, ◌<◌, ◌%◌, ◌++◌, All, IfOk, IfSome, List, [], None, reverse, vec_capacity};
+ghost use Rattle.std.specs.Prelude.{◌≡◌, ◌≤◌, ◌<◌, ◌*◌, ◌%◌, ◌++◌, All, IfOk, IfSome, List, [], None, reverse, vec_capacity};
 ghost use Rattle.counted_slot.specs.Counting.{IsTurn, readers};
 ghost use Rattle.kfifo_live.specs.Pass.{OpenQueue};
 ghost use Rattle.kfifo_live.specs.Payloads.{TokenView};
@@ -138,6 +138,13 @@ impl<T: Drop> PooledQueue<T> {
         ensures { result ≤ self.now.opened.shape.last }
     {
         self.queue.versions_left()
+    }
+
+    /// About how many tokens are in the queue, as `TokenQueue::len` counts them.
+    pub fn len(&self) -> usize
+        ensures { result ≤ self.now.opened.shape.n * self.now.opened.shape.k }
+    {
+        self.queue.len()
     }
 
     /// The right to write to this place, if it is in this state.

@@ -55,6 +55,11 @@ impl Two {
         self.giver.reserve_cell(&self.queue)
     }
 
+    /// Whether the giver has this cell, which is reserved.
+    fn has(&self, cell: u32) -> bool {
+        self.giver.has_cell() && self.giver.reserved_cell() == Some(cell)
+    }
+
     fn publish(&mut self) -> Given<()> {
         self.giver.publish_cell(&self.queue)
     }
@@ -83,7 +88,9 @@ fn cells_come_in_order(rt: HostRuntime) -> Result<(), Fail> {
         };
         published.push(cell)?;
         assert!(rt; two.reserve() == Some(cell));
+        assert!(rt; two.has(cell));
         assert!(rt; matches!(two.publish(), Given::Done));
+        assert!(rt; !two.has(cell));
     }
     for cell in published {
         assert!(rt; two.receive() == Taken::Got(cell));

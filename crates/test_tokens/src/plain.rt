@@ -100,6 +100,11 @@ impl Round {
         self.queue.versions_left()
     }
 
+    /// How many tokens the queue has.
+    pub fn len(&self) -> usize {
+        self.queue.len()
+    }
+
     /// Puts the token that came out last. A refusal hands it back.
     pub fn put(&mut self) -> Answer {
         let Some(token) = self.spare.pop() else {

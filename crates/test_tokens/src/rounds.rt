@@ -68,6 +68,32 @@ fn come_out_once_each(rt: HostRuntime) -> Result<(), Fail> {
     Ok(())
 }
 
+/// Puts a token. Whether the queue then has so many.
+fn puts(round: &mut Round, count: usize) -> bool {
+    round.put() == Answer::Done && round.len() == count
+}
+
+/// Takes a token. Whether the queue then has so many.
+fn takes(round: &mut Round, count: usize) -> bool {
+    matches!(round.take(), Taken::Got(_)) && round.len() == count
+}
+
+/// The queue counts its tokens, in a part of a segment and over several, also where they lie round the ring.
+#[test]
+fn are_counted(rt: HostRuntime) -> Result<(), Fail> {
+    let shape = Shape::new(2, 4, MAX_VERSION)?;
+    let mut round = Round::open(rt.alloc(), shape, 8)?;
+    for _turn in 0..5 {
+        for count in 1..7 {
+            assert!(rt; puts(&mut round, count));
+        }
+        for count in [5, 4, 3, 2, 1, 0] {
+            assert!(rt; takes(&mut round, count));
+        }
+    }
+    Ok(())
+}
+
 /// Once the versions are used up each call is Worn, and the token comes back.
 #[test]
 fn come_back_from_a_worn_queue(rt: HostRuntime) -> Result<(), Fail> {
