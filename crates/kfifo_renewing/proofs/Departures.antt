@@ -18,15 +18,15 @@ module _ {T : Type 0} where
   pub leaves-later : (xs ys : List Change) (hs kept : List (HeldIn T)) → IsPrefix xs ys → LeavesGone xs hs kept → LeavesGone ys hs kept
   leaves-later xs ys [] kept p none = none
   leaves-later xs ys (h ∷ hs) kept p (inl (rest, is, l)) = inl (rest, is, leaves-later xs ys hs rest p l)
-  leaves-later xs ys (h ∷ hs) kept p (inr (left, l)) = inr (left-later xs ys h.number p left, leaves-later xs ys hs kept p l)
+  leaves-later xs ys (h ∷ hs) kept p (inr (left, free, l)) = inr (left-later xs ys h.number p left, free, leaves-later xs ys hs kept p l)
 
   pub leaves-trans : (log : List Change) (a b c : List (HeldIn T)) → LeavesGone log a b → LeavesGone log b c → LeavesGone log a c
   leaves-trans log [] b c p q = subst (λ l. LeavesGone log l c) p q
   leaves-trans log (h ∷ a) b c (inl (rest, is, p)) q = ⊎_elim
       (λ keeps. inl (keeps.0, keeps.1, leaves-trans log a rest keeps.0 p keeps.2))
-      (λ left. inr (left.0, leaves-trans log a rest c p left.1))
+      (λ left. inr (left.0, left.1, leaves-trans log a rest c p left.2))
       (subst (λ l. LeavesGone log l c) is q)
-  leaves-trans log (h ∷ a) b c (inr (left, p)) q = inr (left, leaves-trans log a b c p q)
+  leaves-trans log (h ∷ a) b c (inr (left, free, p)) q = inr (left, free, leaves-trans log a b c p q)
 
   -- those of a list and of another one behind it
   pub leaves-split : (log : List Change) (a b kept : List (HeldIn T)) → LeavesGone log (a ++ b) kept
@@ -35,22 +35,22 @@ module _ {T : Type 0} where
   leaves-split log (h ∷ a) b kept (inl (rest, is, p)) =
       let s = leaves-split log a b rest p in
       (h ∷ s.0, s.1, is ∙ ap (λ l. h ∷ l) s.2, inl (s.0, refl, s.3), s.4)
-  leaves-split log (h ∷ a) b kept (inr (left, p)) =
+  leaves-split log (h ∷ a) b kept (inr (left, free, p)) =
       let s = leaves-split log a b kept p in
-      (s.0, s.1, s.2, inr (left, s.3), s.4)
+      (s.0, s.1, s.2, inr (left, free, s.3), s.4)
 
   pub leaves-append : (log : List Change) (a b x y : List (HeldIn T)) → LeavesGone log a b → LeavesGone log x y
       → LeavesGone log (a ++ x) (b ++ y)
   leaves-append log [] b x y p q = subst (λ l. LeavesGone log x (l ++ y)) (sym p) q
   leaves-append log (h ∷ a) b x y (inl (rest, is, p)) q = inl (rest ++ y, ap (λ l. l ++ y) is, leaves-append log a rest x y p q)
-  leaves-append log (h ∷ a) b x y (inr (left, p)) q = inr (left, leaves-append log a b x y p q)
+  leaves-append log (h ∷ a) b x y (inr (left, free, p)) q = inr (left, free, leaves-append log a b x y p q)
 
   pub all-kept : (P : HeldIn T → Type 0) (log : List Change) (hs kept : List (HeldIn T)) → LeavesGone log hs kept → All P hs → All P kept
   all-kept P log [] kept none all = subst (All P) (sym none) (All-nil P)
   all-kept P log (h ∷ hs) kept (inl (rest, is, l)) all =
       let next = all-next P h hs (h ∷ hs) refl all in
       subst (All P) (sym is) (All-cons P h rest next.0 (all-kept P log hs rest l next.1))
-  all-kept P log (h ∷ hs) kept (inr (left, l)) all = all-kept P log hs kept l (all-next P h hs (h ∷ hs) refl all).1
+  all-kept P log (h ∷ hs) kept (inr (left, free, l)) all = all-kept P log hs kept l (all-next P h hs (h ∷ hs) refl all).1
 
   -- a new generation is new after an earlier one too, and as more of the history is seen
   pub new-later : (n m : ℕ) (xs ys : List Change) (h : HeldIn T) → n ≤ m → IsPrefix xs ys → IsNew m xs h → IsNew n ys h

@@ -11,7 +11,7 @@ use Rattle.std.proofs.lemmas.Bool.{cases_lt}
 use Rattle.std.proofs.lemmas.Bool.Decides.{nat_tests}
 use mathlib.Core.List.{IsPrefix}
 use Rattle.logbook.specs.Pages.{Book, Cell}
-use Rattle.kfifo_pool.specs.Pooled.{Pooled}
+use Rattle.kfifo_pool.specs.Pooled.{Pooled, no_cells}
 use Rattle.kfifo_live.specs.Pass.{IsPassOf}
 use Rattle.kfifo_live.specs.declared.view.Opening.{Opening}
 use Rattle.kfifo_renewing.specs.declared.change.Change.{Change}
@@ -375,22 +375,22 @@ module _ {T : Type 0} where
   part-at log (q ∷ ps) (suc i) p all at = part-at log ps i p (all-next (IsPart log) q ps (q ∷ ps) refl all).1 at
 
   less-at : (log : List Change) (ps : List (PartView T)) (i : ℕ) (p : PartView T) → slice_get ps i ≡ Some p → HasLeft log p.number
-      → LeavesGone log (held_by ps) (held_by (take i ps ++ drop (i + 1) ps))
-  less-at log [] i p at left = absurd cc
-  less-at log (q ∷ ps) zero p at left =
+      → p.handle.cells ≡ no_cells → LeavesGone log (held_by ps) (held_by (take i ps ++ drop (i + 1) ps))
+  less-at log [] i p at left none = absurd cc
+  less-at log (q ∷ ps) zero p at left none =
       let same : q ≡ p = cc in
-      inr (subst (λ (x : PartView T). HasLeft log x.number) (sym same) left, leaves-refl log (held_by ps))
-  less-at log (q ∷ ps) (suc i) p at left = inl (
+      inr (subst (λ (x : PartView T). HasLeft log x.number) (sym same) left, ap (λ (x : PartView T). x.handle.cells) same ∙ none, leaves-refl log (held_by ps))
+  less-at log (q ∷ ps) (suc i) p at left none = inl (
     held_by (take i ps ++ drop (i + 1) ps),
     ap (λ n. held_by (q ∷ (take i ps ++ drop n (q ∷ ps)))) (let e : suc i + 1 ≡ suc (i + 1) = omega arith in e),
-    less-at log ps i p at left,
+    less-at log ps i p at left none,
   )
 
   -- the handles of parts but one, whose generation has left its place
   pub held-less : (log : List Change) (ps qs : List (PartView T)) (i : ℕ) (p : PartView T) → qs ≡ take i ps ++ drop (i + 1) ps
-      → slice_get ps i ≡ Some p → HasLeft log p.number → LeavesGone log (held_by ps) (held_by qs)
-  held-less log ps qs i p is at left =
-      subst (λ l. LeavesGone log (held_by ps) (held_by l)) (sym is) (less-at log ps i p at left)
+      → slice_get ps i ≡ Some p → HasLeft log p.number → p.handle.cells ≡ no_cells → LeavesGone log (held_by ps) (held_by qs)
+  held-less log ps qs i p is at left none =
+      subst (λ l. LeavesGone log (held_by ps) (held_by l)) (sym is) (less-at log ps i p at left none)
 
   -- a generation that is not among these, though it comes before this one, has gone if it was the newest
   pub others-gone : (xs ys : List Change) (ps : List (PartView T)) (number n : ℕ) → IsPrefix xs ys → HasRisen ys → WasNewest xs number

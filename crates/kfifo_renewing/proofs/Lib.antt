@@ -9,3 +9,4 @@ pub mod Giving
 pub mod Closing
 pub mod Departures
 pub mod Refusing
+pub mod CellCalls

@@ -4,14 +4,14 @@ use Rattle.kfifo_live.specs.declared.payload.Taken.{Taken}
 use Rattle.kfifo_pool.specs.Pooled.{Pooled}
 use Rattle.kfifo_live.specs.declared.payload.Taken.TheVariants as K
 use Rattle.kfifo_renewing.specs.declared.change.Change.{Change}
-use Rattle.kfifo_renewing.specs.Renewing.{Follows, Generations, HasAll, IsLater, LooksAgain, TakesFirst, TakesFromOldest, TakesNewest, TakesThere}
+use Rattle.kfifo_renewing.specs.Renewing.{Follows, Generations, HasAll, IsLater, LooksAgain, TakesBy, TakesFirst, TakesNewest, TakesThere}
 use Rattle.kfifo_renewing.specs.Renewing.{with_newest, with_seen}
 use Rattle.kfifo_renewing.proofs.Following.{Looked, both-before, follows-trans, later-newest, later-refl, later-trans, looked-follows, looked-newest}
 
-module _ {T : Type 0} where
+module _ {T G : Type 0} (R : Taken G → Pooled T → Pooled T → Type 0) where
   -- a call by a handle that had looked before it
-  pub takes-from-after : (answer : Taken T) (old mid new : Generations T) → Follows old mid → TakesFromOldest answer mid new
-      → TakesFromOldest answer old new
+  pub takes-from-after : (answer : Taken G) (old mid new : Generations T) → Follows old mid → TakesBy R answer mid new
+      → TakesBy R answer old new
   takes-from-after answer old mid new before (here, follows, inl takes) = (
     here,
     follows-trans old mid here before follows,
@@ -24,9 +24,9 @@ module _ {T : Type 0} where
   )
 
   -- a take by a handle with one generation, after a look that found no later one
-  pub took-here : (answer : Taken T) (g new : Generations T) (found : ℕ) (log : List Change) → Looked found log g → found ≡ 0
+  pub took-here : (answer : Taken G) (g new : Generations T) (found : ℕ) (log : List Change) → Looked found log g → found ≡ 0
       → HasAll (with_seen g log) → g.older ≡ [] → IsLater (with_seen g log) new → new.number ≡ g.number → new.older ≡ []
-      → TakesNewest answer (with_seen g log) new → TakesFromOldest answer g new
+      → TakesNewest R answer (with_seen g log) new → TakesBy R answer g new
   took-here answer g new found log looked none all alone later number older takes = (
     with_seen g log,
     looked-follows found log g looked,
@@ -38,7 +38,7 @@ module _ {T : Type 0} where
         number = number;
         found = None;
         looked = [];
-        older = subst (λ hs. TakesFirst None hs []) (sym alone) (refl, refl);
+        older = subst (λ hs. TakesFirst R None hs []) (sym alone) (refl, refl);
         left = older;
         newest = inr (refl, (with_seen g log, later-refl (with_seen g log), refl, takes));
       },
@@ -46,18 +46,18 @@ module _ {T : Type 0} where
   )
 
   -- it found something, or lost each round
-  pub took-some : (answer : Taken T) (g : Generations T) (found : ℕ) (log : List Change) (h : Pooled T) → Looked found log g → found ≡ 0
-      → HasAll (with_seen g log) → g.older ≡ [] → TakesThere answer g.newest h → answer ≢ K.Empty → TakesFromOldest answer g (with_newest (with_seen g log) h)
+  pub took-some : (answer : Taken G) (g : Generations T) (found : ℕ) (log : List Change) (h : Pooled T) → Looked found log g → found ≡ 0
+      → HasAll (with_seen g log) → g.older ≡ [] → TakesThere R answer g.newest h → answer ≢ K.Empty → TakesBy R answer g (with_newest (with_seen g log) h)
   took-some answer g found log h looked none all alone takes some =
       took-here answer g (with_newest (with_seen g log) h) found log looked none all alone
       (later-newest (with_seen g log) (with_newest (with_seen g log) h) h refl) refl alone
-      (record { taken = answer; takes = takes; then = inl (some, refl, refl) })
+      (record { taken = answer; did = takes; then = inl (some, refl, refl) })
 
   -- it came to something else, and the handle may have looked again
-  pub took-other : (taken answer : Taken T) (g new : Generations T) (found : ℕ) (log : List Change) (h : Pooled T)
-      → Looked found log g → found ≡ 0 → HasAll (with_seen g log) → g.older ≡ [] → TakesThere taken g.newest h
+  pub took-other : (taken answer : Taken G) (g new : Generations T) (found : ℕ) (log : List Change) (h : Pooled T)
+      → Looked found log g → found ≡ 0 → HasAll (with_seen g log) → g.older ≡ [] → TakesThere R taken g.newest h
       → new ≡ with_seen (with_newest (with_seen g log) h) new.seen → IsLater (with_newest (with_seen g log) h) new
-      → LooksAgain taken answer (with_newest (with_seen g log) h) new → TakesFromOldest answer g new
+      → LooksAgain taken answer (with_newest (with_seen g log) h) new → TakesBy R answer g new
   took-other taken answer g new found log h looked none all alone takes same later again =
       let mid = with_newest (with_seen g log) h in
       took-here answer g new found log looked none all alone
@@ -65,6 +65,6 @@ module _ {T : Type 0} where
       (ap (λ (v : Generations T). v.number) same) (ap (λ (v : Generations T). v.older) same ∙ alone)
       (record {
         taken = taken;
-        takes = subst (λ (x : Pooled T). TakesThere taken g.newest x) (sym (ap (λ (v : Generations T). v.newest) same)) takes;
+        did = subst (λ (x : Pooled T). TakesThere R taken g.newest x) (sym (ap (λ (v : Generations T). v.newest) same)) takes;
         then = again;
       })

@@ -1,6 +1,7 @@
 -- Lists: what holds of all their elements, and lists of threads.
 use Rattle.std.proofs.Common.{◌≡◌, ◌==◌, ◌+◌, ℕ, zero, suc, not, List, [], ◌∷◌, ◌++◌, All, take, drop, length, sym, ap}
-use Rattle.std.proofs.Common.{arith, ◌∙◌, subst}
+use Rattle.std.proofs.Common.{Bool, arith, ◌∙◌, subst}
+use Rattle.kfifo_renewing.specs.Joining.{PartView}
 use Rattle.std.proofs.lemmas.List.{append-nil, drop_all, take_all}
 use Rattle.std.proofs.lemmas.List.Elements.{All-append, All-drop, All-take, filter-append}
 use Rattle.kfifo_live.specs.Schedule.{count_up}
@@ -33,3 +34,10 @@ count-more first (suc n) =
 pub others-more : (own n : ℕ) → other_threads own (n + 1) ≡ other_threads own n ++ without own (n ∷ [])
 others-more own n = ap (without own) (count-more 0 n) ∙ filter-append (λ thread. not (thread == own)) (count_up 0 n) ((0 + n) ∷ [])
     ∙ ap (λ k. other_threads own n ++ without own (k ∷ [])) (let e : 0 + n ≡ n = omega arith in e)
+
+-- what is so of all parts is so of those behind the first
+pub bare_rest : {T : Type 0} (bare : Bool) (parts rest : List (PartView T)) (first : PartView T) → parts ≡ first ∷ rest
+    → All (λ (p : PartView T). p.handle.held.pass.pass.opened.bare ≡ bare) parts
+    → All (λ (p : PartView T). p.handle.held.pass.pass.opened.bare ≡ bare) rest
+bare_rest {T} bare parts rest first is all i d inside =
+    subst (All (λ (p : PartView T). p.handle.held.pass.pass.opened.bare ≡ bare)) is all (suc i) d (omega (arith, inside))

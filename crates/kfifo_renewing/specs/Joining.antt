@@ -3,12 +3,11 @@ use Rattle.std.specs.Prelude.{◌≡◌, ◌⊎◌, ◌<◌, ℕ, List, [], ◌�
 use Rattle.std.specs.List.{Contains}
 use Rattle.atomic_table.specs.Seated.{TableId}
 use Rattle.logbook.specs.Pages.{Book}
-use Rattle.kfifo_live.specs.declared.payload.Taken.TheVariants as K
 use Rattle.kfifo_pool.specs.Pooled.{Pooled}
 use Rattle.kfifo_live.specs.Pass.{HasNoEvent, IsPassOf, IsSamePass}
 use Rattle.kfifo_live.specs.declared.view.Opening.{Opening}
 use Rattle.kfifo_renewing.specs.History.{HasLeft, HasRisen, IsGone, IsMade, IsPlaced, WasNewest, place_count}
-use Rattle.kfifo_renewing.specs.Renewing.{HeldIn, IsOpenedAs, Numbered, TakesThere}
+use Rattle.kfifo_renewing.specs.Renewing.{FindsEmpty, HeldIn, IsOpenedAs, Numbered}
 use Rattle.kfifo_renewing.specs.declared.change.Change.{Change}
 
 -- a part in a generation: the handle there, and the number and the place of the generation
@@ -20,7 +19,7 @@ pub record PartView (T : Type 0) : Type 0 where
 -- a take of a payload of this type found the queue with this table empty
 abbrev pub FoundEmpty : Type 0 → TableId → Type 0
 FoundEmpty T table = (before : Pooled T) × (after : Pooled T) × (before.held.pass.pass.table ≡ table)
-    × TakesThere K.Empty before after
+    × FindsEmpty before after
 
 -- a take of a payload of this type found the generation with this number empty
 abbrev pub WasFoundEmpty : Type 0 → List Change → ℕ → Type 0

@@ -1,6 +1,6 @@
 -- The generations of a renewing queue, as a handle has joined them, and what its calls do to each.
 use Rattle.std.specs.Prelude.{◌≡◌, ◌≢◌, ◌⊎◌, ◌<◌, ◌≤◌, ◌==◌, ◌+◌, ◌-◌, ◌*◌, ℕ, not, false, true, List, [], ◌∷◌, ◌++◌}
-use Rattle.std.specs.Prelude.{All, filter, length, map, Option, Some, None}
+use Rattle.std.specs.Prelude.{All, Bool, filter, length, map, MatchResult, Option, Result, Some, None, Vec}
 use Rattle.std.specs.List.{Contains}
 use mathlib.Core.List.{IsPrefix}
 use Rattle.logbook.specs.Pages.{Book}
@@ -10,19 +10,22 @@ use Rattle.kfifo_live.specs.declared.payload.Given.{Given}
 use Rattle.kfifo_live.specs.declared.payload.Given.TheVariants as G
 use Rattle.kfifo_live.specs.declared.payload.Taken.{Taken}
 use Rattle.kfifo_live.specs.declared.payload.Taken.TheVariants as K
+use Rattle.kfifo_model.specs.declared.calls.Answer.TheVariants as A
 use Rattle.kfifo_model.specs.declared.calls.TheConstants.{MAX_THREADS}
 use Rattle.kfifo_live.specs.Calls.{IsDisturbed}
-use Rattle.kfifo_live.specs.Capacities.{HasRoom, segments_for, tokens_for}
+use Rattle.kfifo_live.specs.Capacities.{HasRoom, segments_for, sizes_fault, tokens_for}
 use Rattle.kfifo_live.specs.Handles.{further}
 use Rattle.kfifo_live.specs.Pass.{HasNoEvent, IsPassOf, IsSamePass, OpenQueue, PassKeepsPromise}
 use Rattle.kfifo_live.specs.Payloads.{PayCloses}
+use Rattle.kfifo_live.specs.Refusals.{IsOutOf}
 use Rattle.kfifo_live.specs.Schedule.{count_up}
-use Rattle.kfifo_live.specs.Tokens.{token_opening}
+use Rattle.kfifo_live.specs.Tokens.{Dequeues, token_opening}
+use Rattle.kfifo_live.specs.declared.handle.TheConstants.{MAX_TURNS}
 use Rattle.kfifo_live.specs.declared.payload.opening.TheConstants.{MOST_TOKENS}
 use Rattle.kfifo_live.specs.declared.tokens.sizes.Sizes.{Sizes}
 use Rattle.kfifo_live.specs.declared.tokens.sizes.SizesFault.{SizesFault}
 use Rattle.kfifo_live.specs.declared.view.Opening.{Opening}
-use Rattle.kfifo_pool.specs.Pooled.{GivesOne, Pooled, ReceivesOne}
+use Rattle.kfifo_pool.specs.Pooled.{GivesOne, Pooled, ReceivesOne, no_cells}
 use Rattle.kfifo_renewing.specs.History.{HasLeft, IsGone, IsMade, NewestWas, WasNewest, newest_of, place_count}
 use Rattle.kfifo_renewing.specs.History.{sight_of}
 use Rattle.kfifo_renewing.specs.declared.change.Change.{Change}
@@ -30,6 +33,7 @@ use Rattle.kfifo_renewing.specs.declared.change.Sight.{Sight}
 use Rattle.kfifo_renewing.specs.declared.fault.CapacityFault.{CapacityFault}
 use Rattle.kfifo_renewing.specs.declared.fault.CapacityFault.TheVariants as F
 use Rattle.kfifo_renewing.specs.declared.places.Lineage.{Lineage}
+use Rattle.kfifo_renewing.specs.declared.queue.Renewals.{Renewals}
 
 -- the shape of the same sizes whose enqueues hold again
 abbrev pub holding_again : Shape → Shape
@@ -49,16 +53,20 @@ holding_again s = record {
   few_probes = s.few_probes;
 }
 
--- what each generation of a queue of these sizes is opened with
-abbrev pub opening_of : Sizes → Opening
-opening_of s = token_opening false s.shape s.threads s.tokens
+-- what each generation of a queue of these sizes is opened with, bare or with payloads
+abbrev pub opening_with : Bool → Sizes → Opening
+opening_with bare s = token_opening bare s.shape s.threads s.tokens
+
+-- and in this queue
+abbrev pub opening_in : Lineage → Opening
+opening_in l = opening_with l.bare l.sizes
 
 -- the sizes whose enqueues hold again
 abbrev pub sizes_again : Sizes → Sizes
 sizes_again s = record { shape = holding_again s.shape; threads = s.threads; tokens = s.tokens }
 
 abbrev pub opening_again : Sizes → Opening
-opening_again s = opening_of (sizes_again s)
+opening_again s = opening_with false (sizes_again s)
 
 -- How many generations a queue for so many threads may have at the same time because it grows, at most: it has places
 -- for so many, and for those that its threads may keep
@@ -74,6 +82,25 @@ RefusesFor F.Memory found = found ≡ None
 pub record AreInRange (s : Sizes) : Type 0 where
   pub threads : (0 < s.threads) × (s.threads ≤ MAX_THREADS)
   pub tokens : (0 < s.tokens) × (s.threads * s.tokens ≤ MOST_TOKENS)
+
+-- the sizes are in range, and so is to how many generations the queue may grow
+abbrev pub IsPlan : Sizes → Renewals → Type 0
+IsPlan s r = AreInRange s × (1 ≤ r.generations) × (r.generations ≤ generations_for s.threads)
+
+-- what an opening is refused for, the first of these
+abbrev pub HasBadReserve : Sizes → Renewals → Type 0
+HasBadReserve s r = s.shape.last ≤ r.reserve
+
+abbrev pub HasBadThreads : Sizes → Renewals → Type 0
+HasBadThreads s r = (r.reserve < s.shape.last) × IsOutOf MAX_THREADS s.threads
+
+abbrev pub HasBadTokens : Sizes → Renewals → Type 0
+HasBadTokens s r = (r.reserve < s.shape.last) × (1 ≤ s.threads) × (s.threads ≤ MAX_THREADS)
+    × ((s.tokens ≡ 0) ⊎ (MOST_TOKENS < s.threads * s.tokens))
+
+abbrev pub HasBadGenerations : ℕ → Sizes → Renewals → Type 0
+HasBadGenerations most s r = (r.reserve < s.shape.last) × AreInRange s × (most ≡ generations_for s.threads)
+    × IsOutOf most r.generations
 
 -- these threads but one
 abbrev pub without : ℕ → List ℕ → List ℕ
@@ -93,7 +120,7 @@ pub record Numbered : Type 0 where
 
 -- it is opened with the sizes of this queue, and has its number in the history of this queue
 abbrev pub IsOfLineage : Lineage → Numbered → Type 0
-IsOfLineage l g = (g.queue.opened ≡ opening_of l.sizes) × (g.book ≡ l.history.book)
+IsOfLineage l g = (g.queue.opened ≡ opening_in l) × (g.book ≡ l.history.book)
 
 -- the handle of a thread in a generation, and the number of that
 pub record HeldIn (T : Type 0) : Type 0 where
@@ -190,12 +217,12 @@ module _ {T : Type 0} where
   IsBehind old new = (number : ℕ) × NewestWas (sight new) number old.seen new.seen × (number ≢ new.number)
       × IsNumbered new
 
-  -- Of these handles in generations, some are kept as they were, in their order. The generations of the others have
-  -- left their places by this history
+  -- Of these handles in generations, some are kept as they were, in their order. The others have no cell, and their
+  -- generations have left their places by this history
   abbrev pub LeavesGone : List Change → List (HeldIn T) → List (HeldIn T) → Type 0
   LeavesGone log [] kept = kept ≡ []
   LeavesGone log (h ∷ hs) kept = ((rest : List (HeldIn T)) × (kept ≡ h ∷ rest) × LeavesGone log hs rest)
-      ⊎ (HasLeft log h.number × LeavesGone log hs kept)
+      ⊎ (HasLeft log h.number × (h.handle.cells ≡ no_cells) × LeavesGone log hs kept)
 
   -- a handle in a generation that comes after this number, in which its thread has begun no call
   abbrev pub IsNew : ℕ → List Change → HeldIn T → Type 0
@@ -224,18 +251,26 @@ module _ {T : Type 0} where
   HaveOne o handles = (q : OpenQueue) × (book : Book) × (q.opened ≡ o) × All (HasOne q book) handles
       × (map (λ g. g.thread) handles ≡ count_up 0 o.threads)
 
-  -- a queue was opened with room for so many payloads, with the sizes for that capacity: these are its handles
-  pub record OpensFor (k capacity threads : ℕ) (handles : List (Generations T)) : Type 0 where
+  -- a queue was opened with room for so many values, bare or with payloads, with the sizes for that capacity and versions
+  -- up to `last`: these are its handles
+  pub record OpensFor (bare : Bool) (k capacity last threads : ℕ) (handles : List (Generations T)) : Type 0 where
     pub sizes : Sizes
     pub k_is : sizes.shape.k ≡ k
     pub segments_are : sizes.shape.n ≡ segments_for (threads * tokens_for capacity threads) k
-    pub last_is : sizes.shape.last ≡ MAX_VERSION
+    pub last_is : sizes.shape.last ≡ last
     pub probes_are : sizes.shape.probes ≡ k
     pub threads_are : sizes.threads ≡ threads
     pub tokens_are : sizes.tokens ≡ tokens_for capacity threads
     pub room : HasRoom capacity sizes
-    pub have_one : HaveOne (opening_again sizes) handles
+    pub have_one : HaveOne (opening_with bare (sizes_again sizes)) handles
     pub count : length handles ≡ threads
+
+  -- a queue was opened for this capacity, or refused: there are no sizes, or there is no memory
+  abbrev pub OpensOrRefuses : {A : Type 0} → Bool → ℕ → ℕ → ℕ → Result (Vec (Generations T) A) CapacityFault → Type 0
+  OpensOrRefuses bare k capacity threads result = MatchResult result
+      (λ handles. (sizes_fault k capacity threads MAX_VERSION ≡ None)
+      × OpensFor bare k capacity MAX_VERSION threads handles.items)
+      (λ fault. RefusesFor fault (sizes_fault k capacity threads MAX_VERSION))
 
   -- one give, to the newest generation. The others stay as they are
   pub record GivesThere (payload : T) (answer : Given T) (old new : Generations T) : Type 0 where
@@ -276,10 +311,17 @@ module _ {T : Type 0} where
   GivesToNewest payload answer old new = (first : Given T) × (here : Generations T)
       × TriesToGive payload first old here × GoesOn first answer here new
 
+  -- a take found the generation of this handle empty
+  abbrev pub FindsEmpty : Pooled T → Pooled T → Type 0
+  FindsEmpty old new = IsSamePass old.held.pass.pass new.held.pass.pass
+      × Dequeues old.held.take_start MAX_TURNS A.Empty old.held.pass new.held.pass
+
+-- In what follows `takes` is what a take did in one generation, by what it returned
+module _ {T G : Type 0} (takes : Taken G → Pooled T → Pooled T → Type 0) where
   -- one take from a generation, whose promise is then kept
-  pub record TakesThere (answer : Taken T) (old new : Pooled T) : Type 0 where
+  pub record TakesThere (answer : Taken G) (old new : Pooled T) : Type 0 where
     pub same : IsSamePass old.held.pass.pass new.held.pass.pass
-    pub takes : ReceivesOne answer old new
+    pub did : takes answer old new
     pub busy : answer ≡ K.Busy → IsDisturbed old.held.pass.pass new.held.pass.pass
     pub starts : (new.held.take_start ≡ further old.held.pass.pass old.held.take_start)
         × (new.held.put_start ≡ old.held.put_start)
@@ -287,46 +329,53 @@ module _ {T : Type 0} where
 
   -- The takes from these generations, one after the other, up to the first that is not found empty, and what that one
   -- returned. The others stay as they are. None: each was found empty
-  abbrev pub TakesFirst : Option (Taken T) → List (HeldIn T) → List (HeldIn T) → Type 0
+  abbrev pub TakesFirst : Option (Taken G) → List (HeldIn T) → List (HeldIn T) → Type 0
   TakesFirst answer [] new = (answer ≡ None) × (new ≡ [])
   TakesFirst answer (h ∷ hs) new = (after : HeldIn T) × (afters : List (HeldIn T)) × (new ≡ after ∷ afters)
       × (after.number ≡ h.number)
       × ((TakesThere K.Empty h.handle after.handle × TakesFirst answer hs afters)
-      ⊎ ((taken : Taken T) × (answer ≡ Some taken) × (taken ≢ K.Empty) × TakesThere taken h.handle after.handle
+      ⊎ ((taken : Taken G) × (answer ≡ Some taken) × (taken ≢ K.Empty) × TakesThere taken h.handle after.handle
       × (afters ≡ hs)))
 
+module _ {T G : Type 0} where
   -- What is returned of a take, after which the handle is `new`. Empty: at a look after it, by a pass that had seen it,
   -- the generation was still the newest of the queue. Where another one was, Busy stands for Empty
-  abbrev pub LooksAgain : Taken T → Taken T → Generations T → Generations T → Type 0
+  abbrev pub LooksAgain : Taken G → Taken G → Generations T → Generations T → Type 0
   LooksAgain taken answer old new = ((taken ≢ K.Empty) × (answer ≡ taken) × (new.seen ≡ old.seen))
       ⊎ ((taken ≡ K.Empty) × (((answer ≡ K.Empty) × IsAtNewest old new) ⊎ ((answer ≡ K.Busy) × IsBehind old new)))
 
+module _ {T G : Type 0} (takes : Taken G → Pooled T → Pooled T → Type 0) where
   -- A take from the newest generation. Empty: it found that empty
-  pub record TakesNewest (answer : Taken T) (old new : Generations T) : Type 0 where
-    pub taken : Taken T
-    pub takes : TakesThere taken old.newest new.newest
+  pub record TakesNewest (answer : Taken G) (old new : Generations T) : Type 0 where
+    pub taken : Taken G
+    pub did : TakesThere takes taken old.newest new.newest
     pub then : LooksAgain taken answer old new
 
-  -- A take from the oldest generation that has a payload: from the newest where each older one was found empty. The
+  -- A take from the oldest generation that has something: from the newest where each older one was found empty. The
   -- handle then leaves some that have left their places
-  pub record TakesOldest (answer : Taken T) (old new : Generations T) : Type 0 where
+  pub record TakesOldest (answer : Taken G) (old new : Generations T) : Type 0 where
     pub later : IsLater old new
     pub number : new.number ≡ old.number
-    pub found : Option (Taken T)
+    pub found : Option (Taken G)
     pub looked : List (HeldIn T)
-    pub older : TakesFirst found old.older looked
+    pub older : TakesFirst takes found old.older looked
     pub left : LeavesGone new.seen looked new.older
     pub newest : ((found ≡ Some answer) × (new.newest ≡ old.newest))
         ⊎ ((found ≡ None)
         × ((mid : Generations T) × IsLater old mid × (mid.newest ≡ old.newest) × TakesNewest answer mid new))
 
-  -- What `take` did: the handle follows others to the generation that was the newest of the queue at a look, so it is
+  -- What a take did: the handle follows others to the generation that was the newest of the queue at a look, so it is
   -- in each that has not gone, and takes. Busy: it has taken from none, and at a look another one than its newest was
   -- the newest
-  abbrev pub TakesFromOldest : Taken T → Generations T → Generations T → Type 0
-  TakesFromOldest answer old new = (here : Generations T) × Follows old here
+  abbrev pub TakesBy : Taken G → Generations T → Generations T → Type 0
+  TakesBy answer old new = (here : Generations T) × Follows old here
       × ((IsAtNewest old here × HasAll here × TakesOldest answer here new)
       ⊎ (IsBehind old here × (answer ≡ K.Busy) × (new ≡ here)))
+
+module _ {T : Type 0} where
+  -- what `take` did
+  abbrev pub TakesFromOldest : Taken T → Generations T → Generations T → Type 0
+  TakesFromOldest = TakesBy ReceivesOne
 
   -- What a close of a generation returned: by this handle, and the handles of all other threads
   pub record WereLeft (h : Pooled T) (payloads : List T) : Type 0 where
@@ -342,6 +391,12 @@ module _ {T : Type 0} where
   ClosesEach [] payloads = payloads ≡ []
   ClosesEach (h ∷ hs) payloads = (first : List T) × (rest : List T) × (payloads ≡ first ++ rest)
       × WereLeft h.handle first × ClosesEach hs rest
+
+  -- What a close has by its last handle: the handle followed others to the generation that was the newest of the queue
+  -- at a look, so it is in each that has not gone: in these, the oldest first
+  abbrev pub Gathers : Generations T → List (HeldIn T) → Type 0
+  Gathers last all = (here : Generations T) × Follows last here × IsAtNewest last here × HasAll here
+      × (all ≡ all_of here)
 
   -- What a close returned by its last handle: the handle followed others to the generation that was the newest of the
   -- queue at a look, so it is in each that has not gone, and each of its generations was closed, the oldest first

@@ -1,11 +1,12 @@
 //! A generation: a queue of payloads, with the handles that wait in it for their threads.
-ghost use Rattle.std.specs.Prelude.{◌≡◌, ◌<◌, ◌≤◌, ◌+◌, ◌++◌, [], ◌∷◌, All, IfOk, IfSome, false, length, map, true};
+ghost use Rattle.std.specs.Prelude.{◌≡◌, ◌<◌, ◌≤◌, ◌+◌, ◌++◌, [], ◌∷◌, All, IfOk, IfSome, length, map, true};
 ghost use Rattle.std.specs.Prelude.{vec_capacity};
 ghost use Rattle.kfifo_live.specs.Pass.{HasNoEvent, IsPassOf};
 ghost use Rattle.kfifo_renewing.specs.History.{IsMade};
 ghost use Rattle.kfifo_renewing.specs.Renewing.{Numbered, other_threads, without};
 
 use crate::history::{History, Next};
+use crate::memory::CellMemory;
 use counted_slot::{Counted, FREE, Fits, TAKEN};
 use kfifo_exclusive::Exclusive;
 use kfifo_live::CloseFault;
@@ -62,6 +63,8 @@ pub(crate) struct Generation<T: Drop> {
     history: History,
     waiting: Vec<Counted<Option<Waiting<T>>>>,
     givers: AtomicU64,
+    /// The memory of its cells.
+    memory: CellMemory,
 }
 
 impl<T: Drop> Model for Generation<T> {
@@ -75,8 +78,7 @@ impl<T: Drop> Model for Generation<T> {
     } };
 
     ghost invariant = { λ g. All (λ queue. queue ≡ g.queue) g.waiting.items
-        × IsMade g.history.log g.next.number g.queue.table × (g.next.book ≡ g.history.book)
-        × (g.queue.opened.bare ≡ false) };
+        × IsMade g.history.log g.next.number g.queue.table × (g.next.book ≡ g.history.book) };
 }
 
 /// A place for each of these handles, in which it waits, in their order.
@@ -142,10 +144,10 @@ impl<T: Drop> Generation<T> {
         handles: Vec<PooledHandle<T>>,
         next: Next,
         history: History,
+        memory: CellMemory,
     ) -> Result<Generation<T>, AllocError>
         requires handles { All (λ h. IsPassOf queue h.held.pass.pass × HasNoEvent h.held.pass.pass) handles.items }
         requires number { IsMade history.log next.number queue.table × (next.book ≡ history.book) }
-        requires payloads { queue.opened.bare ≡ false }
         ensures { IfOk result (λ g. (g.queue ≡ queue) × (g.number ≡ next.number) × (g.book ≡ history.book)) }
     {
         let waiting = seat_all(alloc, &queue, handles)?;
@@ -155,16 +157,22 @@ impl<T: Drop> Generation<T> {
             history,
             waiting,
             givers: AtomicU64::new(0),
+            memory,
         })
     }
 
     /// The queue.
     #[inline(always)]
     pub(crate) fn queue(&self) -> &PooledQueue<T>
-        ensures queue { result.now ≡ self.now.queue }
-        ensures payloads { result.now.opened.bare ≡ false }
+        ensures { result.now ≡ self.now.queue }
     {
         &self.queue
+    }
+
+    /// The memory of its cells.
+    #[inline(always)]
+    pub(crate) fn memory(&self) -> &CellMemory {
+        &self.memory
     }
 
     /// The number.
@@ -192,8 +200,7 @@ impl<T: Drop> Generation<T> {
 
     /// The handle of this thread, unless its thread has it already, or has given it back.
     pub(crate) fn take_handle(&self, thread: u32) -> Option<PooledHandle<T>>
-        ensures of { IfSome result (λ h. IsPassOf self.now.queue h.held.pass.pass × HasNoEvent h.held.pass.pass) }
-        ensures payloads { IfSome result (λ h. h.held.pass.pass.opened.bare ≡ false) }
+        ensures { IfSome result (λ h. IsPassOf self.now.queue h.held.pass.pass × HasNoEvent h.held.pass.pass) }
     {
         let place = self.waiting.get(thread as usize)?;
         let (found, claim) = place.turn(FREE, TAKEN);
@@ -243,18 +250,24 @@ impl<T: Drop> Generation<T> {
         self.givers.load(SeqCst) != 0
     }
 
-    /// The queue, and the handles of all its threads but this one, in their order, if all of them wait here.
+    /// The queue, the handles of all its threads but this one, in their order, if all of them wait here, and the memory
+    /// of its cells.
     pub(crate) fn into_parts(
         self,
         alloc: Global,
         threads: u32,
         own: u32,
-    ) -> Result<(PooledQueue<T>, Vec<PooledHandle<T>>), CloseFault>
-        ensures queue { IfOk result (λ r. (r.0 ≡ self.queue) × (r.0.opened.bare ≡ false)) }
+    ) -> Result<(PooledQueue<T>, Vec<PooledHandle<T>>, CellMemory), CloseFault>
+        ensures queue { IfOk result (λ r. r.0 ≡ self.queue) }
         ensures of { IfOk result (λ r. All (λ h. IsPassOf self.queue h.held.pass.pass) r.1.items) }
         ensures others { IfOk result (λ r. map (λ h. h.held.pass.pass.thread) r.1.items ≡ other_threads own threads) }
     {
-        let Generation { queue, waiting, .. } = self;
+        let Generation {
+            queue,
+            waiting,
+            memory,
+            ..
+        } = self;
         let mut others = Vec::with_capacity(alloc, threads as usize)?;
         let mut thread = 0;
         for place in waiting {
@@ -267,6 +280,6 @@ impl<T: Drop> Generation<T> {
         if thread < threads {
             return Err(CloseFault::MissingPass);
         }
-        Ok((queue, others))
+        Ok((queue, others, memory))
     }
 }

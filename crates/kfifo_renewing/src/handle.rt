@@ -1,4 +1,4 @@
-//! Calls of a renewing queue.
+//! The handle of a queue that does not wear out: how it follows others, and how it takes.
 ghost use Rattle.std.specs.Prelude.{◌≡◌, ◌<◌, ◌≤◌, ◌+◌, ◌↔◌, true, List, [], All, IfOk, IfSome, MatchBool, length};
 ghost use Rattle.std.specs.Prelude.{vec_capacity, vec_len};
 ghost use Rattle.std.specs.Ptr.{as_ptr};
@@ -8,19 +8,20 @@ ghost use Rattle.kfifo_renewing.specs.History.{HasRisen, WasNewest, place_count}
 ghost use Rattle.kfifo_renewing.specs.Joining.{AreAmong, AreSameParts, HasJoined, IsPart, IsUnused, held_by};
 ghost use Rattle.kfifo_renewing.specs.Renewing.{Follows, Generations, GivesToNewest, GoesOn, HasAll, HeldIn};
 ghost use Rattle.kfifo_renewing.specs.Renewing.{IsAtNewest, IsBehind, IsLater, LooksAgain};
-ghost use Rattle.kfifo_renewing.specs.Renewing.{IsOpenedAs, LeavesGone, TakesFirst, TakesFromOldest, TakesNewest};
-ghost use Rattle.kfifo_renewing.specs.Renewing.{TakesOldest, TriesAgain, TriesToGive, all_of, opening_of, with_older};
+ghost use Rattle.kfifo_renewing.specs.Renewing.{IsOpenedAs, LeavesGone, TakesBy, TakesFirst, TakesFromOldest, TakesNewest};
+ghost use Rattle.kfifo_renewing.specs.Renewing.{TakesOldest, TriesAgain, TriesToGive, all_of, opening_in, with_older};
 ghost use Rattle.kfifo_renewing.specs.Renewing.{with_seen};
 
 use crate::generation::Generation;
 use crate::history::History;
 use crate::joined::Joined;
+use crate::kind::{Kind, Payloads};
 use crate::label::PLACES;
 use crate::leaving::Leaving;
 use crate::queue::Shared;
 use kfifo_live::{Given, Taken};
 use std::alloc::{AllocError, Global};
-use std::marker::Model;
+use std::marker::{Model, PhantomData};
 use std::mem::replace;
 use std::sync::Arc;
 
@@ -32,7 +33,7 @@ const TRIES: u32 = 64;
 /// ever.
 const LOOKS: u32 = 4 * PLACES;
 
-/// What a caller gives and takes payloads with, in a queue that does not wear out.
+/// What a caller gives and takes values with, in a queue that does not wear out: payloads, or cells.
 ///
 /// A handle that is dropped leaves the queue: nobody waits for it, and what it gave is still taken.
 ///
@@ -49,26 +50,27 @@ const LOOKS: u32 = 4 * PLACES;
 /// Clauses see it as the generations that it has joined, its handle in each, and what it has seen of the history of the
 /// queue: which generations were made, and which became the newest.
 #[derive(Drop)]
-pub struct RenewingHandle<T: Drop> {
-    shared: Arc<Shared<T>, Global>,
-    history: History,
-    newest: Leaving<Joined<T>>,
+pub struct RenewingHandle<T: Drop, K: Kind<T> = Payloads> {
+    pub(crate) shared: Arc<Shared<T>, Global>,
+    pub(crate) history: History,
+    pub(crate) newest: Leaving<Joined<T>>,
     /// The same generation. The handle counts among those that give to it, unless that says that there is a later one.
-    generation: Arc<Generation<T>, Global>,
+    pub(crate) generation: Arc<Generation<T>, Global>,
     /// The generations before it that may still have payloads, the oldest first.
-    older: Vec<Leaving<Joined<T>>>,
+    pub(crate) older: Vec<Leaving<Joined<T>>>,
     /// Room for those that the handle is about to join, so that it needs no memory to follow others. Else empty.
     spare: Vec<Leaving<Joined<T>>>,
     thread: u32,
-    gives_left: u64,
+    pub(crate) gives_left: u64,
     gives_between_looks: u64,
+    kind: PhantomData<K>,
 }
 
-impl<T: Drop> Model for RenewingHandle<T> {
+impl<T: Drop, K: Kind<T>> Model for RenewingHandle<T, K> {
     ghost Value = { Generations T };
 
     ghost view = { λ h. record {
-      opened = opening_of h.shared.value.sizes;
+      opened = opening_in h.shared.value;
       thread = h.thread;
       book = h.history.book;
       seen = h.history.log;
@@ -77,11 +79,11 @@ impl<T: Drop> Model for RenewingHandle<T> {
       number = h.generation.value.number;
     } };
 
-    ghost invariant = { λ h. HasJoined (opening_of h.shared.value.sizes) h.shared.value.history.book h.history.book
-        h.history.log h.generation.value h.newest h.older.items };
+    ghost invariant = { λ h. HasJoined (opening_in h.shared.value) h.shared.value.history.book h.history.book
+        h.history.log h.generation.value h.newest h.older.items × (h.shared.value.bare ≡ K.bare) };
 }
 
-impl<T: Drop> RenewingHandle<T> {
+impl<T: Drop, K: Kind<T>> RenewingHandle<T, K> {
     /// The handle of this thread, which has joined the first generation.
     pub(crate) fn new(
         alloc: Global,
@@ -90,14 +92,15 @@ impl<T: Drop> RenewingHandle<T> {
         generation: Arc<Generation<T>, Global>,
         mut newest: Leaving<Joined<T>>,
         thread: u32,
-    ) -> Result<RenewingHandle<T>, AllocError>
-        requires opened { IsOpenedAs (opening_of shared.value.sizes) newest.handle }
+    ) -> Result<RenewingHandle<T, K>, AllocError>
+        requires opened { IsOpenedAs (opening_in shared.value) newest.handle }
+        requires bare { shared.value.bare ≡ K.bare }
         requires books { (history.book ≡ shared.value.history.book) × (generation.value.book ≡ history.book) }
         requires first { (generation.value.number ≡ 0) × (newest.number ≡ 0) }
         requires part { IsPart history.log newest }
         requires of { IsPassOf generation.value.queue newest.handle.held.pass.pass }
         requires risen { HasRisen history.log }
-        ensures same { IfOk result (λ h. (h.opened ≡ opening_of shared.value.sizes) × (h.thread ≡ thread)
+        ensures same { IfOk result (λ h. (h.opened ≡ opening_in shared.value) × (h.thread ≡ thread)
             × (h.book ≡ history.book)) }
         ensures one { IfOk result (λ h. (h.older ≡ []) × (h.newest ≡ newest.handle) × (h.number ≡ 0)) }
     {
@@ -115,17 +118,19 @@ impl<T: Drop> RenewingHandle<T> {
             thread,
             gives_left: gives_between_looks,
             gives_between_looks,
+            kind: PhantomData,
         })
     }
 
     /// The number of the generation that the handle joined last.
-    fn number(&self) -> u32
+    pub(crate) fn number(&self) -> u32
         ensures { result ≡ self.now.number }
     {
         self.generation.number()
     }
 
     /// Whether another generation than the one that the handle joined last is the newest of the queue.
+    #[inline(always)]
     fn is_behind(&mut self) -> bool
         ensures same { self.new ≡ with_seen self.old self.new.seen }
         ensures later { IsLater self.old self.new }
@@ -315,6 +320,10 @@ impl<T: Drop> RenewingHandle<T> {
         let mut index = 0;
         while index < self.older.len() {
             let joined = &self.older[index];
+            if joined.has_cell() {
+                index += 1;
+                continue;
+            }
             if self
                 .shared
                 .places()
@@ -391,7 +400,8 @@ impl<T: Drop> RenewingHandle<T> {
     }
 
     /// Follows others if they have opened a generation. Returns false where it did not come to that.
-    fn keep_up(&mut self) -> bool
+    #[inline(always)]
+    pub(crate) fn keep_up(&mut self) -> bool
         ensures follows { Follows self.old self.new }
         ensures newest { MatchBool result (IsAtNewest self.old self.new) (IsBehind self.old self.new) }
         ensures all { HasAll self.new }
@@ -403,14 +413,39 @@ impl<T: Drop> RenewingHandle<T> {
     }
 
     /// Opens the generation after the newest one, unless another handle has done so, or memory or room is missing.
-    fn renew(&self) {
+    pub(crate) fn renew(&self) {
         self.shared
-            .renew(&self.generation, &self.newest, self.history.again());
+            .renew::<K>(&self.generation, &self.newest, self.history.again());
+    }
+
+    /// Counts a give, and looks at the versions that are left at each so many of them.
+    #[inline(always)]
+    pub(crate) fn count_give(&mut self)
+        ensures { self.new ≡ self.old }
+    {
+        self.gives_left = self.gives_left.wrapping_sub(1);
+        if self.gives_left == 0 {
+            self.look_at_versions();
+        }
+    }
+
+    /// Opens the generation after the newest one, which has no room, where the queue has fewer than it may have.
+    pub(crate) fn open_more(&mut self)
+        ensures same { self.new ≡ with_older (with_seen self.old self.new.seen) self.new.older }
+        ensures later { IsLater self.old self.new }
+        ensures older { LeavesGone self.new.seen self.old.older self.new.older }
+    {
+        self.leave_gone();
+        if self.older.len() < self.shared.most_older() {
+            self.renew();
+        }
     }
 
     /// Looks at the versions that the newest generation has left, once the handle has made so many gives, and opens the
     /// next one where they are too few.
-    fn look_at_versions(&mut self)
+    #[cold]
+    #[inline(never)]
+    pub(crate) fn look_at_versions(&mut self)
         ensures { self.new ≡ self.old }
     {
         if self.gives_left != 0 {
@@ -422,130 +457,12 @@ impl<T: Drop> RenewingHandle<T> {
         }
     }
 
-    /// Gives to the newest generation, once it has followed others to it.
-    fn try_to_give(&mut self, payload: T) -> Given<T>
-        ensures { TriesToGive payload result self.old self.new }
-    {
-        if !self.keep_up() {
-            return Given::Busy(payload);
-        }
-        self.newest.give(self.generation.queue(), payload)
-    }
-
-    /// Gives a payload that this generation has refused, the one that the handle joined last, where there is a next one
-    /// to that.
-    fn try_next(&mut self, refused: u32, payload: T) -> Given<T>
-        requires { refused ≡ self.old.number }
-        ensures { TriesAgain payload result self.old self.new }
-    {
-        let given = self.try_to_give(payload);
-        if self.number() == refused {
-            return given;
-        }
-        match given {
-            // Others have used up the next one meanwhile, so there may be one behind it.
-            Given::Worn(back) => Given::Busy(back),
-            given => given,
-        }
-    }
-
-    /// Gives a payload for which the newest generation had no version left, to the next one.
-    fn give_to_next(&mut self, payload: T) -> Given<T>
-        ensures { TriesAgain payload result self.old self.new }
-    {
-        let worn = self.number();
-        self.renew();
-        self.try_next(worn, payload)
-    }
-
-    /// Gives a payload for which the newest generation had no room, to the next one, which it opens where the queue has
-    /// fewer generations than it may have.
-    fn give_to_more(&mut self, payload: T) -> Given<T>
-        ensures { TriesAgain payload result self.old self.new }
-    {
-        let full = self.number();
-        self.leave_gone();
-        if self.older.len() < self.shared.most_older() {
-            self.renew();
-        }
-        self.try_next(full, payload)
-    }
-
-    /// What a give returns whose first try came to this.
-    // Out of line, it leaves a give that was done a single test.
-    #[cold]
-    #[inline(never)]
-    fn go_on(&mut self, first: Given<T>) -> Given<T>
-        ensures { GoesOn first result self.old self.new }
-    {
-        match first {
-            Given::Worn(back) => self.give_to_next(back),
-            Given::Full(back) => {
-                if self.shared.grows() {
-                    return self.give_to_more(back);
-                }
-                Given::Full(back)
-            }
-            Given::NoToken(back) => {
-                if self.shared.grows() {
-                    return self.give_to_more(back);
-                }
-                Given::NoToken(back)
-            }
-            Given::Busy(back) => Given::Busy(back),
-            Given::Done => Given::Done,
-        }
-    }
-
-    /// The same as `give`, where the handle is to look at the versions that are left, or has others to follow.
-    // Out of line, it leaves the other calls without a call before the give, and so with more registers.
-    #[cold]
-    #[inline(never)]
-    fn give_late(&mut self, payload: T) -> Given<T>
-        ensures { GivesToNewest payload result self.old self.new }
-    {
-        self.look_at_versions();
-        let first = self.try_to_give(payload);
-        self.go_on(first)
-    }
-
-    /// Gives a payload to the newest generation, as `PooledHandle::give` does.
-    ///
-    /// The handle first follows others that have opened a newer one, so its generation was the newest of the queue at a
-    /// moment of the call. Each 4,096th call looks at the versions that the generation has left, and opens the next
-    /// one where they are fewer than the reserve. So does a call that comes to a generation with no version left, which
-    /// then tries once more. Where the queue may grow, a call that finds no room does the same.
-    ///
-    /// Returns Done, or NoToken, Full, Busy or Worn with the payload. Busy comes where others changed the queue during
-    /// the call. Worn comes only where the generation had no version left in both tries and was still the newest:
-    /// memory is missing for the next one, old generations have all places, or the queue does not renew. It never waits
-    /// or locks, and allocates only where it opens a generation, or where more of them were opened during the call than
-    /// the queue has places.
-    #[inline(always)]
-    pub fn give(&mut self, payload: T) -> Given<T>
-        ensures { GivesToNewest payload result self.old self.new }
-    {
-        self.gives_left = self.gives_left.wrapping_sub(1);
-        if self.gives_left == 0 {
-            return self.give_late(payload);
-        }
-        // One reference for the look and the call: else the compiler loads the pointer again after the look.
-        let generation: &Generation<T> = &self.generation;
-        if generation.next().look(&self.newest, &mut self.history) != 0 {
-            return self.give_late(payload);
-        }
-        match self.newest.give(generation.queue(), payload) {
-            Given::Done => Given::Done,
-            first => self.go_on(first),
-        }
-    }
-
     /// Takes from the first of the older generations that is not found empty. Returns None where each was. The handle
     /// leaves those that are over.
-    fn take_older(&mut self) -> Option<Taken<T>>
+    fn take_older(&mut self) -> Option<Taken<K::Got>>
         ensures same { self.new ≡ with_older (with_seen self.old self.new.seen) self.new.older }
         ensures later { IsLater self.old self.new }
-        ensures takes { (looked : List (HeldIn T)) × TakesFirst result self.old.older looked
+        ensures takes { (looked : List (HeldIn T)) × TakesFirst K.takes result self.old.older looked
             × LeavesGone self.new.seen looked self.new.older }
     {
         let mut found_empty = false;
@@ -560,11 +477,11 @@ impl<T: Drop> RenewingHandle<T> {
     }
 
     /// Takes from the first of the older generations that is not found empty. Says whether it found one empty.
-    fn take_first(&mut self, found_empty: &mut bool) -> Option<Taken<T>>
+    fn take_first(&mut self, found_empty: &mut bool) -> Option<Taken<K::Got>>
         ensures same { self.new ≡ with_older self.old self.new.older }
-        ensures takes { TakesFirst result self.old.older self.new.older }
+        ensures takes { TakesFirst K.takes result self.old.older self.new.older }
     {
-        take_first(self.older.as_mut_slice(), found_empty)
+        take_first::<T, K>(self.older.as_mut_slice(), found_empty)
     }
 
     /// Empties the places of the older generations that are over.
@@ -581,7 +498,7 @@ impl<T: Drop> RenewingHandle<T> {
     /// newest by now.
     #[cold]
     #[inline(never)]
-    fn look_again(&mut self, taken: Taken<T>) -> Taken<T>
+    fn look_again(&mut self, taken: Taken<K::Got>) -> Taken<K::Got>
         ensures same { self.new ≡ with_seen self.old self.new.seen }
         ensures later { IsLater self.old self.new }
         ensures looks { LooksAgain taken result self.old self.new }
@@ -596,18 +513,18 @@ impl<T: Drop> RenewingHandle<T> {
     }
 
     /// Takes from the newest generation, where each older one is empty.
-    fn take_newest(&mut self) -> Taken<T>
+    fn take_newest(&mut self) -> Taken<K::Got>
         ensures later { IsLater self.old self.new }
         ensures same { (self.new.older ≡ self.old.older) × (self.new.number ≡ self.old.number) }
-        ensures takes { TakesNewest result self.old self.new }
+        ensures takes { TakesNewest K.takes result self.old self.new }
     {
-        let taken = self.newest.take(self.generation.queue());
+        let taken = self.newest.take::<K>(&self.generation);
         self.look_again(taken)
     }
 
     /// Takes from the oldest generation that is not empty.
-    fn take_oldest(&mut self) -> Taken<T>
-        ensures { TakesOldest result self.old self.new }
+    fn take_oldest(&mut self) -> Taken<K::Got>
+        ensures { TakesOldest K.takes result self.old self.new }
     {
         match self.take_older() {
             Some(taken) => taken,
@@ -618,8 +535,8 @@ impl<T: Drop> RenewingHandle<T> {
     /// The same as `take`, where the handle has older generations, or others to follow.
     #[cold]
     #[inline(never)]
-    fn take_late(&mut self) -> Taken<T>
-        ensures { TakesFromOldest result self.old self.new }
+    fn take_late(&mut self) -> Taken<K::Got>
+        ensures { TakesBy K.takes result self.old self.new }
     {
         if !self.keep_up() {
             return Taken::Busy;
@@ -627,19 +544,10 @@ impl<T: Drop> RenewingHandle<T> {
         self.take_oldest()
     }
 
-    /// Takes one of the k oldest payloads of the oldest generation that has one, as `PooledHandle::receive` does.
-    ///
-    /// The handle first follows others that have opened a newer generation. It looks into the older generations first,
-    /// and into the next one only where it found one empty. It leaves an older one that it found empty when nobody gave
-    /// to it any more.
-    ///
-    /// Returns Got with the payload; Empty where it found each generation empty that had been the newest and had not
-    /// gone, and the newest was still the newest after that; Busy where others changed the queue during the call, or
-    /// opened a generation; or Worn where a generation used up all its versions, its reserve too. It never waits or
-    /// locks, and allocates only where more generations were opened during the call than the queue has places.
+    /// Takes from the oldest generation that is not found empty, once the handle has followed others.
     #[inline(always)]
-    pub fn take(&mut self) -> Taken<T>
-        ensures { TakesFromOldest result self.old self.new }
+    pub(crate) fn take_in_order(&mut self) -> Taken<K::Got>
+        ensures { TakesBy K.takes result self.old self.new }
     {
         let generation: &Generation<T> = &self.generation;
         let later = generation.next().look(&self.newest, &mut self.history);
@@ -648,8 +556,8 @@ impl<T: Drop> RenewingHandle<T> {
             return self.take_late();
         }
         // What is rare goes out of line, and leaves one test of what was taken.
-        match self.newest.take(generation.queue()) {
-            Taken::Got(payload) => Taken::Got(payload),
+        match self.newest.take::<K>(generation) {
+            Taken::Got(got) => Taken::Got(got),
             taken => self.look_again(taken),
         }
     }
@@ -670,9 +578,25 @@ impl<T: Drop> RenewingHandle<T> {
         self.older.len().checked_add(1)
     }
 
+    /// About how many values are in the queue: the sum over its generations, as `PooledQueue::len` counts each of them.
+    ///
+    /// The handle first follows others that have opened a newer generation. Calls that run meanwhile are counted or not.
+    /// It makes 2k + 1 loads at most for each generation, of which there is mostly one.
+    pub fn len(&mut self) -> usize
+        ensures { Follows self.old self.new }
+    {
+        // Where others open new ones all the time, those are counted that the handle has come to.
+        let _ = self.keep_up();
+        let mut count = self.generation.queue().len();
+        for part in self.older.iter() {
+            count = count.saturating_add(part.generation().queue().len());
+        }
+        count
+    }
+
     /// Whether the generation to which this handle gives is that to which another handle of its queue gives, as far as
     /// they have followed others.
-    pub fn is_beside(&self, other: &RenewingHandle<T>) -> bool
+    pub fn is_beside(&self, other: &RenewingHandle<T, K>) -> bool
         requires { other.now.book ≡ self.now.book }
         ensures number { result ≡ true ↔ (self.now.number ≡ other.now.number) }
         ensures same { self.now.number ≡ other.now.number
@@ -694,9 +618,9 @@ impl<T: Drop> RenewingHandle<T> {
     pub(crate) fn into_joined(
         self,
     ) -> Result<(Arc<Shared<T>, Global>, Vec<Leaving<Joined<T>>>), AllocError>
-        ensures shared { IfOk result (λ r. opening_of r.0.value.sizes ≡ self.opened) }
+        ensures shared { IfOk result (λ r. (opening_in r.0.value ≡ self.opened) × (r.0.value.bare ≡ K.bare)) }
         ensures joined { IfOk result (λ r. held_by r.1.items ≡ all_of self) }
-        ensures of { IfOk result (λ r. All (λ p. IsOpenedAs (opening_of r.0.value.sizes) p.handle) r.1.items) }
+        ensures of { IfOk result (λ r. All (λ p. IsOpenedAs (opening_in r.0.value) p.handle) r.1.items) }
     {
         let Self {
             shared,
@@ -739,21 +663,22 @@ fn address_of<T: Drop>(shared: &Shared<T>) -> *mut u8
 
 /// Takes from the first of these generations that is not empty. Says whether it found one empty: that one is over if
 /// nobody gave to it any more before that.
-fn take_first<T: Drop>(
+fn take_first<T: Drop, K: Kind<T>>(
     generations: &mut [Leaving<Joined<T>>],
     found_empty: &mut bool,
-) -> Option<Taken<T>>
+) -> Option<Taken<K::Got>>
+    requires { All (λ p. p.handle.held.pass.pass.opened.bare ≡ K.bare) generations.old }
     ensures same { AreSameParts generations.old generations.new }
-    ensures takes { TakesFirst result (held_by generations.old) (held_by generations.new) }
+    ensures takes { TakesFirst K.takes result (held_by generations.old) (held_by generations.new) }
 {
     let (first, rest) = generations.split_first_mut()?;
     // This look comes before the take: a payload that is given after the take would be lost with the generation.
     let has_givers = first.generation().has_givers();
-    match first.take_here() {
+    match first.take_here::<K>() {
         Taken::Empty => {
             first.set_over(!has_givers);
             *found_empty = true;
-            take_first(rest, found_empty)
+            take_first::<T, K>(rest, found_empty)
         }
         taken => Some(taken),
     }

@@ -1,11 +1,12 @@
 //! A generation that a handle has joined.
-ghost use Rattle.std.specs.Prelude.{◌≡◌, IfSome, false, true};
+ghost use Rattle.std.specs.Prelude.{◌≡◌, ◌↔◌, IfSome, false, true};
 ghost use Rattle.kfifo_live.specs.Pass.{HasNoEvent, IsPassOf};
-ghost use Rattle.kfifo_pool.specs.Pooled.{GivesOne};
+ghost use Rattle.kfifo_pool.specs.Pooled.{GivesOne, no_cells};
 ghost use Rattle.kfifo_renewing.specs.Joining.{FoundEmpty, IsSamePart, PartView};
-ghost use Rattle.kfifo_renewing.specs.Renewing.{TakesThere};
+ghost use Rattle.kfifo_renewing.specs.Renewing.{FindsEmpty, TakesThere};
 
 use crate::generation::Generation;
+use crate::kind::Kind;
 use crate::leaving::{Leave, Leaving};
 use kfifo_live::{Given, Taken};
 use kfifo_pool::{PooledHandle, PooledQueue};
@@ -24,8 +25,8 @@ pub(crate) struct Joined<T: Drop> {
     thread: u32,
     /// Whether the handle counts among those that give to the generation.
     gives: bool,
-    generation: Arc<Generation<T>, Global>,
-    handle: PooledHandle<T>,
+    pub(crate) generation: Arc<Generation<T>, Global>,
+    pub(crate) handle: PooledHandle<T>,
 }
 
 impl<T: Drop> Model for Joined<T> {
@@ -38,7 +39,6 @@ impl<T: Drop> Model for Joined<T> {
     } };
 
     ghost invariant = { λ j. IsPassOf j.generation.value.queue j.handle.held.pass.pass
-        × (j.handle.held.pass.pass.opened.bare ≡ false)
         × (j.is_over ≡ true → FoundEmpty T j.handle.held.pass.pass.table) };
 }
 
@@ -65,8 +65,18 @@ impl<T: Drop> Joined<T> {
         Some(Leaving { part })
     }
 
-    /// Counts the handle no longer among those that give to the generation.
+    /// Counts the handle no longer among those that give to the generation, unless it has a cell reserved there.
     fn stop_giving(&mut self)
+        ensures { self.new ≡ self.old }
+    {
+        // Else the generation could be taken for over before the cell is published.
+        if self.handle.reserved_cell().is_none() {
+            self.end_giving();
+        }
+    }
+
+    /// Counts the handle no longer among those that give to the generation.
+    fn end_giving(&mut self)
         ensures { self.new ≡ self.old }
     {
         if self.gives {
@@ -92,7 +102,7 @@ impl<T: Drop> Joined<T> {
 impl<T: Drop> Leave for Joined<T> {
     /// Leaves the generation for good: its handle is given back.
     fn leave(mut self) {
-        self.stop_giving();
+        self.end_giving();
         let thread = self.thread;
         let (generation, handle) = self.into_parts();
         generation.give_back(thread, handle, false);
@@ -105,10 +115,17 @@ impl<T: Drop> Leaving<Joined<T>> {
         requires { HasNoEvent self.handle.held.pass.pass }
     {
         let mut part = self.into_part();
-        part.stop_giving();
+        part.end_giving();
         let thread = part.thread;
         let (generation, handle) = part.into_parts();
         generation.give_back(thread, handle, true);
+    }
+
+    /// Whether the handle has a cell of the generation.
+    pub(crate) fn has_cell(&self) -> bool
+        ensures { result ≡ false ↔ (self.now.handle.cells ≡ no_cells) }
+    {
+        self.part.handle.has_cell()
     }
 
     /// The place of the generation.
@@ -165,28 +182,42 @@ impl<T: Drop> Leaving<Joined<T>> {
     /// Gives to the generation, whose queue this is, as `PooledHandle::give`.
     #[inline(always)]
     pub(crate) fn give(&mut self, queue: &PooledQueue<T>, payload: T) -> Given<T>
-        requires { IsPassOf queue.now self.old.handle.held.pass.pass }
+        requires of { IsPassOf queue.now self.old.handle.held.pass.pass }
+        requires payloads { queue.now.opened.bare ≡ false }
         ensures same { IsSamePart self.old self.new }
         ensures gives { GivesOne payload result self.old.handle self.new.handle }
     {
         self.part.handle.give(queue, payload)
     }
 
-    /// Takes from the generation, whose queue this is, as `PooledHandle::receive`.
+    /// Takes from this generation, which is its own.
     #[inline(always)]
-    pub(crate) fn take(&mut self, queue: &PooledQueue<T>) -> Taken<T>
-        requires { IsPassOf queue.now self.old.handle.held.pass.pass }
+    pub(crate) fn take<K: Kind<T>>(&mut self, generation: &Generation<T>) -> Taken<K::Got>
+        requires of { IsPassOf generation.now.queue self.old.handle.held.pass.pass }
+        requires bare { generation.now.queue.opened.bare ≡ K.bare }
         ensures same { IsSamePart self.old self.new }
-        ensures takes { TakesThere result self.old.handle self.new.handle }
+        ensures takes { TakesThere K.takes result self.old.handle self.new.handle }
+        ensures empty { result ≡ Taken.Empty → FindsEmpty self.old.handle self.new.handle }
     {
-        self.part.handle.receive(queue)
+        K::take(
+            &mut self.part.handle,
+            generation.queue(),
+            generation.memory(),
+        )
     }
 
     /// Takes from the generation.
-    pub(crate) fn take_here(&mut self) -> Taken<T>
+    pub(crate) fn take_here<K: Kind<T>>(&mut self) -> Taken<K::Got>
+        requires { self.old.handle.held.pass.pass.opened.bare ≡ K.bare }
         ensures same { IsSamePart self.old self.new }
-        ensures takes { TakesThere result self.old.handle self.new.handle }
+        ensures takes { TakesThere K.takes result self.old.handle self.new.handle }
+        ensures empty { result ≡ Taken.Empty → FindsEmpty self.old.handle self.new.handle }
     {
-        self.part.handle.receive(self.part.generation.queue())
+        let generation: &Generation<T> = &self.part.generation;
+        K::take(
+            &mut self.part.handle,
+            generation.queue(),
+            generation.memory(),
+        )
     }
 }

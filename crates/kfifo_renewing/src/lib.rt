@@ -2,18 +2,28 @@
 //! before it while that has versions left.
 #![tactic(auto)]
 
+mod cells;
 mod change;
 mod fault;
 mod generation;
 mod handle;
 mod history;
 mod joined;
+mod kind;
 mod label;
 mod leaving;
+mod left;
+mod memory;
+mod payloads;
 mod places;
 mod queue;
 
 pub use fault::{CapacityFault, RenewFault};
 pub use handle::RenewingHandle;
 pub use kfifo_exclusive::Exclusive;
-pub use queue::{DEFAULT_RESERVE, NO_RENEWAL, Renewals, close, open, open_with};
+pub use kind::{Cells, Kind, Payloads};
+pub use left::{LeftCells, close_cells};
+pub use memory::{CellAt, CellLayout};
+pub use queue::{
+    DEFAULT_RESERVE, NO_RENEWAL, Renewals, close, open, open_cells, open_cells_with, open_with,
+};

@@ -34,6 +34,8 @@ const TRIES: u32 = 1_024;
 #[derive(Drop)]
 pub struct Lineage {
     pub sizes: Sizes,
+    /// Whether each is bare.
+    pub bare: bool,
     pub history: History,
 }
 

@@ -1,6 +1,6 @@
 //! What the handles of a renewing queue share, its opening and its end.
 ghost use Rattle.std.specs.Prelude.{◌≡◌, ◌<◌, ◌≤◌, ◌*◌, ◌++◌, ◌⊎◌, ◌↔◌, All, IfOk, IfSome, IsErrOf, ℕ, List, [], ◌∷◌};
-ghost use Rattle.std.specs.Prelude.{MatchResult, None, length, map};
+ghost use Rattle.std.specs.Prelude.{◌+◌, false, length, map, true};
 ghost use Rattle.kfifo_live.specs.Capacities.{sizes_fault};
 ghost use Rattle.kfifo_live.specs.Pass.{HasNoEvent, IsPassOf};
 ghost use Rattle.kfifo_live.specs.Refusals.{IsOutOf};
@@ -15,9 +15,10 @@ ghost use Rattle.kfifo_renewing.specs.declared.fault.RenewFault.TheVariants.{Res
 ghost use Rattle.kfifo_renewing.specs.declared.places.Lineage.{Lineage};
 ghost use Rattle.kfifo_renewing.specs.Joining.{held_by};
 ghost use Rattle.kfifo_renewing.specs.Renewing.{AreInRange, ClosesAll, ClosesEach, Generations, HasOne, HaveOne};
-ghost use Rattle.kfifo_renewing.specs.Renewing.{IsOfLineage};
+ghost use Rattle.kfifo_renewing.specs.Renewing.{Gathers, HasBadGenerations, HasBadReserve, HasBadThreads};
+ghost use Rattle.kfifo_renewing.specs.Renewing.{HasBadTokens, IsOfLineage, IsPlan, OpensOrRefuses};
 ghost use Rattle.kfifo_renewing.specs.Renewing.{IsOpenedAs, OpensFor, RefusesFor, WereLeft, generations_for};
-ghost use Rattle.kfifo_renewing.specs.Renewing.{opening_again, opening_of};
+ghost use Rattle.kfifo_renewing.specs.Renewing.{opening_again, opening_with};
 ghost use Rattle.kfifo_renewing.specs.Renewing.{sizes_again};
 ghost use Rattle.kfifo_renewing.specs.declared.queue.TheConstants.{DEFAULT_RESERVE};
 
@@ -26,8 +27,10 @@ use crate::generation::Generation;
 use crate::handle::RenewingHandle;
 use crate::history::{History, Numbers};
 use crate::joined::Joined;
+use crate::kind::{Cells, Kind};
 use crate::label::{Label, PLACES};
 use crate::leaving::Leaving;
+use crate::memory::{CellLayout, CellMemory};
 use crate::places::{Lineage, Places};
 use kfifo_live::{CloseFault, MOST_TOKENS, OpenFault, Sizes};
 use kfifo_model::MAX_THREADS;
@@ -56,6 +59,7 @@ pub(crate) struct Shared<T: Drop> {
     reserve: u64,
     /// How many generations the queue may have before its newest one while it grows.
     most_older: u32,
+    layout: CellLayout,
     alloc: Global,
 }
 
@@ -65,19 +69,6 @@ impl<T: Drop> Model for Shared<T> {
     ghost view = { λ s. s.places };
 
     ghost invariant = { λ s. (s.numbers ≡ s.places.history.book) × AreInRange s.places.sizes };
-}
-
-/// A queue as a generation is opened, with the handles of all threads.
-fn open_queue<T: Drop>(
-    alloc: Global,
-    sizes: &Sizes,
-) -> Result<(PooledQueue<T>, Vec<PooledHandle<T>>), AllocError>
-    requires { AreInRange sizes.now }
-    ensures opened { IfOk result (λ r. r.0.opened ≡ opening_of sizes.now) }
-    ensures of { IfOk result (λ r. All (λ h. IsPassOf r.0 h.held.pass.pass × HasNoEvent h.held.pass.pass) r.1.items) }
-{
-    let opened = PooledQueue::open_with_payloads(alloc, *sizes)?;
-    Ok(opened)
 }
 
 impl<T: Drop> Shared<T> {
@@ -132,21 +123,26 @@ impl<T: Drop> Shared<T> {
     }
 
     /// A new generation, with a number of its own, and the pen that may write its word.
-    fn make(&self, history: &mut History) -> Option<(Generation<T>, Pen)>
-        requires { history.old.book ≡ self.now.history.book }
+    fn make<K: Kind<T>>(&self, history: &mut History) -> Option<(Generation<T>, Pen)>
+        requires book { history.old.book ≡ self.now.history.book }
+        requires bare { self.now.bare ≡ K.bare }
         ensures book { history.new.book ≡ history.old.book }
         ensures of { IfSome result (λ r. IsOfLineage self.now r.0) }
         ensures pen { IfSome result (λ r. (r.1.book ≡ r.0.book) × (r.1.nib ≡ nib may_write (key_of r.0.number) 0)) }
     {
-        let (queue, handles) = open_queue(self.alloc, &self.places.lineage.sizes).ok()?;
+        let sizes = &self.places.lineage.sizes;
+        let Ok((queue, handles, memory)) = open_parts::<T, K>(self.alloc, sizes, self.layout) else {
+            return None;
+        };
         let (next, pen) = self.numbers.number(&queue, history)?;
-        let generation = Generation::new(self.alloc, queue, handles, next, history.again()).ok()?;
+        let seen = history.again();
+        let generation = Generation::new(self.alloc, queue, handles, next, seen, memory).ok()?;
         Some((generation, pen))
     }
 
     /// Opens the generation after this one, which was the newest, by the handle with this part. It does not where
     /// another handle has opened that, memory or room is missing, or the queue opens none.
-    pub(crate) fn renew(
+    pub(crate) fn renew<K: Kind<T>>(
         &self,
         newest: &Generation<T>,
         part: &Leaving<Joined<T>>,
@@ -154,13 +150,14 @@ impl<T: Drop> Shared<T> {
     )
         requires books { (newest.now.book ≡ self.now.history.book) × (history.book ≡ self.now.history.book) }
         requires newest { WasNewest history.log newest.now.number }
+        requires bare { self.now.bare ≡ K.bare }
     {
         let seen = history.again();
         let is_newest = newest.next().look(part, &mut history) == 0;
         if !(self.renews() || self.grows()) || !is_newest || !self.places.has_room() {
             return;
         }
-        let Some((generation, mut pen)) = self.make(&mut history) else {
+        let Some((generation, mut pen)) = self.make::<K>(&mut history) else {
             return;
         };
         history.learn(&seen);
@@ -225,26 +222,56 @@ fn most_generations(threads: u32) -> u32
     PLACES - 1 - 2 * threads
 }
 
+/// What a queue is opened with, once it was tested.
+#[derive(Clone, Copy)]
+struct Plan {
+    sizes: Sizes,
+    layout: CellLayout,
+    renewals: Renewals,
+}
+
+/// What a generation is made of: its queue, the handles of all threads, and the memory of its cells.
+fn open_parts<T: Drop, K: Kind<T>>(
+    alloc: Global,
+    sizes: &Sizes,
+    layout: CellLayout,
+) -> Result<(PooledQueue<T>, Vec<PooledHandle<T>>, CellMemory), AllocError>
+    requires { AreInRange sizes.now }
+    ensures opened { IfOk result (λ r. r.0.opened ≡ opening_with K.bare sizes.now) }
+    ensures of { IfOk result (λ r. All (λ h. IsPassOf r.0 h.held.pass.pass × HasNoEvent h.held.pass.pass) r.1.items) }
+    ensures room { IfOk result
+        (λ r. sizes.now.threads * sizes.now.tokens * layout.size + layout.alignment ≤ 8 * r.2) }
+{
+    let memory = CellMemory::new(alloc, layout, sizes.threads * sizes.tokens)?;
+    let (queue, handles) = K::open(alloc, sizes)?;
+    Ok((queue, handles, memory))
+}
+
 /// The state that the handles share, with a first generation, the place of that, and what was seen of the history.
 fn share<T: Drop>(
     alloc: Global,
     generation: &Arc<Generation<T>, Global>,
     numbers: Numbers,
     labels: Vec<Label>,
-    sizes: Sizes,
-    renewals: Renewals,
+    bare: bool,
+    plan: Plan,
 ) -> Result<(Arc<Shared<T>, Global>, usize, History), AllocError>
-    requires sizes { AreInRange sizes }
-    requires generations { (1 ≤ renewals.generations) × (renewals.generations ≤ generations_for sizes.threads) }
-    requires of { generation.now.value.queue.opened ≡ opening_of sizes }
+    requires plan { IsPlan plan.sizes plan.renewals }
+    requires of { generation.now.value.queue.opened ≡ opening_with bare plan.sizes }
     requires numbers { (numbers ≡ generation.now.value.book) × AreLabels numbers labels.items }
-    ensures shared { IfOk result (λ r. (r.0.value.sizes ≡ sizes)
+    ensures shared { IfOk result (λ r. (r.0.value.sizes ≡ plan.sizes) × (r.0.value.bare ≡ bare)
         × (r.0.value.history.book ≡ generation.now.value.book)) }
     ensures there { IfOk result (λ r. (r.2.book ≡ generation.now.value.book) × (r.1 < place_count)
         × IsPlaced r.2.log generation.now.value.number r.1) }
 {
+    let Plan {
+        sizes,
+        layout,
+        renewals,
+    } = plan;
     let lineage = Lineage {
         sizes,
+        bare,
         history: generation.history().again(),
     };
     // Handles keep at most one old generation each, and two are there while a change goes on: so there is room for a
@@ -264,20 +291,22 @@ fn share<T: Drop>(
         numbers,
         reserve: renewals.reserve,
         most_older: renewals.generations - 1,
+        layout,
         alloc,
     };
     Ok((Arc::new(alloc, shared)?, place, history))
 }
 
 /// The handle of this thread, which has joined the first generation.
-fn join_first<T: Drop>(
+fn join_first<T: Drop, K: Kind<T>>(
     alloc: Global,
     shared: &Arc<Shared<T>, Global>,
     generation: &Arc<Generation<T>, Global>,
     place: usize,
     seen: &History,
     thread: u32,
-) -> Result<RenewingHandle<T>, AllocError>
+) -> Result<RenewingHandle<T, K>, AllocError>
+    requires bare { shared.now.value.bare ≡ K.bare }
     requires of { IsOfLineage shared.now.value generation.now.value }
     requires first { generation.now.value.number ≡ 0 }
     requires there { (seen.now.book ≡ generation.now.value.book) × (place < place_count)
@@ -295,27 +324,26 @@ fn join_first<T: Drop>(
 }
 
 /// A handle for each of the threads, which has joined the first generation.
-fn join_all<T: Drop>(
+fn join_all<T: Drop, K: Kind<T>>(
     alloc: Global,
     generation: Generation<T>,
     numbers: Numbers,
     labels: Vec<Label>,
-    sizes: Sizes,
-    renewals: Renewals,
-) -> Result<Vec<RenewingHandle<T>>, AllocError>
-    requires sizes { AreInRange sizes }
-    requires generations { (1 ≤ renewals.generations) × (renewals.generations ≤ generations_for sizes.threads) }
-    requires of { generation.queue.opened ≡ opening_of sizes }
+    plan: Plan,
+) -> Result<Vec<RenewingHandle<T, K>>, AllocError>
+    requires plan { IsPlan plan.sizes plan.renewals }
+    requires of { generation.queue.opened ≡ opening_with K.bare plan.sizes }
     requires numbers { (numbers ≡ generation.book) × AreLabels numbers labels.items }
     requires first { generation.number ≡ 0 }
     ensures each { IfOk result (λ handles. All (HasOne generation.queue generation.book) handles.items) }
-    ensures threads { IfOk result (λ handles. map (λ h. h.thread) handles.items ≡ count_up 0 sizes.threads) }
-    ensures count { IfOk result (λ handles. length handles.items ≡ sizes.threads) }
+    ensures threads { IfOk result (λ handles. map (λ h. h.thread) handles.items ≡ count_up 0 plan.sizes.threads) }
+    ensures count { IfOk result (λ handles. length handles.items ≡ plan.sizes.threads) }
 {
     let generation = Arc::new(alloc, generation)?;
-    let (shared, place, seen) = share(alloc, &generation, numbers, labels, sizes, renewals)?;
-    let mut handles = Vec::with_capacity(alloc, sizes.threads as usize)?;
-    for thread in 0..sizes.threads {
+    let (shared, place, seen) = share(alloc, &generation, numbers, labels, K::is_bare(), plan)?;
+    let threads = plan.sizes.threads;
+    let mut handles = Vec::with_capacity(alloc, threads as usize)?;
+    for thread in 0..threads {
         let handle = join_first(alloc, &shared, &generation, place, &seen, thread)?;
         handles.push(handle)?;
     }
@@ -323,20 +351,18 @@ fn join_all<T: Drop>(
 }
 
 /// Opens the first generation, and joins it. All sizes were tested.
-fn open_first<T: Drop>(
+fn open_first<T: Drop, K: Kind<T>>(
     alloc: Global,
-    sizes: Sizes,
-    renewals: Renewals,
-) -> Result<Vec<RenewingHandle<T>>, AllocError>
-    requires sizes { AreInRange sizes }
-    requires generations { (1 ≤ renewals.generations) × (renewals.generations ≤ generations_for sizes.threads) }
-    ensures { IfOk result (λ handles. HaveOne (opening_of sizes) handles.items
-        × (length handles.items ≡ sizes.threads)) }
+    plan: Plan,
+) -> Result<Vec<RenewingHandle<T, K>>, AllocError>
+    requires plan { IsPlan plan.sizes plan.renewals }
+    ensures { IfOk result (λ handles. HaveOne (opening_with K.bare plan.sizes) handles.items
+        × (length handles.items ≡ plan.sizes.threads)) }
 {
-    let (queue, waiting) = open_queue(alloc, &sizes)?;
+    let (queue, waiting, memory) = open_parts::<T, K>(alloc, &plan.sizes, plan.layout)?;
     let (numbers, labels, next, history) = Numbers::open(alloc, &queue)?;
-    let generation = Generation::new(alloc, queue, waiting, next, history)?;
-    let handles = join_all(alloc, generation, numbers, labels, sizes, renewals)?;
+    let generation = Generation::new(alloc, queue, waiting, next, history, memory)?;
+    let handles = join_all(alloc, generation, numbers, labels, plan)?;
     Ok(handles)
 }
 
@@ -353,17 +379,12 @@ fn hold_again(sizes: Sizes) -> Sizes
 
 /// Tests what a queue is opened with. The first fault is returned.
 fn test_sizes(sizes: &Sizes, renewals: &Renewals) -> Result<(), RenewFault>
-    ensures ok { IfOk result (λ _. AreInRange sizes.now × (renewals.now.reserve < sizes.now.shape.last)
-        × (1 ≤ renewals.now.generations) × (renewals.now.generations ≤ generations_for sizes.now.threads)) }
-    ensures reserve { IsErrOf result ReserveOutOfRange ↔ (sizes.now.shape.last ≤ renewals.now.reserve) }
-    ensures threads { IsErrOf result (Open ThreadsOutOfRange) ↔ ((renewals.now.reserve < sizes.now.shape.last)
-        × IsOutOf MAX_THREADS sizes.now.threads) }
-    ensures tokens { IsErrOf result (Open TokensOutOfRange)
-        ↔ ((renewals.now.reserve < sizes.now.shape.last) × (1 ≤ sizes.now.threads) × (sizes.now.threads ≤ MAX_THREADS)
-        × ((sizes.now.tokens ≡ 0) ⊎ (MOST_TOKENS < sizes.now.threads * sizes.now.tokens))) }
+    ensures ok { IfOk result (λ _. IsPlan sizes.now renewals.now × (renewals.now.reserve < sizes.now.shape.last)) }
+    ensures reserve { IsErrOf result ReserveOutOfRange ↔ HasBadReserve sizes.now renewals.now }
+    ensures threads { IsErrOf result (Open ThreadsOutOfRange) ↔ HasBadThreads sizes.now renewals.now }
+    ensures tokens { IsErrOf result (Open TokensOutOfRange) ↔ HasBadTokens sizes.now renewals.now }
     ensures generations { (most : ℕ) → IsErrOf result (GenerationsOutOfRange most)
-        ↔ ((renewals.now.reserve < sizes.now.shape.last) × AreInRange sizes.now
-        × (most ≡ generations_for sizes.now.threads) × IsOutOf most renewals.now.generations) }
+        ↔ HasBadGenerations most sizes.now renewals.now }
 {
     if renewals.reserve >= sizes.shape.last() {
         return Err(RenewFault::ReserveOutOfRange);
@@ -380,6 +401,35 @@ fn test_sizes(sizes: &Sizes, renewals: &Renewals) -> Result<(), RenewFault>
         return Err(RenewFault::GenerationsOutOfRange(most));
     }
     Ok(())
+}
+
+/// Tests the sizes, and opens a queue with them.
+fn open_tested<T: Drop, K: Kind<T>>(
+    alloc: Global,
+    sizes: Sizes,
+    layout: CellLayout,
+    renewals: Renewals,
+) -> Result<Vec<RenewingHandle<T, K>>, RenewFault>
+    ensures ok { IfOk result (λ handles. HaveOne (opening_with K.bare (sizes_again sizes)) handles.items
+        × (length handles.items ≡ sizes.threads)) }
+    ensures reserve { IsErrOf result ReserveOutOfRange ↔ HasBadReserve sizes renewals }
+    ensures threads { IsErrOf result (Open ThreadsOutOfRange) ↔ HasBadThreads sizes renewals }
+    ensures tokens { IsErrOf result (Open TokensOutOfRange) ↔ HasBadTokens sizes renewals }
+    ensures generations { (most : ℕ) → IsErrOf result (GenerationsOutOfRange most)
+        ↔ HasBadGenerations most sizes renewals }
+{
+    if let Err(fault) = test_sizes(&sizes, &renewals) {
+        return Err(fault);
+    }
+    let plan = Plan {
+        sizes: hold_again(sizes),
+        layout,
+        renewals,
+    };
+    match open_first(alloc, plan) {
+        Ok(handles) => Ok(handles),
+        Err(_) => Err(RenewFault::Open(OpenFault::Memory)),
+    }
 }
 
 /// Opens a queue of owned payloads that does not wear out, with these sizes, and returns a handle for each thread.
@@ -410,22 +460,58 @@ pub fn open_with<T: Drop>(
 ) -> Result<Vec<RenewingHandle<T>>, RenewFault>
     ensures ok { IfOk result (λ handles. HaveOne (opening_again sizes) handles.items
         × (length handles.items ≡ sizes.threads)) }
-    ensures reserve { IsErrOf result ReserveOutOfRange ↔ (sizes.shape.last ≤ renewals.reserve) }
-    ensures threads { IsErrOf result (Open ThreadsOutOfRange) ↔ ((renewals.reserve < sizes.shape.last)
-        × IsOutOf MAX_THREADS sizes.threads) }
-    ensures tokens { IsErrOf result (Open TokensOutOfRange)
-        ↔ ((renewals.reserve < sizes.shape.last) × (1 ≤ sizes.threads) × (sizes.threads ≤ MAX_THREADS)
-        × ((sizes.tokens ≡ 0) ⊎ (MOST_TOKENS < sizes.threads * sizes.tokens))) }
+    ensures reserve { IsErrOf result ReserveOutOfRange ↔ HasBadReserve sizes renewals }
+    ensures threads { IsErrOf result (Open ThreadsOutOfRange) ↔ HasBadThreads sizes renewals }
+    ensures tokens { IsErrOf result (Open TokensOutOfRange) ↔ HasBadTokens sizes renewals }
     ensures generations { (most : ℕ) → IsErrOf result (GenerationsOutOfRange most)
-        ↔ ((renewals.reserve < sizes.shape.last) × AreInRange sizes
-        × (most ≡ generations_for sizes.threads) × IsOutOf most renewals.generations) }
+        ↔ HasBadGenerations most sizes renewals }
 {
-    if let Err(fault) = test_sizes(&sizes, &renewals) {
-        return Err(fault);
-    }
-    match open_first(alloc, hold_again(sizes), renewals) {
+    open_tested(alloc, sizes, CellLayout::none(), renewals)
+}
+
+/// Opens a queue of cells that does not wear out, with these sizes, as `open_with` opens one of payloads. Each cell has
+/// memory of this layout, which is made with its generation and goes with it.
+///
+/// Refuses what `open_with` does. Memory where that of the cells is refused, too.
+pub fn open_cells_with(
+    alloc: Global,
+    sizes: Sizes,
+    layout: CellLayout,
+    renewals: Renewals,
+) -> Result<Vec<RenewingHandle<(), Cells>>, RenewFault>
+    ensures ok { IfOk result (λ handles. HaveOne (opening_with true (sizes_again sizes)) handles.items
+        × (length handles.items ≡ sizes.threads)) }
+    ensures reserve { IsErrOf result ReserveOutOfRange ↔ HasBadReserve sizes renewals }
+    ensures threads { IsErrOf result (Open ThreadsOutOfRange) ↔ HasBadThreads sizes renewals }
+    ensures tokens { IsErrOf result (Open TokensOutOfRange) ↔ HasBadTokens sizes renewals }
+    ensures generations { (most : ℕ) → IsErrOf result (GenerationsOutOfRange most)
+        ↔ HasBadGenerations most sizes renewals }
+{
+    open_tested(alloc, sizes, layout, renewals)
+}
+
+/// Opens a queue with room for so many values.
+fn open_for<T: Drop, K: Kind<T>>(
+    alloc: Global,
+    k: u32,
+    capacity: u32,
+    threads: u32,
+    layout: CellLayout,
+) -> Result<Vec<RenewingHandle<T, K>>, CapacityFault>
+    ensures { OpensOrRefuses K.bare k capacity threads result }
+{
+    let sizes = match Sizes::for_capacity(k, capacity, threads, MAX_VERSION) {
+        Ok(sizes) => sizes,
+        Err(fault) => return Err(CapacityFault::Sizes(fault)),
+    };
+    let plan = Plan {
+        sizes: hold_again(sizes),
+        layout,
+        renewals: Renewals::none(),
+    };
+    match open_first(alloc, plan) {
         Ok(handles) => Ok(handles),
-        Err(_) => Err(RenewFault::Open(OpenFault::Memory)),
+        Err(_) => Err(CapacityFault::Memory),
     }
 }
 
@@ -448,18 +534,71 @@ pub fn open<T: Drop>(
     capacity: u32,
     threads: u32,
 ) -> Result<Vec<RenewingHandle<T>>, CapacityFault>
-    ensures { MatchResult result
-        (λ handles. (sizes_fault k capacity threads MAX_VERSION ≡ None) × OpensFor k capacity threads handles.items)
-        (λ fault. RefusesFor fault (sizes_fault k capacity threads MAX_VERSION)) }
+    ensures { OpensOrRefuses false k capacity threads result }
 {
-    let sizes = match Sizes::for_capacity(k, capacity, threads, MAX_VERSION) {
-        Ok(sizes) => sizes,
-        Err(fault) => return Err(CapacityFault::Sizes(fault)),
+    open_for(alloc, k, capacity, threads, CellLayout::none())
+}
+
+/// Opens a queue of cells that does not wear out, with room for so many cells, and returns a handle for each thread.
+///
+/// The sizes are those of `open`: whatever the handles keep for themselves, and with a cell in each hand, `capacity`
+/// cells can be in the queue. Each cell has memory of this layout, which is made with its generation and goes with it.
+/// A value is written into a cell's memory between `reserve` and `publish`, and read between `receive` and `release`.
+///
+/// ```rust
+/// let layout = CellLayout {
+///     size: 64, // bytes
+///     alignment: 64,
+/// };
+/// let mut handles = open_cells(alloc, 4, 32, 2, layout)?; // k, capacity, threads
+/// let (Some(mut taker), Some(mut giver)) = (handles.pop(), handles.pop()) else {
+///     unreachable!()
+/// };
+/// let reserved = giver.reserve(); // Some: where the cell lies. It is this handle's alone
+/// let given = giver.publish(); // Done
+/// let received = taker.receive(); // Got: where that cell lies
+/// let released = taker.release(); // Done
+/// let left = close_cells(alloc, vec![in alloc; giver, taker]?)?; // the cells that are left: none
+/// ```
+///
+/// Refuses what `open` does. Memory where that of the cells is refused, too.
+pub fn open_cells(
+    alloc: Global,
+    k: u32,
+    capacity: u32,
+    threads: u32,
+    layout: CellLayout,
+) -> Result<Vec<RenewingHandle<(), Cells>>, CapacityFault>
+    ensures { OpensOrRefuses true k capacity threads result }
+{
+    open_for(alloc, k, capacity, threads, layout)
+}
+
+/// The generations of a queue, with the handle of the last of these, by all its handles: the others then wait there.
+/// And what each generation was opened with.
+pub(crate) fn gather<T: Drop, K: Kind<T>>(
+    mut handles: Vec<RenewingHandle<T, K>>,
+) -> Result<(Vec<Leaving<Joined<T>>>, Sizes), CloseFault>
+    ensures all { IfOk result (λ r. (last : Generations T) × (others : List (Generations T))
+        × (handles.items ≡ others ++ last ∷ []) × Gathers last (held_by r.0.items)) }
+    ensures of { IfOk result (λ r. All (λ p. IsOpenedAs (opening_with K.bare r.1) p.handle) r.0.items) }
+{
+    let Some(mut last) = handles.pop() else {
+        return Err(CloseFault::MissingPass);
     };
-    match open_first(alloc, hold_again(sizes), Renewals::none()) {
-        Ok(handles) => Ok(handles),
-        Err(_) => Err(CapacityFault::Memory),
-    }
+    let Some(_) = last.generations() else {
+        return Err(CloseFault::Memory);
+    };
+    // The passes of the others then wait in their generations.
+    drop(handles);
+    let (shared, all) = last.into_joined()?;
+    let Some(shared) = Arc::into_inner(shared) else {
+        return Err(CloseFault::MissingPass);
+    };
+    let sizes = shared.sizes();
+    // With the places the last other parts in the generations go.
+    drop(shared);
+    Ok((all, sizes))
 }
 
 /// The payloads that are left in a generation, by the handle of this part and those that wait there.
@@ -468,7 +607,7 @@ fn close_one<T: Drop>(
     joined: Leaving<Joined<T>>,
     sizes: &Sizes,
 ) -> Result<Vec<T>, CloseFault>
-    requires { IsOpenedAs (opening_of sizes.now) joined.handle }
+    requires { IsOpenedAs (opening_with false sizes.now) joined.handle }
     ensures { IfOk result (λ left. WereLeft joined.handle left.items) }
 {
     let (generation, handle) = joined.into_part().into_parts();
@@ -476,7 +615,7 @@ fn close_one<T: Drop>(
         return Err(CloseFault::MissingPass);
     };
     let thread = handle.pass().thread();
-    let (queue, others) = generation.into_parts(alloc, sizes.threads, thread)?;
+    let (queue, others, _) = generation.into_parts(alloc, sizes.threads, thread)?;
     let left = queue.close_with(alloc, handle, others)?;
     Ok(left)
 }
@@ -487,7 +626,7 @@ fn close_each<T: Drop>(
     all: Vec<Leaving<Joined<T>>>,
     sizes: &Sizes,
 ) -> Result<Vec<T>, CloseFault>
-    requires { All (λ p. IsOpenedAs (opening_of sizes.now) p.handle) all.items }
+    requires { All (λ p. IsOpenedAs (opening_with false sizes.now) p.handle) all.items }
     ensures { IfOk result (λ left. ClosesEach (held_by all.items) left.items) }
 {
     let mut left = Vec::new(alloc);
@@ -505,28 +644,11 @@ fn close_each<T: Drop>(
 ///
 /// MissingPass where one of its handles is still elsewhere, or none is given; Memory where an allocation failed. The
 /// payloads are then dropped.
-pub fn close<T: Drop>(
-    alloc: Global,
-    mut handles: Vec<RenewingHandle<T>>,
-) -> Result<Vec<T>, CloseFault>
+pub fn close<T: Drop>(alloc: Global, handles: Vec<RenewingHandle<T>>) -> Result<Vec<T>, CloseFault>
     ensures { IfOk result (λ left. (last : Generations T) × (others : List (Generations T))
         × (handles.items ≡ others ++ last ∷ []) × ClosesAll last left.items) }
 {
-    let Some(mut last) = handles.pop() else {
-        return Err(CloseFault::MissingPass);
-    };
-    let Some(_) = last.generations() else {
-        return Err(CloseFault::Memory);
-    };
-    // The passes of the others then wait in their generations.
-    drop(handles);
-    let (shared, all) = last.into_joined()?;
-    let Some(shared) = Arc::into_inner(shared) else {
-        return Err(CloseFault::MissingPass);
-    };
-    let sizes = shared.sizes();
-    // With the places the last other parts in the generations go.
-    drop(shared);
+    let (all, sizes) = gather(handles)?;
     let left = close_each(alloc, all, &sizes)?;
     Ok(left)
 }

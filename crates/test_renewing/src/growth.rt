@@ -42,6 +42,24 @@ fn empty(rt: &impl Abort, handle: &mut RenewingHandle<u64>, count: u64) {
     assert_eq!(rt; take(handle), Taken::Empty);
 }
 
+/// A handle counts the values of all generations, also of those that others opened.
+#[test]
+fn values_are_counted(rt: HostRuntime) -> Result<(), Fail> {
+    let mut handles = open_growing(rt.alloc(), 2, DEFAULT_RESERVE, 100)?;
+    if let [giver, taker] = handles.as_mut_slice() {
+        assert_eq!(rt; (giver.len(), taker.len()), (0, 0));
+        assert_eq!(rt; fill(giver, 300), 300);
+        assert!(rt; giver.generations() > Some(1));
+        assert_eq!(rt; (giver.len(), taker.len()), (300, 300));
+        for value in 0..200 {
+            assert_eq!(rt; take(taker), Taken::Got(value));
+        }
+        assert_eq!(rt; (giver.len(), taker.len()), (100, 100));
+    }
+    assert_eq!(rt; close(rt.alloc(), handles)?.len(), 100);
+    Ok(())
+}
+
 /// One thread gives 3,000 values to a queue with room for 8, and takes them in their order. Then there is one
 /// generation again.
 #[test]

@@ -1,6 +1,8 @@
 //! The short examples of the pages on the renewing queue, as they stand there.
 use kfifo_live::{Given, Sizes, Taken};
-use kfifo_renewing::{DEFAULT_RESERVE, Renewals, close, open, open_with};
+use kfifo_renewing::{
+    CellLayout, DEFAULT_RESERVE, Renewals, close, close_cells, open, open_cells, open_with,
+};
 use kfifo_words::MAX_VERSION;
 use std::test::Fail;
 
@@ -17,6 +19,32 @@ fn the_renewing_queue(rt: HostRuntime) -> Result<(), Fail> {
     assert_eq!(rt; given, Given::Done);
     assert_eq!(rt; taken, Taken::Got(7));
     assert!(rt; left.is_empty());
+    Ok(())
+}
+
+#[test]
+fn the_queue_of_cells(rt: HostRuntime) -> Result<(), Fail> {
+    let alloc = rt.alloc();
+    let layout = CellLayout {
+        size: 64, // bytes
+        alignment: 64,
+    };
+    let mut handles = open_cells(alloc, 4, 32, 2, layout)?; // k, capacity, threads
+    let (Some(mut taker), Some(mut giver)) = (handles.pop(), handles.pop()) else {
+        unreachable!()
+    };
+    let reserved = giver.reserve(); // Some: where the cell lies. It is this handle's alone
+    let given = giver.publish(); // Done
+    let received = taker.receive(); // Got: where that cell lies
+    let released = taker.release(); // Done
+    let left = close_cells(alloc, vec![in alloc; giver, taker]?)?; // the cells that are left: none
+    assert!(rt; reserved.is_some());
+    assert_eq!(rt; given, Given::Done);
+    assert!(rt; matches!(received, Taken::Got(_)));
+    assert_eq!(rt; released, Given::Done);
+    for generation in left {
+        assert!(rt; generation.cells().is_empty());
+    }
     Ok(())
 }
 

@@ -4,6 +4,7 @@ use Rattle.kfifo_live.specs.declared.payload.Taken.TheVariants as K
 use Rattle.kfifo_renewing.specs.Joining.{AreSameParts, IsSamePart, PartView, held_by, held_in}
 use Rattle.kfifo_renewing.specs.Renewing.{TakesFirst, TakesThere}
 use Rattle.kfifo_renewing.proofs.Joining.{same-refl}
+use Rattle.kfifo_renewing.proofs.Parts.{bare_rest}
 use Rattle.kfifo_renewing.proofs.handle.+take_first.Goals as goal
 
 pub set_over-requires : goal.set_over-requires
@@ -13,12 +14,13 @@ set_over-requires g t c over =
       old.handle,
       new.handle,
       sym c.take_here.ensures.same.2.0,
-      subst (λ t. TakesThere t old.handle new.handle) c.in-Empty.is c.take_here.ensures.takes,
+      c.take_here.ensures.empty c.in-Empty.is,
     )
 
 pub returns-in-Empty-clause-same : goal.returns-in-Empty-clause-same
 returns-in-Empty-clause-same g t c =
     let T = g.row.T.Denot in
+    let R = g.K.Kind.takes in
     let after = c.set_over.new.self in
     let same : IsSamePart c.in_ok-generations.first.now after =
     subst (λ (p : PartView T). IsSamePart c.in_ok-generations.first.now p) (sym c.set_over.ensures) c.take_here.ensures.same in
@@ -28,11 +30,12 @@ returns-in-Empty-clause-same g t c =
 pub returns-in-Empty-clause-takes : goal.returns-in-Empty-clause-takes
 returns-in-Empty-clause-takes g t c =
     let T = g.row.T.Denot in
+    let R = g.K.Kind.takes in
     let after = c.set_over.new.self in
-    let took : TakesThere K.Empty c.in_ok-generations.first.now.handle after.handle =
-    subst (λ (p : PartView T). TakesThere K.Empty c.in_ok-generations.first.now.handle p.handle) (sym c.set_over.ensures)
-    (subst (λ t. TakesThere t c.in_ok-generations.first.now.handle c.take_here.new.self.handle) c.in-Empty.is c.take_here.ensures.takes) in
-    subst (λ (l : List (PartView T)). TakesFirst c.take_first.result (held_by l) (held_by (after ∷ c.take_first.new.generations)))
+    let took : TakesThere R K.Empty c.in_ok-generations.first.now.handle after.handle =
+    subst (λ (p : PartView T). TakesThere R K.Empty c.in_ok-generations.first.now.handle p.handle) (sym c.set_over.ensures)
+    (subst (λ t. TakesThere R t c.in_ok-generations.first.now.handle c.take_here.new.self.handle) c.in-Empty.is c.take_here.ensures.takes) in
+    subst (λ (l : List (PartView T)). TakesFirst R c.take_first.result (held_by l) (held_by (after ∷ c.take_first.new.generations)))
     (sym c.in_ok-generations.ensures.cases.0) (
       held_in after,
       held_by c.take_first.new.generations,
@@ -49,7 +52,8 @@ returns-in_default-clause-same g t c =
 pub returns-in_default-clause-takes : goal.returns-in_default-clause-takes
 returns-in_default-clause-takes g t c =
     let T = g.row.T.Denot in
-    subst (λ (l : List (PartView T)). TakesFirst (Some c.take_here.result) (held_by l) (held_by (c.take_here.new.self ∷ c.in_ok-generations.rest.now)))
+    let R = g.K.Kind.takes in
+    subst (λ (l : List (PartView T)). TakesFirst R (Some c.take_here.result) (held_by l) (held_by (c.take_here.new.self ∷ c.in_ok-generations.rest.now)))
     (sym c.in_ok-generations.ensures.cases.0) (
       held_in c.take_here.new.self,
       held_by c.in_ok-generations.rest.now,
@@ -57,3 +61,9 @@ returns-in_default-clause-takes g t c =
       c.take_here.ensures.same.0,
       inr (c.take_here.result, refl, search rules, c.take_here.ensures.takes, refl),
     )
+
+pub take_first-requires : goal.take_first-requires
+take_first-requires g t c =
+    let rest = bare_rest g.K.Kind.bare c.args.generations.now c.in_ok-generations.rest.now c.in_ok-generations.first.now
+    c.in_ok-generations.ensures.cases.0 c.requires in
+    search (rules, rest)

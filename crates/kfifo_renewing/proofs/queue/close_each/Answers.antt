@@ -1,9 +1,9 @@
 -- One generation more is closed.
-use Rattle.std.proofs.Common.{List, [], ◌∷◌, ◌++◌, append_assoc, arith, refl, sym, ap, ◌∙◌, subst}
+use Rattle.std.proofs.Common.{false, List, [], ◌∷◌, ◌++◌, append_assoc, arith, refl, sym, ap, ◌∙◌, subst}
 use Rattle.std.proofs.lemmas.List.{append-nil, map-append}
 use Rattle.std.proofs.lemmas.List.{nil_from_length}
 use Rattle.kfifo_renewing.specs.Joining.{PartView, held_by, held_in}
-use Rattle.kfifo_renewing.specs.Renewing.{ClosesEach, HeldIn, IsOpenedAs, opening_of}
+use Rattle.kfifo_renewing.specs.Renewing.{ClosesEach, HeldIn, IsOpenedAs, opening_with}
 use Rattle.kfifo_renewing.proofs.Closing.{closes-more}
 use Rattle.kfifo_renewing.proofs.Parts.{all-next}
 use Rattle.kfifo_renewing.proofs.queue.close_each.Goals as goal
@@ -17,7 +17,7 @@ loop-joined-preserved g c =
     let next = c.in-Some.ensures.steps.0 in
     record {
       same = refl;
-      rest = (all-next (λ (p : PartView T). IsOpenedAs (opening_of c.args.sizes.now) p.handle) here c.next.new.self.rest.items
+      rest = (all-next (λ (p : PartView T). IsOpenedAs (opening_with false c.args.sizes.now) p.handle) here c.next.new.self.rest.items
           c.loop-joined.joined-iterator.rest.items next i.rest).1;
       left = (
         done ++ here ∷ [],

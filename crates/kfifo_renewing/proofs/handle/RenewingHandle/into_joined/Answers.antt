@@ -2,7 +2,7 @@ use Rattle.std.proofs.Common.{All, [], ◌∷◌, ◌++◌, sym, ap, ◌∙◌, 
 use Rattle.std.proofs.lemmas.List.{map-append}
 use Rattle.std.proofs.lemmas.List.Elements.{All-push}
 use Rattle.kfifo_renewing.specs.Joining.{PartView, held_by, held_in}
-use Rattle.kfifo_renewing.specs.Renewing.{Generations, IsOpenedAs, all_of, opening_of}
+use Rattle.kfifo_renewing.specs.Renewing.{Generations, IsOpenedAs, all_of, opening_in}
 use Rattle.kfifo_renewing.proofs.handle.RenewingHandle.into_joined.Goals as goal
 
 pub returns-clause-joined : goal.returns-clause-joined
@@ -10,11 +10,11 @@ returns-clause-joined g c =
     let T = g.row.T.Denot in
     ap held_by c.in_ok-push.ensures.items
     ∙ map-append (λ (p : PartView T). held_in p) c.self.inside.older.items (c.self.inside.newest ∷ [])
-    ∙ ap (λ n. held_by c.self.inside.older.items ++ record { handle = c.self.inside.newest.handle; number = n } ∷ []) c.self.invariant.number
+    ∙ ap (λ n. held_by c.self.inside.older.items ++ record { handle = c.self.inside.newest.handle; number = n } ∷ []) c.self.invariant.0.number
     ∙ ap (λ (v : Generations T). all_of v) c.self.view_is
 
 pub returns-clause-of : goal.returns-clause-of
 returns-clause-of g c =
-    let P : PartView g.row.T.Denot → Type 0 = λ (p : PartView g.row.T.Denot). IsOpenedAs (opening_of c.self.inside.shared.value.sizes) p.handle in
+    let P : PartView g.row.T.Denot → Type 0 = λ (p : PartView g.row.T.Denot). IsOpenedAs (opening_in c.self.inside.shared.value) p.handle in
     subst (All P) (sym c.in_ok-push.ensures.items)
-    (All-push P c.self.inside.older.items c.self.inside.newest c.self.invariant.older_opened c.self.invariant.newest_opened)
+    (All-push P c.self.inside.older.items c.self.inside.newest c.self.invariant.0.older_opened c.self.invariant.0.newest_opened)

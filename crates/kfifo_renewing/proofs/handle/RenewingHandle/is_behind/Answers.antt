@@ -1,7 +1,7 @@
 use Rattle.std.proofs.Common.{ap, ◌∙◌, subst, refl, nat_eq}
 use mathlib.Core.List.{IsPrefix}
 use Rattle.kfifo_renewing.specs.History.{Finds, sight_of}
-use Rattle.kfifo_renewing.specs.Renewing.{Generations, Numbered, opening_of}
+use Rattle.kfifo_renewing.specs.Renewing.{Generations, Numbered, opening_in}
 use Rattle.kfifo_renewing.proofs.Histories.{made-later, risen-from}
 use Rattle.kfifo_renewing.specs.Joining.{held_by}
 use Rattle.kfifo_renewing.proofs.Joining.{has-all, numbered-by}
@@ -9,13 +9,16 @@ use Rattle.kfifo_renewing.proofs.Following.{found-or-newest, joins-after, was-pr
 use Rattle.kfifo_renewing.proofs.handle.RenewingHandle.is_behind.Goals as goal
 
 pub invariant_of-self : goal.invariant_of-self
-invariant_of-self g c = joins-after (opening_of c.self.inside.shared.value.sizes) c.self.inside.shared.value.history.book
-    c.self.inside.history.book c.look-found.new.history.book c.self.inside.history.log c.look-found.new.history.log
-    c.self.inside.generation.value c.self.inside.newest c.self.inside.newest c.self.inside.older.items (sight_of c.self.inside.newest.handle.held.pass.pass)
-    c.look-found.result c.self.invariant (subst
-    (λ k. Finds (sight_of c.self.inside.newest.handle.held.pass.pass) k c.look-found.result c.self.inside.history.log c.look-found.new.history.log)
-    (c.next.ensures.0 ∙ ap (λ (v : Numbered). v.number) c.deref.ensures) c.look-found.ensures.finds)
-    c.look-found.ensures.book (refl, refl, (refl, refl, refl))
+invariant_of-self g c = (
+  joins-after (opening_in c.self.inside.shared.value) c.self.inside.shared.value.history.book
+      c.self.inside.history.book c.look-found.new.history.book c.self.inside.history.log c.look-found.new.history.log
+      c.self.inside.generation.value c.self.inside.newest c.self.inside.newest c.self.inside.older.items (sight_of c.self.inside.newest.handle.held.pass.pass)
+      c.look-found.result c.self.invariant.0 (subst
+      (λ k. Finds (sight_of c.self.inside.newest.handle.held.pass.pass) k c.look-found.result c.self.inside.history.log c.look-found.new.history.log)
+      (c.next.ensures.0 ∙ ap (λ (v : Numbered). v.number) c.deref.ensures) c.look-found.ensures.finds)
+      c.look-found.ensures.book (refl, refl, (refl, refl, refl)),
+  c.self.invariant.1,
+)
 
 pub returns-clause-later : goal.returns-clause-later
 returns-clause-later g c =
@@ -41,24 +44,24 @@ returns-clause-newest g c =
     found-or-newest c.look-found.result n (sight_of c.self.inside.newest.handle.held.pass.pass) c.args.self.now.seen log c.self.inside.newest.handle.held.pass.pass.table
     found (made-later c.self.inside.history.log log n c.self.inside.newest.handle.held.pass.pass.table
     (was-prefix (sight_of c.self.inside.newest.handle.held.pass.pass) c.look-found.ensures.finds.number c.self.inside.history.log log c.look-found.ensures.finds.was)
-    (numbered-by (opening_of c.self.inside.shared.value.sizes) c.self.inside.shared.value.history.book c.self.inside.history.book
-    c.self.inside.history.log c.self.inside.generation.value c.self.inside.newest c.self.inside.older.items c.self.invariant)) (nat_eq c.look-found.result 0) refl
+    (numbered-by (opening_in c.self.inside.shared.value) c.self.inside.shared.value.history.book c.self.inside.history.book
+    c.self.inside.history.log c.self.inside.generation.value c.self.inside.newest c.self.inside.older.items c.self.invariant.0)) (nat_eq c.look-found.result 0) refl
 
 pub returns-clause-all : goal.returns-clause-all
 returns-clause-all g c =
     let T = g.row.T.Denot in
     let s = c.self.inside in
-    has-all (opening_of s.shared.value.sizes) s.shared.value.history.book c.look-found.new.history.book s.generation.value s.newest
+    has-all (opening_in s.shared.value) s.shared.value.history.book c.look-found.new.history.book s.generation.value s.newest
     s.older.items (record {
-      opened = opening_of s.shared.value.sizes;
+      opened = opening_in s.shared.value;
       thread = s.thread;
       book = c.look-found.new.history.book;
       seen = c.look-found.new.history.log;
       older = held_by s.older.items;
       newest = s.newest.handle;
       number = s.generation.value.number;
-    }) (joins-after (opening_of s.shared.value.sizes) s.shared.value.history.book s.history.book
+    }) (joins-after (opening_in s.shared.value) s.shared.value.history.book s.history.book
     c.look-found.new.history.book s.history.log c.look-found.new.history.log s.generation.value s.newest s.newest s.older.items (sight_of s.newest.handle.held.pass.pass)
-    c.look-found.result c.self.invariant (subst (λ k. Finds (sight_of s.newest.handle.held.pass.pass) k c.look-found.result s.history.log c.look-found.new.history.log)
+    c.look-found.result c.self.invariant.0 (subst (λ k. Finds (sight_of s.newest.handle.held.pass.pass) k c.look-found.result s.history.log c.look-found.new.history.log)
     (c.next.ensures.0 ∙ ap (λ (v : Numbered). v.number) c.deref.ensures) c.look-found.ensures.finds)
     c.look-found.ensures.book (refl, refl, (refl, refl, refl))) refl refl refl

@@ -6,7 +6,7 @@ use mathlib.Core.List.{IsPrefix}
 use Rattle.kfifo_live.specs.Pass.{HasNoEvent, IsPassOf}
 use Rattle.kfifo_renewing.specs.History.{IsMade, WasNewest, newest_of}
 use Rattle.kfifo_renewing.specs.Joining.{AreAmong, IsPart, PartView, held_by, held_in}
-use Rattle.kfifo_renewing.specs.Renewing.{Generations, HeldIn, IsNew, IsOpenedAs, LeavesGone, all_of, opening_of}
+use Rattle.kfifo_renewing.specs.Renewing.{Generations, HeldIn, IsNew, IsOpenedAs, LeavesGone, all_of, opening_in}
 use Rattle.kfifo_renewing.proofs.Histories.{risen-from}
 use Rattle.kfifo_renewing.proofs.Joining.{all-moved, among-later, joined-more, part-later, parts-later}
 use Rattle.kfifo_renewing.proofs.Departures.{leaves-refl}
@@ -15,34 +15,36 @@ use Rattle.kfifo_renewing.proofs.Following.{follows-jump, follows-less}
 use Rattle.kfifo_renewing.proofs.handle.RenewingHandle.join.Goals as goal
 
 pub invariant_of-self-2 : goal.invariant_of-self-2
-invariant_of-self-2 g c =
-    let T = g.row.T.Denot in
-    let s = c.self.inside in
-    let v = sym c.self.view_is in
-    let o = opening_of s.shared.value.sizes in
-    let log = c.learn.new.self.log in
-    let seen = c.args.history.now.log in
-    let next = c.args.generation.value in
-    let k = c.replace-before.new.dest in
-    let after = sym c.replace-before.ensures.after in
-    joined-more o s.shared.value.history.book s.history.book c.learn.new.self.book s.history.log log c.learn.ensures.4.0
-    s.generation.value next s.newest k s.older.items c.args.between.items c.append.new.self.items c.self.invariant c.learn.ensures.0
-    c.learn.ensures.2 c.learn.ensures.4.1 (kept-risen c.learn.ensures.4.0 log c.learn.ensures.4.1)
-    (subst (λ (x : Generations T). next.book ≡ x.book) v c.requires.books.1)
-    (subst (λ (p : PartView T). IsOpenedAs o p.handle) after (subst (λ (x : Generations T). IsOpenedAs x.opened c.args.newest.handle) v c.requires.of.0))
-    (subst (λ (p : PartView T). IsPassOf next.queue p.handle.held.pass.pass) after c.requires.of.1)
-    (subst (λ (p : PartView T). p.number ≡ next.number) after c.requires.part.0)
-    (subst (IsPart log) after (part-later seen log c.args.newest c.learn.ensures.3 c.requires.part.1))
-    (subst (λ (x : Generations T). x.number < next.number) v c.requires.later)
-    (subst (λ (x : Generations T). WasNewest x.seen next.number) v c.requires.was)
-    (subst (λ (x : Generations T). All (λ (p : PartView T). IsOpenedAs x.opened p.handle) c.args.between.items) v c.requires.opened)
-    (parts-later seen log c.args.between.items c.learn.ensures.3 c.requires.parts)
-    c.requires.below
-    (among-later s.generation.value.number next.number c.args.between.items s.history.log seen log c.learn.ensures.3
-    (subst (λ (x : Generations T). AreAmong x.number next.number c.args.between.items x.seen seen) v c.requires.all))
-    (all-moved c.append.result c.append.new.self.items c.push_reserved.new.self.items c.make_room.new.older.items s.older.items
-    c.args.between.items s.newest c.replace-before.result c.append.ensures.items (c.append.ensures.succeeds (omega (arith, c.if-not-make_room.ensures.room refl, c.len.ensures, c.push_reserved.ensures.len, c.push_reserved.ensures.capacity)))
-    c.push_reserved.ensures.items c.replace-before.ensures.value c.make_room.ensures.items)
+invariant_of-self-2 g c = (
+  let T = g.row.T.Denot in
+      let s = c.self.inside in
+      let v = sym c.self.view_is in
+      let o = opening_in s.shared.value in
+      let log = c.learn.new.self.log in
+      let seen = c.args.history.now.log in
+      let next = c.args.generation.value in
+      let k = c.replace-before.new.dest in
+      let after = sym c.replace-before.ensures.after in
+      joined-more o s.shared.value.history.book s.history.book c.learn.new.self.book s.history.log log c.learn.ensures.4.0
+      s.generation.value next s.newest k s.older.items c.args.between.items c.append.new.self.items c.self.invariant.0 c.learn.ensures.0
+      c.learn.ensures.2 c.learn.ensures.4.1 (kept-risen c.learn.ensures.4.0 log c.learn.ensures.4.1)
+      (subst (λ (x : Generations T). next.book ≡ x.book) v c.requires.books.1)
+      (subst (λ (p : PartView T). IsOpenedAs o p.handle) after (subst (λ (x : Generations T). IsOpenedAs x.opened c.args.newest.handle) v c.requires.of.0))
+      (subst (λ (p : PartView T). IsPassOf next.queue p.handle.held.pass.pass) after c.requires.of.1)
+      (subst (λ (p : PartView T). p.number ≡ next.number) after c.requires.part.0)
+      (subst (IsPart log) after (part-later seen log c.args.newest c.learn.ensures.3 c.requires.part.1))
+      (subst (λ (x : Generations T). x.number < next.number) v c.requires.later)
+      (subst (λ (x : Generations T). WasNewest x.seen next.number) v c.requires.was)
+      (subst (λ (x : Generations T). All (λ (p : PartView T). IsOpenedAs x.opened p.handle) c.args.between.items) v c.requires.opened)
+      (parts-later seen log c.args.between.items c.learn.ensures.3 c.requires.parts)
+      c.requires.below
+      (among-later s.generation.value.number next.number c.args.between.items s.history.log seen log c.learn.ensures.3
+      (subst (λ (x : Generations T). AreAmong x.number next.number c.args.between.items x.seen seen) v c.requires.all))
+      (all-moved c.append.result c.append.new.self.items c.push_reserved.new.self.items c.make_room.new.older.items s.older.items
+      c.args.between.items s.newest c.replace-before.result c.append.ensures.items (c.append.ensures.succeeds (omega (arith, c.if-not-make_room.ensures.room refl, c.len.ensures, c.push_reserved.ensures.len, c.push_reserved.ensures.capacity)))
+      c.push_reserved.ensures.items c.replace-before.ensures.value c.make_room.ensures.items),
+  c.self.invariant.1,
+)
 
 pub returns : goal.returns
 returns g c =
@@ -80,7 +82,7 @@ returns g c =
     c.push_reserved.ensures.items c.replace-before.ensures.value c.make_room.ensures.items)
     ∙ map-append (λ (p : PartView T). held_in p) (s.older.items ++ s.newest ∷ []) between
     ∙ ap (λ l. l ++ held_by between) (map-append (λ (p : PartView T). held_in p) s.older.items (s.newest ∷ [])
-    ∙ ap (λ n. held_by s.older.items ++ record { handle = s.newest.handle; number = n } ∷ []) c.self.invariant.number
+    ∙ ap (λ n. held_by s.older.items ++ record { handle = s.newest.handle; number = n } ∷ []) c.self.invariant.0.number
     ∙ ap (λ (h : Generations T). all_of h) view_is))
     (All-push P (held_by between) (record { handle = k.handle; number = next.number }) each last)
 

@@ -3,7 +3,7 @@ use Rattle.std.proofs.Common.{◌≡◌, [], Some, slice_get, arith, refl, sym, 
 use Rattle.std.proofs.lemmas.List.{append-nil}
 use Rattle.kfifo_renewing.specs.History.{HasLeft, IsPlaced}
 use Rattle.kfifo_renewing.specs.Joining.{held_by}
-use Rattle.kfifo_renewing.specs.Renewing.{Generations, LeavesGone, opening_of}
+use Rattle.kfifo_renewing.specs.Renewing.{Generations, LeavesGone, opening_in}
 use Rattle.kfifo_renewing.proofs.Histories.{prefix-trans}
 use Rattle.kfifo_renewing.proofs.Keeping.{kept-risen}
 use Rattle.kfifo_renewing.proofs.Joining.{get-at, held-less, joined-later, joined-less, part-at}
@@ -15,6 +15,7 @@ pub loop-index-init : goal.loop-index-init
 loop-index-init g c =
     let T = g.row.T.Denot in record {
       opened = ap (λ (h : Generations T). h.opened) c.self.view_is;
+      bare = c.self.invariant.1;
       thread = ap (λ (h : Generations T). h.thread) c.self.view_is;
       book = ap (λ (h : Generations T). h.book) c.self.view_is;
       more = ([], append-nil c.args.self.now.seen ∙ sym (ap (λ (h : Generations T). h.seen) c.self.view_is));
@@ -22,7 +23,7 @@ loop-index-init g c =
       number = ap (λ (h : Generations T). h.number) c.self.view_is;
       older = subst (λ hs. LeavesGone c.self.inside.history.log hs (held_by c.self.inside.older.items))
           (ap (λ (h : Generations T). h.older) c.self.view_is) (leaves-refl c.self.inside.history.log (held_by c.self.inside.older.items));
-      joined = c.self.invariant;
+      joined = c.self.invariant.0;
     }
 
 pub loop-index-preserved-then-has : goal.loop-index-preserved-then-has
@@ -32,13 +33,14 @@ loop-index-preserved-then-has g c =
     let has = c.has.ensures in
     let new = c.has.new.history.log in record {
       opened = i.opened;
+      bare = i.bare;
       thread = i.thread;
       book = has.later.0 ∙ i.book;
       more = prefix-trans c.args.self.now.seen s.history.log new i.more has.later.1;
       newest = i.newest;
       number = i.number;
       older = leaves-later s.history.log new c.args.self.now.older (held_by s.older.items) has.later.1 i.older;
-      joined = joined-later (opening_of s.shared.value.sizes) s.shared.value.history.book s.history.book c.has.new.history.book
+      joined = joined-later (opening_in s.shared.value) s.shared.value.history.book s.history.book c.has.new.history.book
           s.history.log new s.generation.value s.newest s.older.items i.joined has.later.0 has.later.1
           (kept-risen has.kept.0 new has.kept.1);
     }
@@ -47,7 +49,7 @@ pub loop-index-preserved : goal.loop-index-preserved
 loop-index-preserved g c =
     let i = c.loop-index.invariant in
     let s = c.loop-index.self-inside in
-    let o = opening_of s.shared.value.sizes in
+    let o = opening_in s.shared.value in
     let has = c.has.ensures in
     let new = c.has.new.history.log in
     let p = c.index-joined.result.now in
@@ -59,6 +61,7 @@ loop-index-preserved g c =
     let then = joined-later o s.shared.value.history.book s.history.book c.has.new.history.book s.history.log new s.generation.value
     s.newest s.older.items i.joined has.later.0 has.later.1 (kept-risen has.kept.0 new has.kept.1) in record {
       opened = i.opened;
+      bare = i.bare;
       thread = i.thread;
       book = has.later.0 ∙ i.book;
       more = prefix-trans c.args.self.now.seen s.history.log new i.more has.later.1;
@@ -66,7 +69,7 @@ loop-index-preserved g c =
       number = i.number;
       older = leaves-trans new c.args.self.now.older (held_by s.older.items) (held_by c.remove-gone.new.self.items)
           (leaves-later s.history.log new c.args.self.now.older (held_by s.older.items) has.later.1 i.older)
-          (held-less new s.older.items c.remove-gone.new.self.items c.loop-index.index p without at left);
+          (held-less new s.older.items c.remove-gone.new.self.items c.loop-index.index p without at left (c.has_cell.ensures.0 c.if-has_cell.false));
       joined = joined-less o s.shared.value.history.book c.has.new.history.book new has.kept.0 s.generation.value s.newest s.older.items
           c.remove-gone.new.self.items c.loop-index.index p then without at has.kept.1 left;
     }

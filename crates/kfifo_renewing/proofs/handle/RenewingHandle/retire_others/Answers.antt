@@ -1,7 +1,7 @@
 -- More of the history was seen, and nothing else changed.
 use Rattle.std.proofs.Common.{List, sym, ap, ◌∙◌, subst}
 use Rattle.kfifo_renewing.specs.Joining.{HasOlder, PartView}
-use Rattle.kfifo_renewing.specs.Renewing.{Generations, Numbered, opening_of}
+use Rattle.kfifo_renewing.specs.Renewing.{Generations, Numbered, opening_in}
 use Rattle.kfifo_renewing.proofs.Joining.{joined-later}
 use Rattle.kfifo_renewing.proofs.Following.{later-by}
 use Rattle.kfifo_renewing.proofs.handle.RenewingHandle.retire_others.Goals as goal
@@ -12,14 +12,16 @@ retire_others-requires-clause-others g c =
     let s = c.self.inside in
     let at = c.number.ensures ∙ ap (λ (v : Numbered). v.number) c.deref-2.ensures in
     subst (λ (l : List (PartView T)). HasOlder s.history.log l c.number.result) (sym c.as_slice.ensures.value)
-    (subst (HasOlder s.history.log s.older.items) (sym at) c.self.invariant.all)
+    (subst (HasOlder s.history.log s.older.items) (sym at) c.self.invariant.0.all)
 
 pub invariant_of-self : goal.invariant_of-self
-invariant_of-self g c =
-    let s = c.self.inside in
-    joined-later (opening_of s.shared.value.sizes) s.shared.value.history.book s.history.book c.retire_others.new.history.book s.history.log
-    c.retire_others.new.history.log s.generation.value s.newest s.older.items c.self.invariant c.retire_others.ensures.later.0
-    c.retire_others.ensures.later.1 c.retire_others.ensures.risen
+invariant_of-self g c = (
+  let s = c.self.inside in
+      joined-later (opening_in s.shared.value) s.shared.value.history.book s.history.book c.retire_others.new.history.book s.history.log
+      c.retire_others.new.history.log s.generation.value s.newest s.older.items c.self.invariant.0 c.retire_others.ensures.later.0
+      c.retire_others.ensures.later.1 c.retire_others.ensures.risen,
+  c.self.invariant.1,
+)
 
 pub returns-clause-later : goal.returns-clause-later
 returns-clause-later g c =

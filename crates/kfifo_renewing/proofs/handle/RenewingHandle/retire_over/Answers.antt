@@ -2,7 +2,7 @@
 use Rattle.std.proofs.Common.{◌<◌, All, List, sym, ap, ◌∙◌, subst}
 use Rattle.kfifo_renewing.specs.History.{newest_of}
 use Rattle.kfifo_renewing.specs.Joining.{PartView}
-use Rattle.kfifo_renewing.specs.Renewing.{Generations, opening_of}
+use Rattle.kfifo_renewing.specs.Renewing.{Generations, opening_in}
 use Rattle.kfifo_renewing.proofs.Histories.{risen-was}
 use Rattle.kfifo_renewing.proofs.Joining.{below-newest, joined-later}
 use Rattle.kfifo_renewing.proofs.Following.{later-by}
@@ -12,17 +12,19 @@ pub retire_over-requires-clause-below : goal.retire_over-requires-clause-below
 retire_over-requires-clause-below g c =
     let T = g.row.T.Denot in
     let s = c.self.inside in
-    let j = c.self.invariant in
+    let j = c.self.invariant.0 in
     subst (λ (l : List (PartView T)). All (λ (p : PartView T). p.number < newest_of s.history.log) l) (sym c.as_slice.ensures.value)
     (below-newest s.older.items s.generation.value.number (newest_of s.history.log)
     (risen-was s.history.log s.generation.value.number j.risen j.was) j.below)
 
 pub invariant_of-self : goal.invariant_of-self
-invariant_of-self g c =
-    let s = c.self.inside in
-    joined-later (opening_of s.shared.value.sizes) s.shared.value.history.book s.history.book c.retire_over.new.history.book s.history.log
-    c.retire_over.new.history.log s.generation.value s.newest s.older.items c.self.invariant c.retire_over.ensures.later.0
-    c.retire_over.ensures.later.1 c.retire_over.ensures.risen
+invariant_of-self g c = (
+  let s = c.self.inside in
+      joined-later (opening_in s.shared.value) s.shared.value.history.book s.history.book c.retire_over.new.history.book s.history.log
+      c.retire_over.new.history.log s.generation.value s.newest s.older.items c.self.invariant.0 c.retire_over.ensures.later.0
+      c.retire_over.ensures.later.1 c.retire_over.ensures.risen,
+  c.self.invariant.1,
+)
 
 pub returns-clause-later : goal.returns-clause-later
 returns-clause-later g c =

@@ -8,6 +8,7 @@ use Rattle.kfifo_renewing.proofs.handle.RenewingHandle.take_newest.Goals as goal
 pub returns : goal.returns
 returns g c =
     let T = g.row.T.Denot in
+    let R = g.K.Kind.takes in
     let now = c.args.self.now in
     let new = c.look_again.new.self in
     let h = c.take-taken.new.self.handle in
@@ -21,8 +22,8 @@ returns g c =
       );
       takes = record {
         taken = c.take-taken.result;
-        takes = subst (λ (x : Pooled T). TakesThere c.take-taken.result now.newest x) (sym newest)
-            (subst (λ (v : Generations T). TakesThere c.take-taken.result v.newest h) c.self.view_is c.take-taken.ensures.takes);
+        did = subst (λ (x : Pooled T). TakesThere R c.take-taken.result now.newest x) (sym newest)
+            (subst (λ (v : Generations T). TakesThere R c.take-taken.result v.newest h) c.self.view_is c.take-taken.ensures.takes);
         then = subst (λ (v : Generations T). LooksAgain c.take-taken.result c.look_again.result v new) e c.look_again.ensures.looks;
       };
     }

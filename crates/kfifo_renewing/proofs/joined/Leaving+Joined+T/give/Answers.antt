@@ -1,6 +1,5 @@
 -- The pass is the same after the call.
-use Rattle.std.proofs.Common.{ap, sym, ◌∙◌, subst}
-use Rattle.kfifo_live.specs.declared.view.Opening.{Opening}
+use Rattle.std.proofs.Common.{sym, ◌∙◌, subst}
 use Rattle.kfifo_renewing.specs.Joining.{FoundEmpty}
 use Rattle.kfifo_renewing.proofs.joined.Leaving+Joined+T.give.Goals as goal
 
@@ -9,6 +8,5 @@ invariant_of-self-inside g c =
     let i = c.self-inside.invariant in
     let same = c.give.ensures.same in (
       (same.0 ∙ i.0.0, same.1 ∙ i.0.1),
-      ap (λ (o : Opening). o.bare) same.1 ∙ i.1,
-      λ over. subst (FoundEmpty g.row.T.Denot) (sym same.0) (i.2 over),
+      λ over. subst (FoundEmpty g.row.T.Denot) (sym same.0) (i.1 over),
     )

@@ -8,4 +8,4 @@ pub returns : goal.returns
 returns g c over =
     let T = g.row.T.Denot in
     subst (FoundEmpty T) (ap (λ (i : Inside (Joined T)). i.part.handle.held.pass.pass.table) c.self-inside.view_is
-    ∙ ap (λ (p : PartView T). p.handle.held.pass.pass.table) c.self.view_is) (c.self-inside.invariant.2 over)
+    ∙ ap (λ (p : PartView T). p.handle.held.pass.pass.table) c.self.view_is) (c.self-inside.invariant.1 over)

@@ -8,7 +8,6 @@ pub invariant_of-self-inside : goal.invariant_of-self-inside
 invariant_of-self-inside g c =
     let T = g.row.T.Denot in (
       c.self-inside.invariant.0,
-      c.self-inside.invariant.1,
       λ over. subst (FoundEmpty T) (sym (ap (λ (i : Inside (Joined T)). i.part.handle.held.pass.pass.table) c.self-inside.view_is
           ∙ ap (λ (p : PartView T). p.handle.held.pass.pass.table) c.self.view_is)) (c.requires over),
     )

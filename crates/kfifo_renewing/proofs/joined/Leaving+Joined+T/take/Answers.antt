@@ -1,26 +1,28 @@
 -- The pass is the same after the call.
 use Rattle.std.proofs.Common.{ap, sym, ◌∙◌, subst}
-use Rattle.kfifo_live.specs.declared.view.Opening.{Opening}
 use Rattle.kfifo_pool.specs.Pooled.{Pooled}
 use Rattle.kfifo_renewing.specs.declared.joined.Joined.{Joined}
 use Rattle.kfifo_renewing.specs.declared.leaving.Leaving.TheInside.{Inside}
 use Rattle.kfifo_renewing.specs.Joining.{FoundEmpty, PartView}
-use Rattle.kfifo_renewing.specs.Renewing.{TakesThere}
+use Rattle.kfifo_renewing.specs.Renewing.{FindsEmpty, TakesThere}
 use Rattle.kfifo_renewing.proofs.joined.Leaving+Joined+T.take.Goals as goal
 
 pub invariant_of-self-inside : goal.invariant_of-self-inside
 invariant_of-self-inside g c =
     let i = c.self-inside.invariant in
-    let same = c.receive.ensures.same in (
+    let same = c.take.ensures.same in (
       (same.0 ∙ i.0.0, same.1 ∙ i.0.1),
-      ap (λ (o : Opening). o.bare) same.1 ∙ i.1,
-      λ over. subst (FoundEmpty g.row.T.Denot) (sym same.0) (i.2 over),
+      λ over. subst (FoundEmpty g.row.T.Denot) (sym same.0) (i.1 over),
     )
 
 pub returns-clause-takes : goal.returns-clause-takes
 returns-clause-takes g c =
     let T = g.row.T.Denot in
-    let e = c.receive.ensures in
     let here = ap (λ (i : Inside (Joined T)). i.part.handle) c.self-inside.view_is ∙ ap (λ (p : PartView T). p.handle) c.self.view_is in
-    subst (λ (h : Pooled T). TakesThere c.receive.result h c.receive.new.self) here
-    (record { same = e.same; takes = e.receives; busy = e.busy; starts = e.starts; promise = e.promise })
+    subst (λ (h : Pooled T). TakesThere g.K.Kind.takes c.take.result h c.take.new.handle) here c.take.ensures.takes
+
+pub returns-clause-empty : goal.returns-clause-empty
+returns-clause-empty g c = λ is.
+    let T = g.row.T.Denot in
+    let here = ap (λ (i : Inside (Joined T)). i.part.handle) c.self-inside.view_is ∙ ap (λ (p : PartView T). p.handle) c.self.view_is in
+    subst (λ (h : Pooled T). FindsEmpty h c.take.new.handle) here (c.take.ensures.empty is)
