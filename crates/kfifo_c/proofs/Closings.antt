@@ -1,9 +1,9 @@
 -- What is behind handles, read one after the other, and when a queue may be closed by them.
 use Rattle.std.proofs.Common.{◌≡◌, ◌+◌, ◌*◌, ◌<◌, ◌≤◌, ℕ, zero, suc, List, [], ◌∷◌, ◌++◌, Option, Some, None, IfSome, MatchOption, All}
-use Rattle.std.proofs.Common.{length, map, take, get_or, refl, sym, ap, subst, ◌∙◌, ◌≢◌, arith, rules, below_more}
+use Rattle.std.proofs.Common.{length, map, take, get_or, refl, sym, ap, subst, ◌∙◌, arith, rules}
 use Rattle.std.specs.Prelude.{◌==◌}
 use Rattle.std.specs.List.{list_any}
-use Rattle.std.proofs.lemmas.List.{take_more, length-map, length-append, get_or-set_same, get_or-set_other}
+use Rattle.std.proofs.lemmas.List.{take_more, length-map, length-append}
 use Rattle.std.proofs.lemmas.List.Elements.{All-cons, All-head, All-nil, All-tail}
 use Rattle.std.proofs.Math.ListN.{set, get_or-map as get_or_map}
 use Rattle.std.proofs.Math.Seq.{map-set_same}
@@ -14,16 +14,16 @@ use Rattle.kfifo_live.specs.Pass.{OpenQueue, PassView, IsPassOf, IsComplete, Clo
 use Rattle.kfifo_live.specs.Left.{item_in, slots_left, segments_left, items_left}
 use Rattle.kfifo_c.specs.declared.handle.Handle.{Handle}
 use Rattle.kfifo_c.specs.Seats.{Seated}
-use Rattle.kfifo_c.specs.Handles.{behind, addresses}
+use Rattle.kfifo_c.specs.Handles.{all_fields, behind, fields_of}
 use Rattle.kfifo_c.specs.Exports.{passes_in, numbers_in, BeginsWith, HasEach, IsOpenOf, MayClose, OneQueue, AreTheirs}
 
 -- a handle gets back what was behind it
 pub put_back : (hs : List Handle) (i : ℕ) (h d : Handle) → h.held.value ≡ (get_or hs i d).held.value → behind (set hs i h) ≡ behind hs
 put_back hs i h d e = map-set_same (λ handle. handle.held.value) hs i h d e
 
--- and stays where it was
-pub same_address : (hs : List Handle) (i : ℕ) (h d : Handle) → h.address ≡ (get_or hs i d).address → addresses (set hs i h) ≡ addresses hs
-same_address hs i h d e = map-set_same (λ handle. handle.address) hs i h d e
+-- and the fields stay as they were
+pub same_fields : (hs : List Handle) (i : ℕ) (h d : Handle) → fields_of h ≡ fields_of (get_or hs i d) → all_fields (set hs i h) ≡ all_fields hs
+same_fields hs i h d e = map-set_same (λ handle. fields_of handle) hs i h d e
 
 -- the next handle of a list
 pub next_behind : (hs : List Handle) (os : List (Option Seated)) (i : ℕ) (d : Handle) (o : Option Seated) → behind hs ≡ os → i < length hs
@@ -130,17 +130,12 @@ numbers_more (Some x ∷ os) s = ap (λ l. x.pass.thread ∷ l) (numbers_more os
 pub numbers_same : (os : List (Option Seated)) → numbers_in (os ++ None ∷ []) ≡ numbers_in os
 numbers_same os = ap (map (λ pass. pass.thread)) (passes_same os)
 
--- handles that are taken in turn: those behind are as they were, and those before are closed
-pub rest_more : (olds hs : List Handle) (i : ℕ) (h : Handle) → ((k : ℕ) (d : Handle) → i ≤ k → get_or hs k d ≡ get_or olds k d)
-    → (k : ℕ) (d : Handle) → i + 1 ≤ k → get_or (set hs i h) k d ≡ get_or olds k d
-rest_more olds hs i h rest k d above = let ne : k ≢ i = omega arith in get_or-set_other hs i k h d ne ∙ rest k d (omega arith)
-
-pub closed_more : (hs : List Handle) (i : ℕ) (h : Handle) → ((k : ℕ) (d : Handle) → k < i → (get_or hs k d).held.value ≡ None)
-    → h.held.value ≡ None → i < length hs
-    → (k : ℕ) (d : Handle) → k < i + 1 → (get_or (set hs i h) k d).held.value ≡ None
-closed_more hs i h closed is below k d under = below_more (λ (j : ℕ). (get_or (set hs i h) j d).held.value ≡ None) i
-    (λ j lt. let ne : j ≢ i = omega arith in ap (λ x. x.held.value) (get_or-set_other hs i j h d ne) ∙ closed j d lt)
-    (ap (λ x. x.held.value) (get_or-set_same hs i h d below) ∙ is) k under
+-- what is behind handles that are all open
+pub seats_open : (q : OpenQueue) (os : List (Option Seated)) → All (IsOpenOf q) os → (ss : List Seated) × (os ≡ map Some ss)
+seats_open q [] each = ([], refl)
+seats_open q (None ∷ os) each = absurd (All-head (IsOpenOf q) None os each)
+seats_open q (Some s ∷ os) each =
+    let rest = seats_open q os (All-tail (IsOpenOf q) (Some s) os each) in (s ∷ rest.0, ap (λ l. Some s ∷ l) rest.1)
 
 pub one_longer : {A : Type 0} (xs : List A) (x : A) → length (xs ++ x ∷ []) ≡ length xs + 1
 one_longer xs x = length-append xs (x ∷ [])

@@ -1,28 +1,18 @@
 -- Handles of a queue of values, open and closed, and what is behind lists of them.
-use Rattle.std.proofs.Common.{◌≡◌, ◌<◌, ◌≤◌, ◌+◌, ◌*◌, ◌^◌, ◌≢◌, arith, take, sym, ap, subst, ◌∙◌, map, reverse, length, ℕ, zero, suc, List, [], ◌∷◌, ◌++◌}
-use Rattle.std.proofs.Common.{Option, Some, None, get_or, refl, below_more, true, true≢false, rules, inr}
-use Rattle.std.specs.Prelude.{Bool, ◌==◌, ◌&&◌, not, SomeIff}
+use Rattle.std.proofs.Common.{◌≡◌, ◌<◌, ◌≤◌, ◌+◌, ◌*◌, ◌^◌, arith, take, sym, ap, subst, ◌∙◌, map, reverse, length, ℕ, zero, suc, List, [], ◌∷◌, ◌++◌}
+use Rattle.std.proofs.Common.{Option, Some, None, get_or, refl, true, rules, inr}
+use Rattle.std.specs.Prelude.{Bool, ◌==◌, ◌&&◌, SomeIff}
 use Rattle.std.specs.List.{list_all}
 use Rattle.std.proofs.lemmas.List.{append_assoc, take_all, take_more, take_more_set, map-append, length-map, length-set}
-use Rattle.std.proofs.lemmas.List.{get_or-set_same, get_or-set_other}
 use Rattle.std.proofs.Math.ListN.{set, get_or-map as get_or_map}
 use Rattle.std.proofs.Math.Seq.{map-set_same}
 use Rattle.kfifo_renewing.specs.Renewing.{Follows}
 use Rattle.kfifo_c.specs.declared.value_queue.handle.ValueHandle.{ValueHandle}
-use Rattle.kfifo_c.specs.ValueHandles.{values_behind, value_addresses}
-use Rattle.kfifo_c.specs.ValueSeats.{ValueSeated, value_starts_of}
+use Rattle.kfifo_c.specs.ValueHandles.{all_fields, fields_of, values_behind}
+use Rattle.kfifo_c.specs.ValueSeats.{ValueSeated}
 use Rattle.kfifo_c.specs.Values.{AreAll, LastFollows, MayCloseValues, NeedsRoom, room_for, seats_in}
 use Rattle.kfifo_c.proofs.Passes.{reverse_mapped}
-
--- a handle whose k is not 0 is open
-pub something : (o : Option ValueSeated) → ¬ (value_starts_of o ≡ 0) → (x : ValueSeated) × (o ≡ Some x)
-something (Some x) some = (x, refl)
-something None some = absurd (some refl)
-
--- and else it is closed
-pub closed_at : (o : Option ValueSeated) → value_starts_of o ≡ 0 → o ≡ None
-closed_at None none = refl
-closed_at (Some x) none = let slots = x.opened.shape.some_slot in absurd (omega arith)
+use Rattle.kfifo_c.proofs.Turns.{is_kind, kind_of, same_kind, something}
 
 -- a seat that is taken from the end of a list and put behind the next handle
 pub put_more : {B : Type 0} (f : B → ValueSeated) (hs : List ValueHandle) (i : ℕ) (h : ValueHandle) (rest : List B) (b : B)
@@ -42,33 +32,28 @@ pub put_back : (hs : List ValueHandle) (i : ℕ) (h d : ValueHandle) → h.held.
     → values_behind (set hs i h) ≡ values_behind hs
 put_back hs i h d e = map-set_same (λ handle. handle.held.value) hs i h d e
 
--- and stays where it was
-pub same_address : (hs : List ValueHandle) (i : ℕ) (h d : ValueHandle) → h.address ≡ (get_or hs i d).address
-    → value_addresses (set hs i h) ≡ value_addresses hs
-same_address hs i h d e = map-set_same (λ handle. handle.address) hs i h d e
+-- and the fields stay as they were
+pub same_fields : (hs : List ValueHandle) (i : ℕ) (h d : ValueHandle) → fields_of h ≡ fields_of (get_or hs i d) → all_fields (set hs i h) ≡ all_fields hs
+same_fields hs i h d e = map-set_same (λ handle. fields_of handle) hs i h d e
 
 -- the test of all handles: what is behind them are seats
-nonzero : (n : ℕ) → ¬ (n ≡ 0) → not (n == 0) ≡ true
-nonzero n some = search (rules, some)
-
-pub each_open : (hs : List ValueHandle) → list_all (λ handle. not (handle.starts == 0)) hs ≡ true
+pub each_open : (hs : List ValueHandle) → list_all (λ handle. handle.kind == 2) hs ≡ true
     → values_behind hs ≡ map Some (seats_in (values_behind hs))
 each_open [] e = refl
 each_open (h ∷ hs) e =
-    let each : (not (h.starts == 0) ≡ true) × (list_all (λ handle. not (handle.starts == 0)) hs ≡ true) = search (rules, e) in
-    let is = something h.held.value (λ none. absurd (true≢false (sym each.0 ∙ ap (λ (n : ℕ). not (n == 0)) (h.starts_are ∙ none)))) in
+    let each : ((h.kind == 2) ≡ true) × (list_all (λ handle. handle.kind == 2) hs ≡ true) = search (rules, e) in
+    let is = something h.held.value 2 h.kind h.starts h.kind_is (same_kind h.kind 2 each.0) in
     ap (λ (o : Option ValueSeated). o ∷ values_behind hs) is.1 ∙ ap (λ (l : List (Option ValueSeated)). Some is.0 ∷ l) (each_open hs each.1)
     ∙ ap (λ (o : Option ValueSeated). map Some (seats_in (o ∷ values_behind hs))) (sym is.1)
 
 pub all_pass : (hs : List ValueHandle) (ss : List ValueSeated) → values_behind hs ≡ map Some ss
-    → list_all (λ handle. not (handle.starts == 0)) hs ≡ true
+    → list_all (λ handle. handle.kind == 2) hs ≡ true
 all_pass [] ss e = refl
 all_pass (h ∷ hs) [] e = search (rules, e)
 all_pass (h ∷ hs) (s ∷ ss) e =
     let each : (h.held.value ≡ Some s) × (values_behind hs ≡ map Some ss) = search (rules, e) in
-    let slots = s.opened.shape.some_slot in
-    ap (λ (b : Bool). b && list_all (λ handle. not (handle.starts == 0)) hs)
-    (nonzero h.starts (λ none. let k : s.opened.shape.k ≡ 0 = sym (ap value_starts_of each.0) ∙ sym h.starts_are ∙ none in absurd (omega arith)))
+    ap (λ (b : Bool). b && list_all (λ handle. handle.kind == 2) hs)
+    (is_kind h.kind 2 (kind_of h.held.value 2 h.kind h.starts s h.kind_is each.0))
     ∙ all_pass hs ss each.1
 
 -- the seats of a list
@@ -99,14 +84,14 @@ pub one_last : (a b : List ValueSeated) (x y : ValueSeated) → a ++ x ∷ [] �
 one_last a b x y e = sym (last_is x a x) ∙ ap (last_or x) e ∙ last_is x b y
 
 -- a handle of those that pass the test
-pub open_at : (hs : List ValueHandle) (i : ℕ) (d : ValueHandle) → list_all (λ handle. not (handle.starts == 0)) hs ≡ true
+pub open_at : (hs : List ValueHandle) (i : ℕ) (d : ValueHandle) → list_all (λ handle. handle.kind == 2) hs ≡ true
     → i < length hs → (s : ValueSeated) × ((get_or hs i d).held.value ≡ Some s)
 open_at [] i d e below = absurd (omega arith)
 open_at (h ∷ hs) zero d e below =
-    let each : (not (h.starts == 0) ≡ true) × (list_all (λ handle. not (handle.starts == 0)) hs ≡ true) = search (rules, e) in
-    something h.held.value (λ none. absurd (true≢false (sym each.0 ∙ ap (λ (n : ℕ). not (n == 0)) (h.starts_are ∙ none))))
+    let each : ((h.kind == 2) ≡ true) × (list_all (λ handle. handle.kind == 2) hs ≡ true) = search (rules, e) in
+    something h.held.value 2 h.kind h.starts h.kind_is (same_kind h.kind 2 each.0)
 open_at (h ∷ hs) (suc i) d e below =
-    let each : (not (h.starts == 0) ≡ true) × (list_all (λ handle. not (handle.starts == 0)) hs ≡ true) = search (rules, e) in
+    let each : ((h.kind == 2) ≡ true) × (list_all (λ handle. handle.kind == 2) hs ≡ true) = search (rules, e) in
     open_at hs i d each.1 (omega arith)
 
 -- the seats of handles that are all
@@ -124,14 +109,14 @@ behind_more hs ss h s are is =
     ∙ ap (λ (o : Option ValueSeated). map Some ss ++ o ∷ []) is ∙ sym (map-append Some ss (s ∷ []))
 
 -- the first of handles that pass the test
-take_pass : (hs : List ValueHandle) (i : ℕ) → list_all (λ handle. not (handle.starts == 0)) hs ≡ true
-    → list_all (λ handle. not (handle.starts == 0)) (take i hs) ≡ true
+take_pass : (hs : List ValueHandle) (i : ℕ) → list_all (λ handle. handle.kind == 2) hs ≡ true
+    → list_all (λ handle. handle.kind == 2) (take i hs) ≡ true
 take_pass [] zero e = refl
 take_pass [] (suc i) e = refl
 take_pass (h ∷ hs) zero e = refl
 take_pass (h ∷ hs) (suc i) e =
-    let each : (not (h.starts == 0) ≡ true) × (list_all (λ handle. not (handle.starts == 0)) hs ≡ true) = search (rules, e) in
-    ap (λ (b : Bool). b && list_all (λ handle. not (handle.starts == 0)) (take i hs)) each.0 ∙ take_pass hs i each.1
+    let each : ((h.kind == 2) ≡ true) × (list_all (λ handle. handle.kind == 2) hs ≡ true) = search (rules, e) in
+    ap (λ (b : Bool). b && list_all (λ handle. handle.kind == 2) (take i hs)) each.0 ∙ take_pass hs i each.1
 
 -- the last of these handles, before and after a change of its seat
 pub record Last (hs : List ValueHandle) (i : ℕ) (h : ValueHandle) (was is : ValueSeated) : Type 0 where
@@ -141,7 +126,7 @@ pub record Last (hs : List ValueHandle) (i : ℕ) (h : ValueHandle) (was is : Va
   pub count : length (values_behind (set hs i h)) ≡ length hs
 
 pub last_step : (hs : List ValueHandle) (i : ℕ) (h d : ValueHandle) (was is : ValueSeated)
-    → list_all (λ handle. not (handle.starts == 0)) hs ≡ true → i + 1 ≡ length hs → (get_or hs i d).held.value ≡ Some was
+    → list_all (λ handle. handle.kind == 2) hs ≡ true → i + 1 ≡ length hs → (get_or hs i d).held.value ≡ Some was
     → h.held.value ≡ Some is → Last hs i h was is
 last_step hs i h d was is pass whole there here =
     let below : i < length hs = omega arith in
@@ -205,16 +190,3 @@ next_behind hs i d o below is =
     let below' : i < length (values_behind hs) = subst (λ (n : ℕ). i < n) (sym (length-map hs (λ handle. handle.held.value))) below in
     take_more (values_behind hs) i d.held.value below'
     ∙ ap (λ (x : Option ValueSeated). take i (values_behind hs) ++ x ∷ []) (get_or_map (λ handle. handle.held.value) hs i d ∙ is)
-
--- handles that are taken in turn: those behind are as they were, and those before are closed
-pub rest_more : (olds hs : List ValueHandle) (i : ℕ) (h : ValueHandle)
-    → ((k : ℕ) (d : ValueHandle) → i ≤ k → get_or hs k d ≡ get_or olds k d)
-    → (k : ℕ) (d : ValueHandle) → i + 1 ≤ k → get_or (set hs i h) k d ≡ get_or olds k d
-rest_more olds hs i h rest k d above = let ne : k ≢ i = omega arith in get_or-set_other hs i k h d ne ∙ rest k d (omega arith)
-
-pub closed_more : (hs : List ValueHandle) (i : ℕ) (h : ValueHandle)
-    → ((k : ℕ) (d : ValueHandle) → k < i → (get_or hs k d).held.value ≡ None) → h.held.value ≡ None → i < length hs
-    → (k : ℕ) (d : ValueHandle) → k < i + 1 → (get_or (set hs i h) k d).held.value ≡ None
-closed_more hs i h closed is below k d under = below_more (λ (j : ℕ). (get_or (set hs i h) j d).held.value ≡ None) i
-    (λ j lt. let ne : j ≢ i = omega arith in ap (λ x. x.held.value) (get_or-set_other hs i j h d ne) ∙ closed j d lt)
-    (ap (λ x. x.held.value) (get_or-set_same hs i h d below) ∙ is) k under

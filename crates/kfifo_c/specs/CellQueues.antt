@@ -1,75 +1,39 @@
--- What opening and closing a queue of cells say of its handles.
-use Rattle.std.specs.Prelude.{◌≡◌, ℕ, ◌*◌, ◌≤◌, Option, Some, None, List, [], ◌∷◌, ◌++◌, map, length, drop, true}
-use Rattle.kfifo_words.specs.declared.shape.Shape.{Shape}
-use Rattle.kfifo_live.specs.Pass.{OpenQueue}
-use Rattle.kfifo_live.specs.Payloads.{PayPassView, TokenView, new_pay_passes, pay_opening}
-use Rattle.kfifo_renewing.specs.Renewing.{ClosesAll, Generations, HaveOne}
-use Rattle.kfifo_c.specs.declared.cell_queue.opening.CellSizes.{CellSizes}
-use Rattle.kfifo_c.specs.CellSeats.{CellSeated, cell_seated}
-use Rattle.kfifo_c.specs.Cells.{cell_of}
-use Rattle.kfifo_c.specs.Values.{with_spare, without_spare}
+-- What C is told of a cell's layout, and what closing a queue of cells says of its handles.
+use Rattle.std.specs.Prelude.{◌≡◌, ℕ, ◌%◌, ◌==◌, ◌&&◌, Bool, not, Option, Some, None, List, [], ◌∷◌, ◌++◌, map, length}
+use Rattle.kfifo_renewing.specs.Cells.{LeavesCells}
+use Rattle.kfifo_renewing.specs.Renewing.{Gathers, HeldIn}
+use Rattle.kfifo_c.specs.CellLeft.{LeftSeated}
+use Rattle.kfifo_c.specs.CellSeats.{CellSeated}
 
--- the handle is of a queue of these sizes
-abbrev pub IsOpenedLike : CellSizes → Generations TokenView → Type 0
-IsOpenedLike sizes g = (sizes.shape ≡ g.opened.shape) × (sizes.threads ≡ g.opened.threads)
-    × (sizes.tokens ≡ without_spare g.opened)
+-- A cell may have this size and alignment, in bytes: the alignment is a power of two up to 4,096, which are the numbers
+-- that divide 4,096, and the size is a multiple of it
+abbrev pub is_layout : ℕ → ℕ → Bool
+is_layout size alignment = not (alignment == 0) && (4096 % alignment == 0) && not (size == 0) && (size % alignment == 0)
 
--- the tokens of a pass of this queue
-abbrev pub tokens_of : OpenQueue → PayPassView (Unit {0}) → List TokenView
-tokens_of source p = map (λ number. record { queue = source; number = number }) p.tokens
-
--- the seats of these handles, each with the tokens of the pass beside it
-abbrev pub seats_with : OpenQueue → List (Generations TokenView) → List (PayPassView (Unit {0})) → List CellSeated
-seats_with source [] passes = []
-seats_with source (h ∷ handles) [] = []
-seats_with source (h ∷ handles) (p ∷ passes) = cell_seated h (tokens_of source p) ∷ seats_with source handles passes
-
--- A queue of these sizes was opened, and these are its new seats: all that the renewing queue says of an opening. The
--- tokens of the cells are those of a queue that was opened like it, but for the spare tokens
-pub record OpensCells (shape : Shape) (threads tokens : ℕ) (seats : List CellSeated) : Type 0 where
-  pub handles : List (Generations TokenView)
-  pub have_one : HaveOne (pay_opening shape threads (with_spare tokens)) handles
-  pub count : length handles ≡ threads
-  pub source : OpenQueue
-  pub opened : source.opened ≡ pay_opening shape threads tokens
-  pub seats_are : seats ≡ seats_with source handles (new_pay_passes source 0 threads)
-
--- those of these sizes
-pub record OpensCellSizes (k segments last probes threads tokens : ℕ)
-    (handles : List (Option CellSeated)) : Type 0 where
-  pub shape : Shape
-  pub k_is : shape.k ≡ k
-  pub segments_are : shape.n ≡ segments
-  pub last_is : shape.last ≡ last
-  pub probes_are : shape.probes ≡ probes
-  pub holds_again : shape.holds_again ≡ true
-  pub seats : List CellSeated
-  pub opens : OpensCells shape threads tokens seats
-  pub handles_are : handles ≡ map Some seats
-
--- the handles behind the open ones of these handles
-abbrev pub held_in : List (Option CellSeated) → List (Generations TokenView)
-held_in [] = []
-held_in (None ∷ handles) = held_in handles
-held_in (Some seat ∷ handles) = seat.held ∷ held_in handles
+-- the seats behind the open ones of these handles
+abbrev pub cell_seats_in : List (Option CellSeated) → List CellSeated
+cell_seats_in [] = []
+cell_seats_in (None ∷ handles) = cell_seats_in handles
+cell_seats_in (Some seat ∷ handles) = seat ∷ cell_seats_in handles
 
 -- these handles are open, and as many as the queue of the last has: that one, and others
 pub record AreAllCells (handles : List (Option CellSeated)) : Type 0 where
   pub others : List CellSeated
   pub last : CellSeated
   pub each_open : handles ≡ map Some (others ++ last ∷ [])
-  pub count : length handles ≡ last.held.opened.threads
+  pub count : length handles ≡ last.opened.threads
 
--- and there is room for all cells
-pub record MayCloseCells (handles : List (Option CellSeated)) (room : ℕ) : Type 0 where
-  pub all : AreAllCells handles
-  pub room_is : all.last.held.opened.threads * without_spare all.last.held.opened ≤ room
+-- the cells of these generations, one generation after the other
+abbrev pub all_cells : List (List ℕ) → List ℕ
+all_cells [] = []
+all_cells (cells ∷ generations) = cells ++ all_cells generations
 
--- A queue was closed by these handles, and the cells that were left were written, and their number: all that the
--- renewing queue says of a close
-pub record ClosesCells (handles : List (Option CellSeated)) (old new : List ℕ) (count : ℕ) : Type 0 where
+-- A queue was closed by these handles, and these cells were left in it, those of the oldest generation first: all that
+-- the renewing queue says of a close
+pub record ClosesCells (handles : List (Option CellSeated)) (left : Option LeftSeated) : Type 0 where
   pub all : AreAllCells handles
-  pub left : List TokenView
-  pub closes : ClosesAll all.last.held left
-  pub count_is : count ≡ length left
-  pub written : new ≡ map cell_of left ++ drop (length left) old
+  pub held : List (HeldIn (Unit {0}))
+  pub gathers : Gathers all.last held
+  pub generations : List (List ℕ)
+  pub leaves : LeavesCells held generations
+  pub left_is : left ≡ Some (all_cells generations)

@@ -12,7 +12,7 @@ use Rattle.kfifo_machine.specs.declared.event.Begin.TheVariants.{Enqueue, Dequeu
 use Rattle.kfifo_linear.specs.Headline.{HasLegalOrder, FewOvertake, FewCertainlyOvertake}
 use Rattle.kfifo_live.specs.Schedule.{opening}
 use Rattle.kfifo_live.specs.declared.fault.OpenFault.{OpenFault}
-use Rattle.kfifo_live.specs.declared.fault.OpenFault.TheVariants.{ThreadsOutOfRange, TokensOutOfRange}
+use Rattle.kfifo_live.specs.declared.fault.OpenFault.TheVariants.{ThreadsOutOfRange}
 use Rattle.kfifo_live.specs.Calls.{MakesCall, IsDisturbed}
 use Rattle.kfifo_live.specs.Promise.{KeepsPromise}
 use Rattle.kfifo_live.specs.Pass.{OpenQueue, PassView, IsPassOf, IsSamePass, Finds, IsZeroed, new_passes, IsComplete}
@@ -38,7 +38,6 @@ shape_number fault = 10 + shape_fault_number fault
 -- the number of an opening that was refused
 abbrev pub open_number : OpenFault → ℕ
 open_number ThreadsOutOfRange = 8
-open_number TokensOutOfRange = 15
 open_number other = 7
 
 -- what a dequeue leaves in the variable of its item
@@ -102,6 +101,15 @@ module _ {A S : Type 0} where
   Tries may makes None old new = (new ≡ old) × IfSome old (λ seat. ¬ may seat)
   Tries may makes (Some answer) old new = (seat after : S) × (old ≡ Some seat) × (new ≡ Some after) × may seat
       × makes answer seat after
+
+-- how many were counted, and 0 where the call was not made
+abbrev pub count_of : Option ℕ → ℕ
+count_of None = 0
+count_of (Some count) = count
+
+-- the items of the queue were counted, at most one of each slot
+abbrev pub HasCounted : ℕ → Seated → Seated → Type 0
+HasCounted count old new = (new ≡ old) × (count ≤ old.queue.opened.shape.n * old.queue.opened.shape.k)
 
 -- the pass read this word, and saw what it says of the queue
 pub record HasRead (index word : ℕ) (old new : Seated) : Type 0 where

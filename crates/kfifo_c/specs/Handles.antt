@@ -1,13 +1,38 @@
 -- Handles, as clauses see them.
-use Rattle.std.specs.Prelude.{Option, List, map}
-use denote.RawPtr.{Ptr}
+use Rattle.std.specs.Prelude.{◌≡◌, ◌<◌, ℕ, Option, None, MatchOption, List, map, length, get_or}
 use Rattle.kfifo_c.specs.declared.handle.Handle.{Handle}
+use Rattle.kfifo_c.specs.Fields.{AreZero, Fields}
 use Rattle.kfifo_c.specs.Seats.{Seated}
 
 -- what is behind each of these handles
 abbrev pub behind : List Handle → List (Option Seated)
 behind = map (λ handle. handle.held.value)
 
--- and where their queues are
-abbrev pub addresses : List Handle → List Ptr
-addresses = map (λ handle. handle.address)
+-- what stands in a handle
+abbrev pub fields_of : Handle → Fields
+fields_of handle = record {
+  inside = handle.held.at;
+  address = handle.address;
+  starts = handle.starts;
+  kind = handle.kind;
+  mark = handle.mark;
+  size = handle.size;
+  alignment = handle.alignment;
+}
+
+-- and in each of these
+abbrev pub all_fields : List Handle → List Fields
+all_fields = map (λ handle. fields_of handle)
+
+-- the handle is closed
+abbrev pub IsClosed : Handle → Type 0
+IsClosed handle = (handle.held.value ≡ None) × AreZero (fields_of handle)
+
+-- An open handle was closed. One that is closed, or of another kind, is as it was
+abbrev pub WasClosed : Handle → Handle → Type 0
+WasClosed old new = MatchOption old.held.value (new ≡ old) (λ seat. IsClosed new)
+
+-- each of these was
+abbrev pub WereClosed : List Handle → List Handle → Type 0
+WereClosed old new = (length new ≡ length old)
+    × ((i : ℕ) (d : Handle) → i < length old → WasClosed (get_or old i d) (get_or new i d))

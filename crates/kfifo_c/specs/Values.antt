@@ -1,32 +1,20 @@
--- What C is told of the calls with values, and what opening and closing say of the handles. c/kfifo.h has the same
--- numbers.
-use Rattle.std.specs.Prelude.{◌≡◌, ℕ, ◌+◌, ◌-◌, ◌*◌, ◌^◌, ◌<◌, ◌≤◌, ◌⊎◌, Option, Some, None, List, [], ◌∷◌, ◌++◌, map}
-use Rattle.std.specs.Prelude.{length}
-use Rattle.std.specs.Prelude.{drop, true}
-use Rattle.kfifo_words.specs.declared.shape.Shape.{Shape}
+-- What C is told of the calls with values, and what closing says of the handles. c/kfifo.h has the same numbers.
+use Rattle.std.specs.Prelude.{◌≡◌, ℕ, ◌*◌, ◌^◌, ◌≤◌, ◌⊎◌, Option, Some, None, List, [], ◌∷◌, ◌++◌, map, length, drop}
 use Rattle.kfifo_live.specs.declared.payload.Given.{Given}
 use Rattle.kfifo_live.specs.declared.payload.Given.TheVariants as G
 use Rattle.kfifo_live.specs.declared.payload.Taken.{Taken}
 use Rattle.kfifo_live.specs.declared.payload.Taken.TheVariants as K
-use Rattle.kfifo_live.specs.Payloads.{pay_opening}
-use Rattle.kfifo_live.specs.declared.payload.opening.TheConstants.{MAX_TOKENS, MOST_TOKENS}
-use Rattle.kfifo_live.specs.declared.tokens.sizes.TheConstants.{SPARE_TOKENS}
-use Rattle.kfifo_live.specs.declared.view.Opening.{Opening}
-use Rattle.kfifo_renewing.specs.declared.fault.RenewFault.{RenewFault}
-use Rattle.kfifo_renewing.specs.declared.fault.RenewFault.TheVariants.{GenerationsOutOfRange, Open, ReserveOutOfRange}
-use Rattle.kfifo_live.specs.Refusals.{IsOutOf}
-use Rattle.kfifo_renewing.specs.Renewing.{ClosesAll, Follows, HaveOne, all_of, generations_for}
-use Rattle.kfifo_c.specs.Exports.{open_number}
+use Rattle.kfifo_renewing.specs.Renewing.{ClosesAll, Follows, all_of}
 use Rattle.kfifo_c.specs.ValueSeats.{ValueSeated}
 
 module _ {T : Type 0} where
-  -- the number of what a give came to, and of one that was not made
+  -- The number of what a give came to, and of one that was not made. With no token for the value there is no room for it
   abbrev pub given_number : Option (Given T) → ℕ
   given_number (Some G.Done) = 0
   given_number (Some (G.Full value)) = 1
   given_number (Some (G.Busy value)) = 4
   given_number (Some (G.Worn value)) = 5
-  given_number (Some (G.NoToken value)) = 10
+  given_number (Some (G.NoToken value)) = 1
   given_number None = 6
 
   -- the number of what a take came to
@@ -37,50 +25,10 @@ module _ {T : Type 0} where
   taken_number (Some K.Worn) = 5
   taken_number None = 6
 
--- the number of an opening that was refused
-abbrev pub renew_number : RenewFault → ℕ
-renew_number (Open fault) = open_number fault
-renew_number ReserveOutOfRange = 18
-renew_number (GenerationsOutOfRange most) = 6
-
 -- what a take leaves in the variable of its value
 abbrev pub value_after : ℕ → Option (Taken ℕ) → ℕ
 value_after old (Some (K.Got value)) = value
 value_after old other = old
-
--- Each generation has SPARE_TOKENS tokens for each thread more than C asks for. A handle keeps no more than that for
--- itself, so the others find as many as they asked for
-abbrev pub with_spare : ℕ → ℕ
-with_spare tokens = tokens + SPARE_TOKENS
-
-abbrev pub without_spare : Opening → ℕ
-without_spare o = o.tokens - SPARE_TOKENS
-
--- there is no queue with so many tokens for each of these threads
-abbrev pub BadTokens : ℕ → ℕ → Type 0
-BadTokens threads tokens = (tokens ≡ 0) ⊎ (MAX_TOKENS < tokens) ⊎ (MOST_TOKENS < threads * with_spare tokens)
-
--- so many threads cannot have so many generations
-abbrev pub BadGenerations : ℕ → ℕ → Type 0
-BadGenerations threads generations = IsOutOf (generations_for threads) generations
-
--- a queue of these sizes was opened, and these are its new seats: all that the renewing queue says of an opening
-pub record OpensValues (shape : Shape) (threads tokens : ℕ) (seats : List ValueSeated) : Type 0 where
-  pub have_one : HaveOne (pay_opening shape threads (with_spare tokens)) seats
-  pub count : length seats ≡ threads
-
--- those of these sizes
-pub record OpensValueSizes (k segments last probes threads tokens : ℕ)
-    (handles : List (Option ValueSeated)) : Type 0 where
-  pub shape : Shape
-  pub k_is : shape.k ≡ k
-  pub segments_are : shape.n ≡ segments
-  pub last_is : shape.last ≡ last
-  pub probes_are : shape.probes ≡ probes
-  pub holds_again : shape.holds_again ≡ true
-  pub seats : List ValueSeated
-  pub opens : OpensValues shape threads tokens seats
-  pub handles_are : handles ≡ map Some seats
 
 -- the last of these handles may have followed others, if it is open; each of the others is as it was
 abbrev pub LastFollows : List (Option ValueSeated) → List (Option ValueSeated) → Type 0

@@ -3,7 +3,7 @@ ghost use Rattle.std.specs.Prelude.{◌≡◌, ◌⊎◌, ◌↔◌, ◌≤◌, 
 ghost use Rattle.std.specs.Prelude.{length, drop};
 ghost use Rattle.std.specs.List.{list_any};
 ghost use Rattle.kfifo_live.specs.Pass.{OpenQueue};
-ghost use Rattle.kfifo_c.specs.Handles.{behind, addresses};
+ghost use Rattle.kfifo_c.specs.Handles.{IsClosed, WereClosed, all_fields, behind};
 ghost use Rattle.kfifo_c.specs.Exports.{AreOfOneQueue, AreTheirs, BeginsWith, HasEach, MayClose, ClosesInto};
 ghost use Rattle.kfifo_c.specs.Exports.{numbers_in, passes_in};
 
@@ -16,7 +16,7 @@ use std::sync::Arc;
 /// A part in the queue of the first handle, and the number of its passes; none where it is closed, or not there.
 fn first_queue(handles: &mut [Handle]) -> Result<Option<(Arc<Queue, Global>, u32)>, AllocError>
     ensures same { behind handles.new ≡ behind handles.old }
-    ensures addresses { addresses handles.new ≡ addresses handles.old }
+    ensures fields { all_fields handles.new ≡ all_fields handles.old }
     ensures first { IfOk result (λ found.
         MatchOption found (¬ ((queue : OpenQueue) × BeginsWith queue (behind handles.old)))
         (λ found. BeginsWith found.0.value (behind handles.old) × (found.1 ≡ found.0.value.opened.threads))) }
@@ -36,7 +36,7 @@ fn first_queue(handles: &mut [Handle]) -> Result<Option<(Arc<Queue, Global>, u32
 /// The numbers of the passes behind the open ones of these handles.
 fn numbers(alloc: Global, handles: &mut [Handle]) -> Result<Vec<u32>, AllocError>
     ensures same { behind handles.new ≡ behind handles.old }
-    ensures addresses { addresses handles.new ≡ addresses handles.old }
+    ensures fields { all_fields handles.new ≡ all_fields handles.old }
     ensures numbers { IfOk result (λ numbers. numbers.items ≡ numbers_in (behind handles.old)) }
 {
     let mut numbers = Vec::with_capacity(alloc, handles.len())?;
@@ -78,7 +78,7 @@ fn ready(
 ) -> Result<Option<Arc<Queue, Global>>, AllocError>
     requires { AreOfOneQueue (behind handles.old) }
     ensures same { behind handles.new ≡ behind handles.old }
-    ensures addresses { addresses handles.new ≡ addresses handles.old }
+    ensures fields { all_fields handles.new ≡ all_fields handles.old }
     ensures may { IfOk result (λ found.
         MatchOption found (¬ ((queue : OpenQueue) × MayClose queue (behind handles.old) room))
         (λ queue. MayClose queue.value (behind handles.old) room)) }
@@ -103,7 +103,7 @@ fn ready(
 /// The passes behind the open ones of these handles, which are then closed.
 fn take_all(alloc: Global, handles: &mut [Handle]) -> Result<Vec<Pass>, AllocError>
     ensures refused { IsErr result → handles.new ≡ handles.old }
-    ensures closed { IfOk result (λ _. All (λ handle. handle.held.value ≡ None) handles.new) }
+    ensures closed { IfOk result (λ _. WereClosed handles.old handles.new) }
     ensures taken { IfOk result (λ passes. passes.items ≡ passes_in (behind handles.old)) }
     ensures of { IfOk result (λ _. AreTheirs (behind handles.old)) }
 {
@@ -126,9 +126,9 @@ fn write_items(items: &mut [u32], left: &[u32])
 }
 
 /// Closes a queue by the handles of all its passes, as `close`, and writes the items that are left, and how many. The
-/// handles of one call are of one queue. Returns BAD_CALL, with nothing done, where there are none, one is closed, a
-/// pass of the queue is missing, or there is not room for an item of each slot; NO_MEMORY, with nothing done, and LOST,
-/// with the queue closed and its items lost, where an allocation failed.
+/// handles of one call are of one queue. Returns BAD_CALL, with nothing done, where there are none, one is closed or of
+/// another kind, a pass of the queue is missing, or there is not room for an item of each slot; NO_MEMORY, with nothing
+/// done, and LOST, with the queue closed and its items lost, where an allocation failed.
 #[unsafe(no_mangle)]
 pub extern "C" fn kfifo_c_close(
     alloc: Global,
@@ -142,8 +142,8 @@ pub extern "C" fn kfifo_c_close(
     ensures may { (result ≡ 0) ⊎ (result ≡ 9) → (queue : OpenQueue)
         × MayClose queue (behind passes.old) (length items.old) }
     ensures nothing { (result ≡ 6) ⊎ (result ≡ 7) → (behind passes.new ≡ behind passes.old)
-        × (addresses passes.new ≡ addresses passes.old) }
-    ensures closed { (result ≡ 0) ⊎ (result ≡ 9) → All (λ pass. pass.held.value ≡ None) passes.new }
+        × (all_fields passes.new ≡ all_fields passes.old) }
+    ensures closed { (result ≡ 0) ⊎ (result ≡ 9) → All IsClosed passes.new }
     ensures done { result ≡ 0 → ClosesInto (behind passes.old) items.old items.new count.new }
     ensures kept { (result ≡ 6) ⊎ (result ≡ 7) ⊎ (result ≡ 9) → (items.new ≡ items.old) × (count.new ≡ count.old) }
 {

@@ -7,6 +7,7 @@ mod cell_queue;
 mod closing;
 mod handle;
 mod held;
+mod kind;
 mod lent;
 mod loose;
 mod many;
@@ -18,6 +19,9 @@ mod value_queue;
 
 pub use cell_queue::handle::CellHandle;
 pub use cell_queue::held::CellHeld;
+pub use cell_queue::left::LeftHandle;
+pub use cell_queue::left_held::LeftHeld;
+pub use cell_queue::left_seat::LeftSeat;
 pub use cell_queue::seat::CellSeat;
 pub use handle::Handle;
 pub use held::Held;

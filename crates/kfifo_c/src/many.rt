@@ -4,6 +4,7 @@ ghost use Rattle.kfifo_model.specs.declared.calls.Answer.{Answer as Answered};
 ghost use Rattle.kfifo_model.specs.declared.calls.Answer.TheVariants.{Done, Got};
 ghost use Rattle.kfifo_c.specs.Exports.{Tries, Puts, Gets, number_of};
 ghost use Rattle.kfifo_c.specs.Many.{AreItems, GivesEach, TakesEach, last_number};
+ghost use Rattle.kfifo_c.specs.Handles.{fields_of};
 
 use crate::handle::Handle;
 use crate::seat::Seat;
@@ -70,13 +71,13 @@ impl Seat {
 
 /// Puts these items into the queue of the handle, one after the other as `kfifo_c_put`, up to the first that is not
 /// DONE. Writes how many were put, and returns the number of the last answer. Returns BAD_CALL, with nothing done,
-/// where the handle is closed or one of them is not 1 to 2^24 - 1.
+/// where the handle is closed or of another kind, or one of them is not 1 to 2^24 - 1.
 #[unsafe(no_mangle)]
 pub extern "C" fn kfifo_c_put_many(pass: &mut Handle, items: &[u32], put: &mut usize) -> u32
     ensures answer { (last : Option (Option Answered)) × (result ≡ last_number number_of last)
         × Tries (λ _. AreItems items.now) (GivesEach Puts Done items.now put.new) last pass.old.held.value
         pass.new.held.value }
-    ensures address { pass.new.address ≡ pass.old.address }
+    ensures fields { fields_of pass.new ≡ fields_of pass.old }
 {
     if pass.starts == 0 || !are_items(items) {
         *put = 0;
@@ -87,14 +88,14 @@ pub extern "C" fn kfifo_c_put_many(pass: &mut Handle, items: &[u32], put: &mut u
 
 /// Takes items out of the queue of the handle, one after the other as `kfifo_c_get`, until these are written or a get
 /// comes to no item. Writes how many were taken, and returns DONE where these are all, else the number of the last
-/// answer. Returns BAD_CALL, with nothing done, where the handle is closed.
+/// answer. Returns BAD_CALL, with nothing done, where the handle is closed or of another kind.
 #[unsafe(no_mangle)]
 pub extern "C" fn kfifo_c_get_many(pass: &mut Handle, items: &mut [u32], got: &mut usize) -> u32
     ensures answer { (last : Option (Option Answered)) × (taken : List ℕ) × (result ≡ last_number number_of last)
         × (items.new ≡ taken ++ drop (length taken) items.old) × (got.new ≡ length taken)
         × Tries (λ _. ⊤) (TakesEach Gets Got (length items.old) taken) last pass.old.held.value
         pass.new.held.value }
-    ensures address { pass.new.address ≡ pass.old.address }
+    ensures fields { fields_of pass.new ≡ fields_of pass.old }
 {
     if pass.starts == 0 {
         *got = 0;

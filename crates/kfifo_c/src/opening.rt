@@ -7,7 +7,8 @@ ghost use Rattle.kfifo_words.specs.Sizes.{fault_of};
 ghost use Rattle.kfifo_live.specs.Refusals.{RefusesThreads};
 ghost use Rattle.kfifo_live.specs.declared.fault.OpenFault.TheVariants.{TokensOutOfRange};
 ghost use Rattle.kfifo_c.specs.Seats.{IsOpenPassOf};
-ghost use Rattle.kfifo_c.specs.Handles.{behind};
+ghost use Rattle.kfifo_c.specs.Fields.{AreNew};
+ghost use Rattle.kfifo_c.specs.Handles.{behind, fields_of};
 ghost use Rattle.kfifo_c.specs.Exports.{seats_of, Opens, OpensSizes, shape_number};
 
 use crate::address::no_address;
@@ -68,7 +69,7 @@ fn address_of_all(seats: &[Box<Seat, Global>]) -> *mut u8 {
 fn put_all(handles: &mut [Handle], mut seats: Vec<Box<Seat, Global>>, address: *mut u8)
     requires { length seats.items ≡ length handles.old }
     ensures behind { behind handles.new ≡ map Some (reverse (map (λ seat. seat.value) seats.items)) }
-    ensures address { All (λ handle. handle.address ≡ address) handles.new }
+    ensures fields { All (λ handle. AreNew address 1 0 0 (fields_of handle)) handles.new }
 {
     for handle in handles.iter_mut() {
         if let Some(seat) = seats.pop() {
@@ -90,7 +91,7 @@ pub extern "C" fn kfifo_c_open(
     passes: &mut [Handle],
 ) -> u32
     ensures ok { result ≡ 0 → OpensSizes k segments last probes (length passes.old) (behind passes.new) }
-    ensures address { result ≡ 0 → (address : Ptr) × All (λ pass. pass.address ≡ address) passes.new }
+    ensures fields { result ≡ 0 → (address : Ptr) × All (λ pass. AreNew address 1 0 0 (fields_of pass)) passes.new }
     ensures refused { result ≢ 0 → passes.new ≡ passes.old }
     ensures shape { IfSome (fault_of k segments last probes) (λ fault. result ≡ shape_number fault) }
     ensures threads { fault_of k segments last probes ≡ None → (length passes.old ≡ 0)

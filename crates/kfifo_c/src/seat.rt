@@ -1,5 +1,5 @@
 //! What a handle stands for.
-ghost use Rattle.std.specs.Prelude.{◌≡◌, ◌<◌, ◌≤◌, ◌^◌, MatchOption, IfOk};
+ghost use Rattle.std.specs.Prelude.{◌≡◌, ◌<◌, ◌≤◌, ◌*◌, ◌^◌, MatchOption, IfOk};
 ghost use Rattle.kfifo_machine.specs.declared.event.Begin.TheVariants.{Enqueue, Dequeue};
 ghost use Rattle.kfifo_live.specs.Pass.{IsPassOf};
 ghost use Rattle.kfifo_c.specs.Seats.{Seated, seated, IsOpenPassOf};
@@ -140,6 +140,13 @@ impl Seat {
         ensures { Gets result self.old self.new }
     {
         self.handle.dequeue(&self.queue)
+    }
+
+    /// About how many items are in the queue.
+    pub(crate) fn len(&self) -> usize
+        ensures { result ≤ self.now.queue.opened.shape.n * self.now.queue.opened.shape.k }
+    {
+        self.queue.len()
     }
 
     /// The word of this index, if there is one.

@@ -1,118 +1,133 @@
 //! The calls of C by one handle of a queue of cells.
-ghost use Rattle.std.specs.Prelude.{◌≡◌, ℕ, ⊤, None, Option, All};
-ghost use Rattle.kfifo_model.specs.declared.calls.Answer.{Answer as HasAnswer};
+ghost use Rattle.std.specs.Prelude.{◌≡◌, ℕ, ⊤, None, Option};
+ghost use Rattle.kfifo_live.specs.declared.payload.Given.{Given as HasGiven};
 ghost use Rattle.kfifo_live.specs.declared.payload.Taken.{Taken as HasTaken};
-ghost use Rattle.kfifo_c.specs.Exports.{Tries, number_of};
-ghost use Rattle.kfifo_c.specs.Values.{taken_number, value_after};
-ghost use Rattle.kfifo_c.specs.Cells.{CancelsCell, HasReceived, HasReserved, PublishesCell, ReceivesCell, ReleasesCell};
-ghost use Rattle.kfifo_c.specs.Cells.{ReservesCell, cell_reserved, published_number, reserve_number};
+ghost use Rattle.kfifo_renewing.specs.Cells.{CallsOnce, ReceivesOldest};
+ghost use Rattle.kfifo_renewing.specs.Renewing.{Follows};
+ghost use Rattle.kfifo_renewing.specs.declared.cells.CellCall.TheVariants.{Cancel, Publish, Release};
+ghost use Rattle.kfifo_renewing.specs.declared.memory.CellAt.{CellAt as HasCellAt};
+ghost use Rattle.kfifo_c.specs.Exports.{Tries, count_of};
+ghost use Rattle.kfifo_c.specs.Values.{taken_number};
+ghost use Rattle.kfifo_c.specs.CellCalls.{ReservesAt, call_number, cell_after, cell_after_reserve, reservation_number};
+ghost use Rattle.kfifo_c.specs.CellHandles.{WereClosed, fields_of};
 
 use crate::cell_queue::handle::CellHandle;
-use crate::status::{BAD_CALL, DONE, NO_TOKEN};
-use crate::value_queue::status::taken_status;
+use crate::cell_queue::status::call_status;
+use crate::kind::CELLS;
+use crate::status::{BAD_CALL, DONE, FULL};
+use crate::value_queue::status::{GOT, taken_status};
 use kfifo_live::Taken;
+use kfifo_renewing::CellAt;
 use std::alloc::Global;
 
-/// Writes the number of the cell that is reserved for the handle, which is the handle's alone until it is published,
-/// and returns DONE. Where none is reserved it reserves one: a free one that the handle has, or else one of those that
-/// no handle has. Returns NO_TOKEN, and writes nothing, where it found none; BAD_CALL, with nothing done, where it is
-/// closed.
+/// Reserves a cell, as `RenewingHandle::reserve`: it is the handle's alone until it is published or cancelled. Where
+/// one is reserved already, it is that one. Writes where the cell lies, and returns DONE. Returns FULL, and writes
+/// nothing, where no cell is free; BAD_CALL, with nothing done, where the handle is closed or of another kind.
 #[unsafe(no_mangle)]
-pub extern "C" fn kfifo_c_reserve(pass: &mut CellHandle, cell: &mut u64) -> u32
-    ensures answer { (answer : Option (Option ℕ)) × (result ≡ reserve_number answer)
-        × (cell.new ≡ cell_reserved cell.old answer)
-        × Tries (λ _. ⊤) ReservesCell answer pass.old.held.value pass.new.held.value }
-    ensures address { pass.new.address ≡ pass.old.address }
+pub extern "C" fn kfifo_c_reserve(pass: &mut CellHandle, cell: &mut CellAt) -> u32
+    ensures answer { (answer : Option (Option HasCellAt)) × (result ≡ reservation_number answer)
+        × (cell.new ≡ cell_after_reserve cell.old answer)
+        × Tries (λ _. ⊤) ReservesAt answer pass.old.held.value pass.new.held.value }
+    ensures fields { fields_of pass.new ≡ fields_of pass.old }
 {
-    if pass.starts == 0 {
+    if pass.kind != CELLS {
         return BAD_CALL;
     }
     let Some(reserved) = pass.held.seat_mut().reserve() else {
-        return NO_TOKEN;
+        return FULL;
     };
-    *cell = u64::from(reserved);
+    *cell = reserved;
     DONE
 }
 
-/// Puts the cell that is reserved into the queue of the handle, as `RenewingHandle::give`, and returns its answer's
-/// number. After a refusal the cell is still reserved. Returns BAD_CALL, with nothing done, where none is reserved, or
-/// the handle is closed.
+/// Puts the cell that is reserved into the queue of its generation, as `RenewingHandle::publish`, and returns its
+/// answer's number: DONE, FULL, BUSY or WORN. A refusal leaves the cell reserved. After WORN, cancel it, and reserve
+/// one of the next generation. Returns BAD_CALL, with nothing done, where none is reserved, or the handle is closed or
+/// of another kind.
 #[unsafe(no_mangle)]
 pub extern "C" fn kfifo_c_publish(pass: &mut CellHandle) -> u32
-    ensures answer { (answer : Option ℕ) × (result ≡ published_number answer)
-        × Tries HasReserved PublishesCell answer pass.old.held.value pass.new.held.value }
-    ensures address { pass.new.address ≡ pass.old.address }
+    ensures answer { (answer : Option (HasGiven (Unit {0}))) × (result ≡ call_number answer)
+        × Tries (λ _. ⊤) (CallsOnce Publish) answer pass.old.held.value pass.new.held.value }
+    ensures fields { fields_of pass.new ≡ fields_of pass.old }
 {
-    if pass.starts == 0 {
+    if pass.kind != CELLS {
         return BAD_CALL;
     }
-    match pass.held.seat_mut().publish() {
-        Some(status) => status,
-        None => BAD_CALL,
-    }
+    let given = pass.held.seat_mut().publish();
+    call_status(&given)
 }
 
 /// Gives the cell that is reserved back, so that any handle may reserve it, and returns DONE. Returns BAD_CALL, with
-/// nothing done, where none is reserved, or the handle is closed.
+/// nothing done, where none is reserved, or the handle is closed or of another kind.
 #[unsafe(no_mangle)]
 pub extern "C" fn kfifo_c_cancel(pass: &mut CellHandle) -> u32
-    ensures answer { (answer : Option HasAnswer) × (result ≡ number_of answer)
-        × Tries HasReserved CancelsCell answer pass.old.held.value pass.new.held.value }
-    ensures address { pass.new.address ≡ pass.old.address }
+    ensures answer { (answer : Option (HasGiven (Unit {0}))) × (result ≡ call_number answer)
+        × Tries (λ _. ⊤) (CallsOnce Cancel) answer pass.old.held.value pass.new.held.value }
+    ensures fields { fields_of pass.new ≡ fields_of pass.old }
 {
-    if pass.starts == 0 {
+    if pass.kind != CELLS {
         return BAD_CALL;
     }
-    if pass.held.seat_mut().cancel() {
-        DONE
-    } else {
-        BAD_CALL
-    }
+    let given = pass.held.seat_mut().cancel();
+    call_status(&given)
 }
 
 /// Takes one of the k oldest cells of the oldest generation that has one out of the queue of the handle, as
-/// `RenewingHandle::take`, and returns its answer's number. It releases the cell that the handle received before. It
-/// writes the number of the cell that it got, which is the handle's alone until its next `receive` or `release`.
-/// Returns BAD_CALL, with nothing done, where the handle is closed.
+/// `RenewingHandle::receive`, and returns its answer's number. It releases the cell that the handle received before. It
+/// writes where the cell lies that it got, which is the handle's alone until its next `receive` or `release`. Returns
+/// BAD_CALL, with nothing done, where the handle is closed or of another kind.
 #[unsafe(no_mangle)]
-pub extern "C" fn kfifo_c_receive(pass: &mut CellHandle, cell: &mut u64) -> u32
-    ensures answer { (answer : Option (HasTaken ℕ)) × (result ≡ taken_number answer)
-        × (cell.new ≡ value_after cell.old answer)
-        × Tries (λ _. ⊤) ReceivesCell answer pass.old.held.value pass.new.held.value }
-    ensures address { pass.new.address ≡ pass.old.address }
+pub extern "C" fn kfifo_c_receive(pass: &mut CellHandle, cell: &mut CellAt) -> u32
+    ensures answer { (answer : Option (HasTaken HasCellAt)) × (result ≡ taken_number answer)
+        × (cell.new ≡ cell_after cell.old answer)
+        × Tries (λ _. ⊤) ReceivesOldest answer pass.old.held.value pass.new.held.value }
+    ensures fields { fields_of pass.new ≡ fields_of pass.old }
 {
-    if pass.starts == 0 {
+    if pass.kind != CELLS {
         return BAD_CALL;
     }
     let taken = pass.held.seat_mut().receive();
     if let Taken::Got(got) = taken {
-        *cell = u64::from(got);
+        *cell = got;
+        return GOT;
     }
     taken_status(&taken)
 }
 
-/// Releases the cell that the handle received, so that it may be reserved again, by any handle, and returns DONE.
-/// Returns BAD_CALL, with nothing done, where none was received, it is released, or the handle is closed.
+/// Releases the cell that was received, so that any handle may reserve it, and returns DONE. Returns BAD_CALL, with
+/// nothing done, where none was received, it was released, or the handle is closed or of another kind.
 #[unsafe(no_mangle)]
 pub extern "C" fn kfifo_c_release(pass: &mut CellHandle) -> u32
-    ensures answer { (answer : Option HasAnswer) × (result ≡ number_of answer)
-        × Tries HasReceived ReleasesCell answer pass.old.held.value pass.new.held.value }
-    ensures address { pass.new.address ≡ pass.old.address }
+    ensures answer { (answer : Option (HasGiven (Unit {0}))) × (result ≡ call_number answer)
+        × Tries (λ _. ⊤) (CallsOnce Release) answer pass.old.held.value pass.new.held.value }
+    ensures fields { fields_of pass.new ≡ fields_of pass.old }
 {
-    if pass.starts == 0 {
+    if pass.kind != CELLS {
         return BAD_CALL;
     }
-    if pass.held.seat_mut().release() {
-        DONE
-    } else {
-        BAD_CALL
-    }
+    let given = pass.held.seat_mut().release();
+    call_status(&given)
 }
 
-/// Closes these handles. With the last open handle of a queue the queue goes, and the cells that are left in it.
+/// About how many cells are in the queue of the handle, as `RenewingHandle::len`. Returns 0 where the handle is closed or of
+/// another kind.
+#[unsafe(no_mangle)]
+pub extern "C" fn kfifo_c_cells_len(pass: &mut CellHandle) -> usize
+    ensures counted { (counted : Option ℕ) × (result ≡ count_of counted)
+        × Tries (λ _. ⊤) (λ _. Follows) counted pass.old.held.value pass.new.held.value }
+    ensures fields { fields_of pass.new ≡ fields_of pass.old }
+{
+    if pass.kind != CELLS {
+        return 0;
+    }
+    pass.held.seat_mut().len()
+}
+
+/// Closes these handles. With the last open handle of a queue the queue goes, with the memory of its cells, and what
+/// is left in them is lost.
 #[unsafe(no_mangle)]
 pub extern "C" fn kfifo_c_abandon_cells(alloc: Global, passes: &mut [CellHandle])
-    ensures { All (λ pass. pass.held.value ≡ None) passes.new }
+    ensures { WereClosed passes.old passes.new }
 {
     for pass in passes.iter_mut() {
         let _seat = pass.take(alloc);

@@ -1,65 +1,85 @@
 //! What C holds for each thread of a queue of cells.
 ghost use Rattle.std.specs.Prelude.{◌≡◌, Some, None, MatchOption};
-ghost use Rattle.kfifo_c.specs.CellSeats.{cell_starts_of};
+ghost use Rattle.kfifo_c.specs.Fields.{AreNew, IsOfKind};
 
 use crate::address::no_address;
 use crate::cell_queue::held::CellHeld;
 use crate::cell_queue::seat::CellSeat;
+use crate::kind::CELLS;
 use crate::loose::Loose;
 use std::alloc::Global;
 use std::mem::replace;
 
-/// A handle of C's: closed, or open with a seat behind it. All bytes 0 is a closed one.
+/// A handle of C's: closed, of another kind, or open with a seat behind it. All bytes 0 is a closed one. The struct is
+/// the same for all kinds.
 #[repr(C)]
 #[derive(Drop)]
 pub struct CellHandle {
     pub(crate) held: CellHeld,
     /// Where the queue is. C tells the handles of two queues apart by it.
     pub address: *mut u8,
-    // k, and 0 where the handle is closed.
-    pub(crate) starts: u32,
-    pub ghost starts_are: { starts ≡ cell_starts_of held.value },
+    /// k of a queue of items; 0 where the handle is closed, or of another kind. So the test of a start tells these too.
+    pub starts: u32,
+    /// ITEMS, VALUES or CELLS, and 0 where the handle is closed.
+    pub kind: u32,
+    /// The caller's: 0 at an opening and a close, and not read.
+    pub mark: u32,
+    /// Of a cell, in bytes, and 0 of another kind.
+    pub size: u32,
+    /// Of a cell, in bytes, and 0 of another kind.
+    pub alignment: u32,
+    pub ghost kind_is: { IsOfKind 3 kind starts held.value },
 }
 
 impl CellHandle {
+    ghost use Rattle.kfifo_c.specs.CellHandles.{IsClosed, WasClosed, fields_of};
+
     /// A handle with nothing behind it.
     pub(crate) fn closed() -> CellHandle
-        ensures { result.held.value ≡ None }
+        ensures { IsClosed result }
     {
         CellHandle {
             held: CellHeld::empty(),
             address: no_address(),
             starts: 0,
+            kind: 0,
+            mark: 0,
+            size: 0,
+            alignment: 0,
         }
     }
 
-    /// A handle with this seat behind it, of a queue at this address.
-    pub(crate) fn of(seat: Box<CellSeat, Global>, address: *mut u8) -> CellHandle
+    /// A handle with this seat behind it, of a queue at this address whose cells have this size and alignment.
+    pub(crate) fn of(
+        seat: Box<CellSeat, Global>,
+        address: *mut u8,
+        size: u32,
+        alignment: u32,
+    ) -> CellHandle
         ensures seat { result.held.value ≡ Some seat.value }
-        ensures address { result.address ≡ address }
+        ensures fields { AreNew address 3 size alignment (fields_of result) }
     {
-        let starts = seat.k();
         CellHandle {
             held: CellHeld::of(Loose::of(seat)),
             address,
-            starts,
+            starts: 0,
+            kind: CELLS,
+            mark: 0,
+            size,
+            alignment,
         }
     }
 
-    /// The seat behind the handle, which is then closed.
+    /// The seat behind the handle, which is then closed. A handle with none stays as it is.
     pub(crate) fn take(&mut self, alloc: Global) -> Option<Box<CellSeat, Global>>
         ensures value { MatchOption result (self.old.held.value ≡ None)
             (λ seat. self.old.held.value ≡ Some seat.value) }
-        ensures closed { self.new.held.value ≡ None }
+        ensures closed { WasClosed self.old self.new }
     {
-        let CellHandle {
-            held,
-            address: _,
-            starts,
-        } = replace(self, CellHandle::closed());
-        if starts == 0 {
+        if self.kind != CELLS {
             return None;
         }
+        let CellHandle { held, .. } = replace(self, CellHandle::closed());
         Some(held.into_loose(alloc).into_box())
     }
 }

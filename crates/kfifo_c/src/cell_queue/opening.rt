@@ -1,191 +1,64 @@
-//! Opening a queue of cells.
-ghost use Rattle.std.specs.Prelude.{◌≡◌, ◌≢◌, ◌<◌, ◌≤◌, ◌⊎◌, ◌↔◌, ℕ, None, Some, IfSome, IfOk, IsErrOf, All, length};
-ghost use Rattle.std.specs.Prelude.{map, true};
-ghost use Rattle.std.specs.Prelude.{reverse};
-ghost use Rattle.kfifo_model.specs.declared.calls.TheConstants.{MAX_THREADS};
+//! Opening a queue of cells, by how many of them it is to hold.
+ghost use Rattle.std.specs.Prelude.{◌≡◌, ◌≢◌, None, Some, IfSome, IfOk, All, length, map, reverse, false, true};
 ghost use denote.RawPtr.{Ptr};
-ghost use Rattle.kfifo_words.specs.Sizes.{fault_of};
-ghost use Rattle.kfifo_live.specs.Pass.{IsPassOf, OpenQueue};
-ghost use Rattle.kfifo_live.specs.Payloads.{new_pay_passes, pay_opening};
-ghost use Rattle.kfifo_live.specs.declared.fault.OpenFault.TheVariants.{ThreadsOutOfRange, TokensOutOfRange};
-ghost use Rattle.kfifo_renewing.specs.declared.fault.RenewFault.TheVariants.{GenerationsOutOfRange, Open};
-ghost use Rattle.kfifo_renewing.specs.declared.fault.RenewFault.TheVariants.{ReserveOutOfRange};
-ghost use Rattle.kfifo_c.specs.CellHandles.{cells_behind};
-ghost use Rattle.kfifo_c.specs.CellSeats.{all_free};
-ghost use Rattle.kfifo_c.specs.CellQueues.{IsOpenedLike, OpensCells, OpensCellSizes, seats_with, tokens_of};
-ghost use Rattle.kfifo_c.specs.Exports.{shape_number};
-ghost use Rattle.kfifo_c.specs.Values.{BadTokens};
+ghost use Rattle.kfifo_live.specs.Capacities.{sizes_fault};
+ghost use Rattle.kfifo_renewing.specs.Renewing.{HaveOne, opening_with, sizes_again};
+ghost use Rattle.kfifo_c.specs.CellHandles.{cells_behind, fields_of};
+ghost use Rattle.kfifo_c.specs.CellQueues.{is_layout as layout_fits};
+ghost use Rattle.kfifo_c.specs.Fields.{AreNew};
+ghost use Rattle.kfifo_c.specs.Openings.{IsAnswer, OpensAll, RefusesBad, sizes_number};
 
 use crate::address::no_address;
-use crate::cell_queue::free::FreeCells;
 use crate::cell_queue::handle::CellHandle;
-use crate::cell_queue::ordered::OrderedCells;
-use crate::cell_queue::payload::CellPayload;
-use crate::cell_queue::pool::{BATCH, Batch, Pool};
 use crate::cell_queue::seat::CellSeat;
-use crate::shape::{open_renewing, shape_of};
-use crate::status::{BAD_RESERVE, BAD_THREADS, DONE, shape_status};
-use crate::value_queue::status::renew_status;
-use kfifo_live::{OpenFault, PayPass, PayQueue};
-use kfifo_renewing::{RenewFault, Renewals, RenewingHandle};
-use kfifo_words::Shape;
+use crate::status::{BAD_LAYOUT, BAD_THREADS, DONE, renew_status, sizes_status};
+use kfifo_live::{OpenFault, Sizes};
+use kfifo_renewing::{CellLayout, Cells, RenewFault, Renewals, RenewingHandle, open_cells_with};
 use std::alloc::{AllocError, Global};
-use std::sync::Arc;
 
-/// The sizes of a queue.
-#[derive(Clone, Copy)]
-pub struct CellSizes {
-    pub(crate) shape: Shape,
-    pub(crate) threads: u32,
-    pub(crate) tokens: u32,
-}
+/// The greatest alignment of a cell, in bytes. What divides it is a power of two.
+const MAX_ALIGNMENT: u32 = 4_096;
 
-impl CellSizes {
-    /// The cells of all handles.
-    fn all(&self) -> usize {
-        (self.threads as usize).saturating_mul(self.tokens as usize)
-    }
-
-    /// How many cells go to the pool, or come from it, at once.
-    // With few cells a batch is small. Else handles that only take would keep all cells, and the others find none.
-    fn batch(&self) -> u32
-        ensures { (1 ≤ result) × (result ≤ BATCH) }
-    {
-        (self.tokens / self.threads.max(1)).clamp(1, BATCH)
-    }
-
-    /// How many free cells a handle keeps at most, with batches of so many: with one more it has a batch more than it
-    /// began with.
-    fn most(&self, batch: u32) -> u32
-        requires { 1 ≤ batch }
-        ensures { (self.now.tokens ≤ result) × (batch ≤ result) }
-    {
-        self.tokens.max(1).saturating_add(batch - 1)
-    }
-
-    /// The places of the pool for each thread. All together are enough for the cells of all handles.
-    fn places(&self) -> usize {
-        (self.tokens / self.batch()) as usize
-    }
-}
-
-/// The free cells that the handle of this thread begins with, those of a new pass.
-fn cells_of_pass(
-    alloc: Global,
-    pool: &Arc<Pool, Global>,
-    pass: PayPass<()>,
-    sizes: &CellSizes,
-    thread: usize,
-) -> Result<FreeCells, AllocError>
-    requires of { IsPassOf pool.now.value pass.pass }
-    requires count { length pass.tokens ≡ sizes.now.tokens }
-    ensures tokens { IfOk result (λ free. all_free free ≡ tokens_of pool.now.value pass) }
-    ensures most { IfOk result (λ free. sizes.now.tokens ≤ free.most) }
+/// Whether a cell may have this size and alignment.
+fn is_layout(size: u32, alignment: u32) -> bool
+    ensures { result ≡ layout_fits size alignment }
 {
-    let batch = sizes.batch();
-    let most = sizes.most(batch);
-    let first = thread.saturating_mul(sizes.tokens as usize);
-    let others = OrderedCells::mint(alloc, pool.source(), pass, first, sizes.all())?;
-    let recent = Vec::with_capacity(alloc, most as usize)?;
-    let spare = Batch::new(alloc)?;
-    let pool = Arc::try_clone(pool)?;
-    // The handles begin to look at places that lie apart.
-    let look_from = thread.saturating_mul(sizes.places());
-    Ok(FreeCells::new(recent, others, most, batch, spare, pool, look_from))
+    alignment != 0 && MAX_ALIGNMENT % alignment == 0 && size != 0 && size % alignment == 0
 }
 
-/// A seat for each handle, with the tokens of the pass beside it, the last handle first.
+/// A seat for each handle, the last handle first.
 fn seat_all(
     alloc: Global,
-    pool: &Arc<Pool, Global>,
-    mut handles: Vec<RenewingHandle<CellPayload>>,
-    mut passes: Vec<PayPass<()>>,
-    sizes: CellSizes,
+    mut handles: Vec<RenewingHandle<(), Cells>>,
+    threads: u32,
 ) -> Result<Vec<Box<CellSeat, Global>>, AllocError>
-    requires handles { All (IsOpenedLike sizes) handles.items }
-    requires of { All (λ p. IsPassOf pool.now.value p.pass) passes.items }
-    requires tokens { All (λ p. length p.tokens ≡ sizes.tokens) passes.items }
-    requires count { length passes.items ≡ length handles.items }
-    ensures { IfOk result (λ seats. reverse (map (λ seat. seat.value) seats.items)
-        ≡ seats_with pool.now.value handles.items passes.items) }
+    requires { All (λ h. threads ≡ h.opened.threads) handles.items }
+    ensures { IfOk result (λ seats. reverse (map (λ seat. seat.value) seats.items) ≡ handles.items) }
 {
     let mut seats = Vec::with_capacity(alloc, handles.len())?;
     while let Some(handle) = handles.pop() {
-        let Some(pass) = passes.pop() else {
-            return Err(AllocError);
-        };
-        let free = cells_of_pass(alloc, pool, pass, &sizes, handles.len())?;
-        let seat = CellSeat::new(handle, sizes.shape, sizes.threads, sizes.tokens, free);
-        seats.push(Box::new(alloc, seat)?)?;
+        let seat = Box::new(alloc, CellSeat::new(handle, threads))?;
+        seats.push(seat)?;
     }
-    Ok(seats)
-}
-
-/// The pool of a queue, and passes with the tokens of its cells.
-fn open_pool(
-    alloc: Global,
-    sizes: CellSizes,
-) -> Result<(Arc<Pool, Global>, Vec<PayPass<()>>), AllocError>
-    ensures opened { IfOk result (λ r. r.0.value.opened ≡ pay_opening sizes.shape sizes.threads sizes.tokens) }
-    ensures passes { IfOk result (λ r. r.1.items ≡ new_pay_passes r.0.value 0 sizes.threads) }
-    ensures of { IfOk result (λ r. All (λ p. IsPassOf r.0.value p.pass) r.1.items) }
-{
-    let count = (sizes.threads as usize).saturating_mul(sizes.places());
-    match PayQueue::open_with_pool(alloc, sizes.shape, sizes.threads, sizes.tokens) {
-        Ok((source, passes)) => {
-            let pool = Pool::new(alloc, source, count)?;
-            let pool = Arc::new(alloc, pool)?;
-            Ok((pool, passes))
-        }
-        // The sizes are right, so memory is missing.
-        Err(_) => Err(AllocError),
-    }
-}
-
-/// A seat for each of these handles, the last handle first.
-fn join_pool(
-    alloc: Global,
-    handles: Vec<RenewingHandle<CellPayload>>,
-    sizes: CellSizes,
-) -> Result<Vec<Box<CellSeat, Global>>, AllocError>
-    requires handles { All (IsOpenedLike sizes) handles.items }
-    requires count { length handles.items ≡ sizes.threads }
-    ensures { IfOk result (λ seats. (source : OpenQueue)
-        × (source.opened ≡ pay_opening sizes.shape sizes.threads sizes.tokens)
-        × (reverse (map (λ seat. seat.value) seats.items)
-        ≡ seats_with source handles.items (new_pay_passes source 0 sizes.threads))) }
-{
-    let (pool, passes) = open_pool(alloc, sizes)?;
-    let seats = seat_all(alloc, &pool, handles, passes, sizes)?;
     Ok(seats)
 }
 
 /// The seats of a new queue, the last thread's first.
 fn open_seats(
     alloc: Global,
-    sizes: CellSizes,
-    reserve: u64,
+    sizes: Sizes,
+    layout: CellLayout,
+    renewals: Renewals,
 ) -> Result<Vec<Box<CellSeat, Global>>, RenewFault>
-    requires again { sizes.shape.holds_again ≡ true }
-    ensures ok { IfOk result (λ seats. OpensCells sizes.shape sizes.threads sizes.tokens
-        (reverse (map (λ seat. seat.value) seats.items))) }
-    ensures reserve { IsErrOf result ReserveOutOfRange ↔ (sizes.shape.last ≤ reserve) }
-    ensures threads { IsErrOf result (Open ThreadsOutOfRange) ↔ ((reserve < sizes.shape.last)
-        × ((sizes.threads ≡ 0) ⊎ (MAX_THREADS < sizes.threads))) }
-    ensures tokens { IsErrOf result (Open TokensOutOfRange)
-        ↔ ((reserve < sizes.shape.last) × (1 ≤ sizes.threads) × (sizes.threads ≤ MAX_THREADS)
-        × BadTokens sizes.threads sizes.tokens) }
-    ensures generations { (most : ℕ) → ¬ IsErrOf result (GenerationsOutOfRange most) }
+    ensures ok { IfOk result (λ seats. HaveOne (opening_with true (sizes_again sizes))
+        (reverse (map (λ seat. seat.value) seats.items)) × (length seats.items ≡ sizes.threads)) }
+    ensures refused { RefusesBad sizes renewals result }
 {
-    let renewals = Renewals {
-        reserve,
-        generations: 1,
-    };
-    let handles = match open_renewing(alloc, sizes.shape, sizes.threads, sizes.tokens, renewals) {
+    let handles = match open_cells_with(alloc, sizes, layout, renewals) {
         Ok(handles) => handles,
         Err(fault) => return Err(fault),
     };
-    match join_pool(alloc, handles, sizes) {
+    match seat_all(alloc, handles, sizes.threads) {
         Ok(seats) => Ok(seats),
         Err(_) => Err(RenewFault::Open(OpenFault::Memory)),
     }
@@ -200,69 +73,74 @@ fn address_of_all(seats: &[Box<CellSeat, Global>]) -> *mut u8 {
 }
 
 /// Puts the seats behind the handles, the last seat first.
-fn put_all(handles: &mut [CellHandle], mut seats: Vec<Box<CellSeat, Global>>, address: *mut u8)
+fn put_all(
+    handles: &mut [CellHandle],
+    mut seats: Vec<Box<CellSeat, Global>>,
+    address: *mut u8,
+    size: u32,
+    alignment: u32,
+)
     requires { length seats.items ≡ length handles.old }
     ensures behind { cells_behind handles.new ≡ map Some (reverse (map (λ seat. seat.value) seats.items)) }
-    ensures address { All (λ handle. handle.address ≡ address) handles.new }
+    ensures fields { All (λ handle. AreNew address 3 size alignment (fields_of handle)) handles.new }
 {
     for handle in handles.iter_mut() {
         if let Some(seat) = seats.pop() {
-            *handle = CellHandle::of(seat, address);
+            *handle = CellHandle::of(seat, address, size, alignment);
         }
     }
 }
 
-/// Opens a queue of cells for as many threads as there are handles, with so many cells each, and puts a handle of it
-/// behind each, in their order. It renews as a queue of values does. What was behind the handles is lost. A refusal
-/// does nothing: BAD_K, BAD_SEGMENTS, BAD_LAST or BAD_PROBES where there is no such shape, BAD_RESERVE where the
-/// reserve is not below the greatest version, BAD_THREADS where the handles are not 1 to 64, BAD_TOKENS where the cells
-/// of a thread are not 1 to 1,024 or the threads have too many tokens together, NO_MEMORY where an allocation failed.
+/// Opens a queue with room for so many cells, for as many threads as there are handles, as
+/// `kfifo_renewing::open_cells_with`, and puts a handle of it behind each, in their order. Each cell has memory of this
+/// size and alignment, in bytes, which stand in each handle until it is closed. With fewer versions left than the
+/// reserve, a generation is followed by the next one; with a reserve of 0 it is not. So is one with no free cell while
+/// there are fewer than `generations`. What was behind the handles is lost. A refusal does nothing: BAD_THREADS where
+/// the handles are not 1 to 64; BAD_K; BAD_LAST; BAD_CAPACITY where the capacity is 0, or greater than a queue of these
+/// handles can have; BAD_LAYOUT where the alignment is no power of two from 1 to 4,096, or the size is 0 or no multiple
+/// of it; BAD_RESERVE where the reserve is not below the greatest version; BAD_CALL where the generations are not 1 to
+/// 129 - 2 * threads; NO_MEMORY where an allocation failed.
 #[unsafe(no_mangle)]
 pub extern "C" fn kfifo_c_open_cells(
     alloc: Global,
     k: u32,
-    segments: u32,
-    probes: u32,
+    capacity: u32,
+    size: u32,
+    alignment: u32,
     last: u64,
-    tokens: u32,
     reserve: u64,
+    generations: u32,
     passes: &mut [CellHandle],
 ) -> u32
-    ensures ok { result ≡ 0 → OpensCellSizes k segments last probes (length passes.old) tokens
-        (cells_behind passes.new) }
-    ensures address { result ≡ 0 → (address : Ptr) × All (λ pass. pass.address ≡ address) passes.new }
+    ensures ok { result ≡ 0 → OpensAll true k capacity last (length passes.old) (cells_behind passes.new) }
+    ensures fields { result ≡ 0 → (address : Ptr)
+        × All (λ pass. AreNew address 3 size alignment (fields_of pass)) passes.new }
     ensures refused { result ≢ 0 → passes.new ≡ passes.old }
-    ensures shape { IfSome (fault_of k segments last probes) (λ fault. result ≡ shape_number fault) }
-    ensures reserve { fault_of k segments last probes ≡ None → last ≤ reserve → result ≡ 18 }
-    ensures threads { fault_of k segments last probes ≡ None → reserve < last → (length passes.old ≡ 0)
-        ⊎ (MAX_THREADS < length passes.old)
-        → result ≡ 8 }
-    ensures tokens { fault_of k segments last probes ≡ None → reserve < last → 1 ≤ length passes.old
-        → length passes.old ≤ MAX_THREADS → BadTokens (length passes.old) tokens → result ≡ 15 }
-    ensures memory { fault_of k segments last probes ≡ None → reserve < last → 1 ≤ length passes.old
-        → length passes.old ≤ MAX_THREADS → ¬ BadTokens (length passes.old) tokens
-        → (result ≡ 0) ⊎ (result ≡ 7) }
+    ensures sizes { IfSome (sizes_fault k capacity (length passes.old) last) (λ fault. result ≡ sizes_number fault) }
+    ensures layout { sizes_fault k capacity (length passes.old) last ≡ None → layout_fits size alignment ≡ false
+        → result ≡ 20 }
+    ensures answer { sizes_fault k capacity (length passes.old) last ≡ None → layout_fits size alignment ≡ true
+        → IsAnswer last reserve (length passes.old) generations result }
 {
-    let shape = match shape_of(k, segments, last, probes) {
-        Ok(shape) => shape,
-        Err(fault) => return shape_status(fault),
-    };
-    if last <= reserve {
-        return BAD_RESERVE;
-    }
     if passes.len() > 64 {
         return BAD_THREADS;
     }
-    let threads = passes.len() as u32;
-    let sizes = CellSizes {
-        shape,
-        threads,
-        tokens,
+    let sizes = match Sizes::for_capacity(k, capacity, passes.len() as u32, last) {
+        Ok(sizes) => sizes,
+        Err(fault) => return sizes_status(fault),
     };
-    match open_seats(alloc, sizes, reserve) {
+    if !is_layout(size, alignment) {
+        return BAD_LAYOUT;
+    }
+    let layout = CellLayout { size, alignment };
+    let renewals = Renewals {
+        reserve,
+        generations,
+    };
+    match open_seats(alloc, sizes, layout, renewals) {
         Ok(seats) => {
             let address = address_of_all(seats.as_slice());
-            put_all(passes, seats, address);
+            put_all(passes, seats, address, size, alignment);
             DONE
         }
         Err(fault) => renew_status(fault),

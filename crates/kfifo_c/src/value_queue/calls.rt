@@ -1,11 +1,13 @@
 //! The calls of C by one handle of a queue of values.
-ghost use Rattle.std.specs.Prelude.{◌≡◌, ℕ, ⊤, None, Option, All};
+ghost use Rattle.std.specs.Prelude.{◌≡◌, ℕ, ⊤, None, Option};
 ghost use Rattle.kfifo_live.specs.declared.payload.Given.{Given as HasGiven};
 ghost use Rattle.kfifo_live.specs.declared.payload.Taken.{Taken as HasTaken};
-ghost use Rattle.kfifo_renewing.specs.Renewing.{GivesToNewest, TakesFromOldest};
-ghost use Rattle.kfifo_c.specs.Exports.{Tries};
+ghost use Rattle.kfifo_renewing.specs.Renewing.{Follows, GivesToNewest, TakesFromOldest};
+ghost use Rattle.kfifo_c.specs.Exports.{Tries, count_of};
 ghost use Rattle.kfifo_c.specs.Values.{given_number, taken_number, value_after};
+ghost use Rattle.kfifo_c.specs.ValueHandles.{WereClosed, fields_of};
 
+use crate::kind::VALUES;
 use crate::status::BAD_CALL;
 use crate::value_queue::handle::ValueHandle;
 use crate::value_queue::status::{GOT, given_status, nothing_status};
@@ -13,14 +15,14 @@ use kfifo_live::Taken;
 use std::alloc::Global;
 
 /// Gives a value to the queue of the handle, as `RenewingHandle::give`, and returns its answer's number. Returns
-/// BAD_CALL, with nothing done, where the handle is closed.
+/// BAD_CALL, with nothing done, where the handle is closed or of another kind.
 #[unsafe(no_mangle)]
 pub extern "C" fn kfifo_c_give(pass: &mut ValueHandle, value: u64) -> u32
     ensures answer { (answer : Option (HasGiven ℕ)) × (result ≡ given_number answer)
         × Tries (λ _. ⊤) (GivesToNewest value) answer pass.old.held.value pass.new.held.value }
-    ensures address { pass.new.address ≡ pass.old.address }
+    ensures fields { fields_of pass.new ≡ fields_of pass.old }
 {
-    if pass.starts == 0 {
+    if pass.kind != VALUES {
         return BAD_CALL;
     }
     let given = pass.held.seat_mut().give(value);
@@ -29,15 +31,15 @@ pub extern "C" fn kfifo_c_give(pass: &mut ValueHandle, value: u64) -> u32
 
 /// Takes one of the k oldest values of the oldest generation that has one out of the queue of the handle, as
 /// `RenewingHandle::take`, writes the value if there is one, and returns its answer's number. Returns BAD_CALL, with
-/// nothing done, where the handle is closed.
+/// nothing done, where the handle is closed or of another kind.
 #[unsafe(no_mangle)]
 pub extern "C" fn kfifo_c_take(pass: &mut ValueHandle, value: &mut u64) -> u32
     ensures answer { (answer : Option (HasTaken ℕ)) × (result ≡ taken_number answer)
         × (value.new ≡ value_after value.old answer)
         × Tries (λ _. ⊤) TakesFromOldest answer pass.old.held.value pass.new.held.value }
-    ensures address { pass.new.address ≡ pass.old.address }
+    ensures fields { fields_of pass.new ≡ fields_of pass.old }
 {
-    if pass.starts == 0 {
+    if pass.kind != VALUES {
         return BAD_CALL;
     }
     let taken = pass.held.seat_mut().take();
@@ -48,10 +50,24 @@ pub extern "C" fn kfifo_c_take(pass: &mut ValueHandle, value: &mut u64) -> u32
     nothing_status(taken)
 }
 
+/// About how many values are in the queue of the handle, as `RenewingHandle::len`. Returns 0 where the handle is closed or of
+/// another kind.
+#[unsafe(no_mangle)]
+pub extern "C" fn kfifo_c_values_len(pass: &mut ValueHandle) -> usize
+    ensures counted { (counted : Option ℕ) × (result ≡ count_of counted)
+        × Tries (λ _. ⊤) (λ _. Follows) counted pass.old.held.value pass.new.held.value }
+    ensures fields { fields_of pass.new ≡ fields_of pass.old }
+{
+    if pass.kind != VALUES {
+        return 0;
+    }
+    pass.held.seat_mut().len()
+}
+
 /// Closes these handles. With the last open handle of a queue the queue goes, and the values that are left in it.
 #[unsafe(no_mangle)]
 pub extern "C" fn kfifo_c_abandon_values(alloc: Global, passes: &mut [ValueHandle])
-    ensures { All (λ pass. pass.held.value ≡ None) passes.new }
+    ensures { WereClosed passes.old passes.new }
 {
     for pass in passes.iter_mut() {
         let _seat = pass.take(alloc);

@@ -1,11 +1,12 @@
 //! Closing a queue of values.
-ghost use Rattle.std.specs.Prelude.{◌≡◌, ◌⊎◌, ◌++◌, ◌==◌, List, Option, Some, None, not, IfOk, IsErr, IsTrue, All};
+ghost use Rattle.std.specs.Prelude.{◌≡◌, ◌⊎◌, ◌++◌, ◌==◌, List, Option, Some, None, IfOk, IsErr, IsTrue, All};
 ghost use Rattle.std.specs.Prelude.{length, drop};
 ghost use Rattle.std.specs.List.{list_all};
-ghost use Rattle.kfifo_c.specs.ValueHandles.{values_behind, value_addresses};
+ghost use Rattle.kfifo_c.specs.ValueHandles.{IsClosed, WereClosed, all_fields, values_behind};
 ghost use Rattle.kfifo_c.specs.ValueSeats.{ValueSeated};
 ghost use Rattle.kfifo_c.specs.Values.{ClosesValues, LastFollows, MayCloseValues, NeedsRoom, seats_in};
 
+use crate::kind::VALUES;
 use crate::status::{BAD_CALL, DONE, LOST, NO_MEMORY};
 use crate::value_queue::handle::ValueHandle;
 use kfifo_renewing::{RenewingHandle, close};
@@ -13,16 +14,16 @@ use std::alloc::{AllocError, Global};
 
 /// Whether each of these handles is open.
 fn are_open(handles: &[ValueHandle]) -> bool
-    ensures { result ≡ list_all (λ handle. not (handle.starts == 0)) handles.now }
+    ensures { result ≡ list_all (λ handle. handle.kind == 2) handles.now }
 {
-    handles.iter().all(|handle| handle.starts != 0)
+    handles.iter().all(|handle| handle.kind == VALUES)
 }
 
 /// Room for what may be left in the queue of these handles, if they are all that it has. The last of them follows
 /// others, for which memory may be missing.
 fn room_of(handles: &mut [ValueHandle]) -> Result<Option<usize>, AllocError>
     ensures follows { LastFollows (values_behind handles.old) (values_behind handles.new) }
-    ensures addresses { value_addresses handles.new ≡ value_addresses handles.old }
+    ensures fields { all_fields handles.new ≡ all_fields handles.old }
     ensures room { IfOk result (λ room. NeedsRoom room (values_behind handles.new)) }
 {
     if !are_open(handles) {
@@ -49,7 +50,7 @@ fn take_all(
     handles: &mut [ValueHandle],
 ) -> Result<Vec<RenewingHandle<u64>>, AllocError>
     ensures refused { IsErr result → handles.new ≡ handles.old }
-    ensures closed { IfOk result (λ _. All (λ handle. handle.held.value ≡ None) handles.new) }
+    ensures closed { IfOk result (λ _. WereClosed handles.old handles.new) }
     ensures taken { IfOk result (λ taken. taken.items ≡ seats_in (values_behind handles.old)) }
 {
     let mut taken = Vec::with_capacity(alloc, handles.len())?;
@@ -79,7 +80,7 @@ fn write_values(values: &mut [u64], left: &[u64]) -> bool
 #[unsafe(no_mangle)]
 pub extern "C" fn kfifo_c_values_room(passes: &mut [ValueHandle]) -> usize
     ensures follows { LastFollows (values_behind passes.old) (values_behind passes.new) }
-    ensures addresses { value_addresses passes.new ≡ value_addresses passes.old }
+    ensures fields { all_fields passes.new ≡ all_fields passes.old }
     ensures room { (result ≡ 0) ⊎ NeedsRoom (Some result) (values_behind passes.new) }
 {
     match room_of(passes) {
@@ -90,9 +91,9 @@ pub extern "C" fn kfifo_c_values_room(passes: &mut [ValueHandle]) -> usize
 
 /// Closes a queue by all its handles, as `kfifo_renewing::close`, and writes the values that are left, those of the
 /// oldest generation first, and how many. The last handle follows others. Returns BAD_CALL, with nothing else done,
-/// where there are none, one is closed, they are not as many as the queue has, or there is not the room that
-/// `kfifo_c_values_room` returns; NO_MEMORY, with nothing else done, and LOST, with the queue closed and its values
-/// lost, where an allocation failed. It also returns LOST where the handles are of two queues.
+/// where there are none, one is closed or of another kind, they are not as many as the queue has, or there is not the
+/// room that `kfifo_c_values_room` returns; NO_MEMORY, with nothing else done, and LOST, with the queue closed and its
+/// values lost, where an allocation failed. It also returns LOST where the handles are of two queues.
 #[unsafe(no_mangle)]
 pub extern "C" fn kfifo_c_close_values(
     alloc: Global,
@@ -105,8 +106,8 @@ pub extern "C" fn kfifo_c_close_values(
     ensures may { (result ≡ 0) ⊎ (result ≡ 9) → (seats : List (Option ValueSeated))
         × LastFollows (values_behind passes.old) seats × MayCloseValues seats (length values.old) }
     ensures nothing { (result ≡ 6) ⊎ (result ≡ 7) → LastFollows (values_behind passes.old) (values_behind passes.new)
-        × (value_addresses passes.new ≡ value_addresses passes.old) }
-    ensures closed { (result ≡ 0) ⊎ (result ≡ 9) → All (λ pass. pass.held.value ≡ None) passes.new }
+        × (all_fields passes.new ≡ all_fields passes.old) }
+    ensures closed { (result ≡ 0) ⊎ (result ≡ 9) → All IsClosed passes.new }
     ensures done { result ≡ 0 → (seats : List (Option ValueSeated)) × LastFollows (values_behind passes.old) seats
         × ClosesValues seats values.old values.new count.new }
     ensures kept { (result ≡ 6) ⊎ (result ≡ 7) ⊎ (result ≡ 9) → (values.new ≡ values.old) × (count.new ≡ count.old) }

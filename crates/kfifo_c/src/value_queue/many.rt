@@ -8,7 +8,9 @@ ghost use Rattle.kfifo_renewing.specs.Renewing.{GivesToNewest, TakesFromOldest};
 ghost use Rattle.kfifo_c.specs.Exports.{Tries};
 ghost use Rattle.kfifo_c.specs.Many.{GivesEach, TakesEach, last_number};
 ghost use Rattle.kfifo_c.specs.Values.{given_number, taken_number};
+ghost use Rattle.kfifo_c.specs.ValueHandles.{fields_of};
 
+use crate::kind::VALUES;
 use crate::status::{BAD_CALL, DONE};
 use crate::value_queue::handle::ValueHandle;
 use crate::value_queue::seat::ValueSeat;
@@ -61,7 +63,7 @@ impl ValueSeat {
 
 /// Gives these values to the queue of the handle, one after the other as `kfifo_c_give`, up to the first that is not
 /// DONE. Writes how many were given, and returns the number of the last answer. Returns BAD_CALL, with nothing done,
-/// where the handle is closed.
+/// where the handle is closed or of another kind.
 #[unsafe(no_mangle)]
 pub extern "C" fn kfifo_c_give_many(
     pass: &mut ValueHandle,
@@ -72,9 +74,9 @@ pub extern "C" fn kfifo_c_give_many(
         × Tries (λ _. ⊤) (GivesEach GivesToNewest G.Done values.now given.new) last pass.old.held.value
         pass.new.held.value }
     ensures closed { pass.old.held.value ≡ None → given.new ≡ 0 }
-    ensures address { pass.new.address ≡ pass.old.address }
+    ensures fields { fields_of pass.new ≡ fields_of pass.old }
 {
-    if pass.starts == 0 {
+    if pass.kind != VALUES {
         *given = 0;
         return BAD_CALL;
     }
@@ -83,7 +85,7 @@ pub extern "C" fn kfifo_c_give_many(
 
 /// Takes values out of the queue of the handle, one after the other as `kfifo_c_take`, until these are written or a
 /// take comes to no value. Writes how many were taken, and returns DONE where these are all, else the number of the
-/// last answer. Returns BAD_CALL, with nothing done, where the handle is closed.
+/// last answer. Returns BAD_CALL, with nothing done, where the handle is closed or of another kind.
 #[unsafe(no_mangle)]
 pub extern "C" fn kfifo_c_take_many(
     pass: &mut ValueHandle,
@@ -96,9 +98,9 @@ pub extern "C" fn kfifo_c_take_many(
         × Tries (λ _. ⊤) (TakesEach TakesFromOldest K.Got (length values.old) got) last pass.old.held.value
         pass.new.held.value }
     ensures closed { pass.old.held.value ≡ None → taken.new ≡ 0 }
-    ensures address { pass.new.address ≡ pass.old.address }
+    ensures fields { fields_of pass.new ≡ fields_of pass.old }
 {
-    if pass.starts == 0 {
+    if pass.kind != VALUES {
         *taken = 0;
         return BAD_CALL;
     }

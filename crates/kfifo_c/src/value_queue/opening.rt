@@ -1,26 +1,18 @@
-//! Opening a queue of values.
-ghost use Rattle.std.specs.Prelude.{◌≡◌, ◌≢◌, ◌<◌, ◌≤◌, ◌⊎◌, ◌↔◌, ℕ, None, Some, IfSome, IfOk, IsErrOf, All, length};
-ghost use Rattle.std.specs.Prelude.{map, true};
-ghost use Rattle.std.specs.Prelude.{reverse};
-ghost use Rattle.kfifo_model.specs.declared.calls.TheConstants.{MAX_THREADS};
+//! Opening a queue of values, by how many of them it is to hold.
+ghost use Rattle.std.specs.Prelude.{◌≡◌, ◌≢◌, None, Some, IfSome, IfOk, All, length, map, reverse, false};
 ghost use denote.RawPtr.{Ptr};
-ghost use Rattle.kfifo_words.specs.Sizes.{fault_of};
-ghost use Rattle.kfifo_live.specs.declared.fault.OpenFault.TheVariants.{ThreadsOutOfRange, TokensOutOfRange};
-ghost use Rattle.kfifo_renewing.specs.declared.fault.RenewFault.TheVariants.{GenerationsOutOfRange, Open};
-ghost use Rattle.kfifo_renewing.specs.declared.fault.RenewFault.TheVariants.{ReserveOutOfRange};
-ghost use Rattle.kfifo_c.specs.ValueHandles.{values_behind};
-ghost use Rattle.kfifo_c.specs.Exports.{shape_number};
-ghost use Rattle.kfifo_renewing.specs.Renewing.{generations_for};
-ghost use Rattle.kfifo_c.specs.Values.{BadGenerations, BadTokens, OpensValues, OpensValueSizes};
+ghost use Rattle.kfifo_live.specs.Capacities.{sizes_fault};
+ghost use Rattle.kfifo_renewing.specs.Renewing.{HaveOne, opening_with, sizes_again};
+ghost use Rattle.kfifo_c.specs.Fields.{AreNew};
+ghost use Rattle.kfifo_c.specs.Openings.{IsAnswer, OpensAll, RefusesBad, sizes_number};
+ghost use Rattle.kfifo_c.specs.ValueHandles.{fields_of, values_behind};
 
 use crate::address::no_address;
-use crate::shape::{open_renewing, shape_of};
-use crate::status::{BAD_RESERVE, BAD_THREADS, DONE, shape_status};
+use crate::status::{BAD_THREADS, DONE, renew_status, sizes_status};
 use crate::value_queue::handle::ValueHandle;
 use crate::value_queue::seat::ValueSeat;
-use crate::value_queue::status::renew_status;
-use kfifo_live::OpenFault;
-use kfifo_renewing::{RenewFault, Renewals, RenewingHandle};
+use kfifo_live::{OpenFault, Sizes};
+use kfifo_renewing::{RenewFault, Renewals, RenewingHandle, open_with};
 use kfifo_words::Shape;
 use std::alloc::{AllocError, Global};
 
@@ -45,31 +37,18 @@ fn seat_all(
 /// The seats of a new queue, the last thread's first.
 fn open_seats(
     alloc: Global,
-    shape: Shape,
-    threads: u32,
-    tokens: u32,
+    sizes: Sizes,
     renewals: Renewals,
 ) -> Result<Vec<Box<ValueSeat, Global>>, RenewFault>
-    requires again { shape.holds_again ≡ true }
-    ensures ok { IfOk result (λ seats. OpensValues shape threads tokens
-        (reverse (map (λ seat. seat.value) seats.items))) }
-    ensures reserve { IsErrOf result ReserveOutOfRange ↔ (shape.last ≤ renewals.reserve) }
-    ensures threads { IsErrOf result (Open ThreadsOutOfRange) ↔ ((renewals.reserve < shape.last)
-        × ((threads ≡ 0) ⊎ (MAX_THREADS < threads))) }
-    ensures tokens { IsErrOf result (Open TokensOutOfRange)
-        ↔ ((renewals.reserve < shape.last) × (1 ≤ threads) × (threads ≤ MAX_THREADS) × BadTokens threads tokens) }
-    ensures generations { (most : ℕ) → IsErrOf result (GenerationsOutOfRange most)
-        → (renewals.reserve < shape.last) × (1 ≤ threads) × (threads ≤ MAX_THREADS) × (¬ BadTokens threads tokens)
-        × BadGenerations threads renewals.generations }
-    ensures bad_generations { renewals.reserve < shape.last → 1 ≤ threads → threads ≤ MAX_THREADS
-        → ¬ BadTokens threads tokens → BadGenerations threads renewals.generations
-        → IsErrOf result (GenerationsOutOfRange (generations_for threads)) }
+    ensures ok { IfOk result (λ seats. HaveOne (opening_with false (sizes_again sizes))
+        (reverse (map (λ seat. seat.value) seats.items)) × (length seats.items ≡ sizes.threads)) }
+    ensures refused { RefusesBad sizes renewals result }
 {
-    let handles = match open_renewing(alloc, shape, threads, tokens, renewals) {
+    let handles = match open_with(alloc, sizes, renewals) {
         Ok(handles) => handles,
         Err(fault) => return Err(fault),
     };
-    match seat_all(alloc, handles, shape, threads) {
+    match seat_all(alloc, handles, sizes.shape.holding_again(), sizes.threads) {
         Ok(seats) => Ok(seats),
         Err(_) => Err(RenewFault::Open(OpenFault::Memory)),
     }
@@ -87,7 +66,7 @@ fn address_of_all(seats: &[Box<ValueSeat, Global>]) -> *mut u8 {
 fn put_all(handles: &mut [ValueHandle], mut seats: Vec<Box<ValueSeat, Global>>, address: *mut u8)
     requires { length seats.items ≡ length handles.old }
     ensures behind { values_behind handles.new ≡ map Some (reverse (map (λ seat. seat.value) seats.items)) }
-    ensures address { All (λ handle. handle.address ≡ address) handles.new }
+    ensures fields { All (λ handle. AreNew address 2 0 0 (fields_of handle)) handles.new }
 {
     for handle in handles.iter_mut() {
         if let Some(seat) = seats.pop() {
@@ -96,59 +75,42 @@ fn put_all(handles: &mut [ValueHandle], mut seats: Vec<Box<ValueSeat, Global>>, 
     }
 }
 
-/// Opens a queue of values for as many threads as there are handles, with so many tokens for each, as
+/// Opens a queue with room for so many values, for as many threads as there are handles, as
 /// `kfifo_renewing::open_with`, and puts a handle of it behind each, in their order. With fewer versions left than the
 /// reserve, a generation is followed by the next one; with a reserve of 0 it is not. So is one with no room while there
-/// are fewer than `generations`. What was behind the handles is lost. A refusal does nothing: BAD_K, BAD_SEGMENTS,
-/// BAD_LAST or BAD_PROBES where there is no such shape, BAD_RESERVE where the reserve is not below the greatest
-/// version, BAD_THREADS where the handles are not 1 to 64, BAD_TOKENS where the tokens are not 1 to 1,024 or the
-/// threads have too many together, BAD_CALL where the generations are not 1 to 129 - 2 * threads, NO_MEMORY where an
-/// allocation failed.
+/// are fewer than `generations`. What was behind the handles is lost. A refusal does nothing: BAD_THREADS where the
+/// handles are not 1 to 64; BAD_K; BAD_LAST; BAD_CAPACITY where the capacity is 0, or greater than a queue of these
+/// handles can have; BAD_RESERVE where the reserve is not below the greatest version; BAD_CALL where the generations are
+/// not 1 to 129 - 2 * threads; NO_MEMORY where an allocation failed.
 #[unsafe(no_mangle)]
 pub extern "C" fn kfifo_c_open_values(
     alloc: Global,
     k: u32,
-    segments: u32,
-    probes: u32,
+    capacity: u32,
     last: u64,
-    tokens: u32,
     reserve: u64,
     generations: u32,
     passes: &mut [ValueHandle],
 ) -> u32
-    ensures ok { result ≡ 0 → OpensValueSizes k segments last probes (length passes.old) tokens
-        (values_behind passes.new) }
-    ensures address { result ≡ 0 → (address : Ptr) × All (λ pass. pass.address ≡ address) passes.new }
+    ensures ok { result ≡ 0 → OpensAll false k capacity last (length passes.old) (values_behind passes.new) }
+    ensures fields { result ≡ 0 → (address : Ptr) × All (λ pass. AreNew address 2 0 0 (fields_of pass)) passes.new }
     ensures refused { result ≢ 0 → passes.new ≡ passes.old }
-    ensures shape { IfSome (fault_of k segments last probes) (λ fault. result ≡ shape_number fault) }
-    ensures reserve { fault_of k segments last probes ≡ None → last ≤ reserve → result ≡ 18 }
-    ensures threads { fault_of k segments last probes ≡ None → reserve < last → (length passes.old ≡ 0)
-        ⊎ (MAX_THREADS < length passes.old)
-        → result ≡ 8 }
-    ensures tokens { fault_of k segments last probes ≡ None → reserve < last → 1 ≤ length passes.old
-        → length passes.old ≤ MAX_THREADS → BadTokens (length passes.old) tokens → result ≡ 15 }
-    ensures memory { fault_of k segments last probes ≡ None → reserve < last → 1 ≤ length passes.old
-        → length passes.old ≤ MAX_THREADS → ¬ BadTokens (length passes.old) tokens
-        → ¬ BadGenerations (length passes.old) generations → (result ≡ 0) ⊎ (result ≡ 7) }
-    ensures generations { fault_of k segments last probes ≡ None → reserve < last → 1 ≤ length passes.old
-        → length passes.old ≤ MAX_THREADS → ¬ BadTokens (length passes.old) tokens
-        → BadGenerations (length passes.old) generations → result ≡ 6 }
+    ensures sizes { IfSome (sizes_fault k capacity (length passes.old) last) (λ fault. result ≡ sizes_number fault) }
+    ensures answer { sizes_fault k capacity (length passes.old) last ≡ None
+        → IsAnswer last reserve (length passes.old) generations result }
 {
-    let shape = match shape_of(k, segments, last, probes) {
-        Ok(shape) => shape,
-        Err(fault) => return shape_status(fault),
-    };
-    if last <= reserve {
-        return BAD_RESERVE;
-    }
     if passes.len() > 64 {
         return BAD_THREADS;
     }
+    let sizes = match Sizes::for_capacity(k, capacity, passes.len() as u32, last) {
+        Ok(sizes) => sizes,
+        Err(fault) => return sizes_status(fault),
+    };
     let renewals = Renewals {
         reserve,
         generations,
     };
-    match open_seats(alloc, shape, passes.len() as u32, tokens, renewals) {
+    match open_seats(alloc, sizes, renewals) {
         Ok(seats) => {
             let address = address_of_all(seats.as_slice());
             put_all(passes, seats, address);

@@ -47,11 +47,11 @@ impl ValueSeat {
         self.threads
     }
 
-    /// Slots in a segment of the queue.
-    pub(crate) fn k(&self) -> u32
-        ensures { result ≡ self.now.opened.shape.k }
+    /// About how many values are in the queue, once the handle has followed others.
+    pub(crate) fn len(&mut self) -> usize
+        ensures { Follows self.old self.new }
     {
-        self.shape.k()
+        self.handle.len()
     }
 
     /// Where the queue is.

@@ -1,21 +1,9 @@
 //! The numbers that C gets from the calls with values.
 ghost use Rattle.std.specs.Prelude.{◌≡◌, Some};
-ghost use Rattle.kfifo_c.specs.Values.{given_number, renew_number, taken_number};
+ghost use Rattle.kfifo_c.specs.Values.{given_number, taken_number};
 
-use crate::status::{BAD_CALL, BAD_RESERVE, DONE, NO_TOKEN, open_status};
+use crate::status::{DONE, FULL};
 use kfifo_live::{Given, Taken};
-use kfifo_renewing::RenewFault;
-
-/// The number of an opening that was refused.
-pub(crate) fn renew_status(fault: RenewFault) -> u32
-    ensures { result ≡ renew_number fault }
-{
-    match fault {
-        RenewFault::Open(fault) => open_status(fault),
-        RenewFault::ReserveOutOfRange => BAD_RESERVE,
-        RenewFault::GenerationsOutOfRange(_) => BAD_CALL,
-    }
-}
 
 /// The number of what a give came to.
 #[inline(always)]
@@ -24,10 +12,9 @@ pub(crate) fn given_status<T>(given: &Given<T>) -> u32
 {
     match given {
         Given::Done => DONE,
-        Given::Full(_) => 1,
+        Given::Full(_) | Given::NoToken(_) => FULL,
         Given::Busy(_) => 4,
         Given::Worn(_) => 5,
-        Given::NoToken(_) => NO_TOKEN,
     }
 }
 

@@ -1,8 +1,9 @@
 use Rattle.std.proofs.Common.{All, List, ◌≡◌, ◌≤◌, ◌*◌, ◌++◌, length, drop, vec_len, sym, ap, subst, ◌∙◌, arith}
 use Rattle.kfifo_live.specs.Pass.{OpenQueue, PassView, IsPassOf, Closes}
-use Rattle.kfifo_c.specs.Handles.{behind}
+use Rattle.kfifo_c.specs.Handles.{IsClosed, behind}
 use Rattle.kfifo_c.specs.Exports.{MayClose, passes_in, AreTheirs}
-use Rattle.kfifo_c.proofs.Closings.{match_some, few_closed, closes_theirs}
+use Rattle.kfifo_c.proofs.Closings.{match_some, few_closed, closes_theirs, seats_open}
+use Rattle.kfifo_c.proofs.Turns.{all_closed}
 use Rattle.kfifo_c.proofs.closing.kfifo_c_close.Goals as goal
 
 pub close-requires : goal.close-requires
@@ -52,3 +53,24 @@ returns-clause-may c = λ _. (
   c.in-Ok-Some.queue.value,
   match_some _ _ c.in-Ok-Some.field-0 c.in-Ok-Some.queue c.in-Ok-Some.ensures.may c.in-Ok-Some.field-0-is,
 )
+
+pub returns-in_default-into_inner-clause-closed : goal.returns-in_default-into_inner-clause-closed
+returns-in_default-into_inner-clause-closed c = λ _.
+    let may = match_some _ _ c.in-Ok-Some.field-0 c.in-Ok-Some.queue c.in-Ok-Some.ensures.may c.in-Ok-Some.field-0-is in
+    let seats = seats_open c.in-Ok-Some.queue.value (behind c.args.passes.now) may.each_open in let closed = c.in-Ok.ensures.closed in
+    all_closed (λ h. h.held.value) IsClosed c.ready.new.handles c.take_all.new.handles seats.0
+    (c.in-Ok-Some.ensures.same ∙ seats.1) closed.0 closed.1
+
+pub returns-in_default-close-clause-closed : goal.returns-in_default-close-clause-closed
+returns-in_default-close-clause-closed c = λ _.
+    let may = match_some _ _ c.in-Ok-Some.field-0 c.in-Ok-Some.queue c.in-Ok-Some.ensures.may c.in-Ok-Some.field-0-is in
+    let seats = seats_open c.in-Ok-Some.queue.value (behind c.args.passes.now) may.each_open in let closed = c.in-Ok.ensures.closed in
+    all_closed (λ h. h.held.value) IsClosed c.ready.new.handles c.take_all.new.handles seats.0
+    (c.in-Ok-Some.ensures.same ∙ seats.1) closed.0 closed.1
+
+pub returns-clause-closed : goal.returns-clause-closed
+returns-clause-closed c = λ _.
+    let may = match_some _ _ c.in-Ok-Some.field-0 c.in-Ok-Some.queue c.in-Ok-Some.ensures.may c.in-Ok-Some.field-0-is in
+    let seats = seats_open c.in-Ok-Some.queue.value (behind c.args.passes.now) may.each_open in let closed = c.in-Ok.ensures.closed in
+    all_closed (λ h. h.held.value) IsClosed c.ready.new.handles c.take_all.new.handles seats.0
+    (c.in-Ok-Some.ensures.same ∙ seats.1) closed.0 closed.1

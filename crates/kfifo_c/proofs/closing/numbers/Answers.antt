@@ -1,8 +1,8 @@
 use Rattle.std.proofs.Common.{take, get_or, refl, ◌++◌, ◌∷◌, [], Some, None, sym, ap, ◌∙◌, arith}
-use Rattle.kfifo_c.specs.Handles.{behind, addresses}
+use Rattle.kfifo_c.specs.Handles.{all_fields, behind}
 use Rattle.kfifo_c.specs.Exports.{numbers_in}
 use Rattle.kfifo_c.proofs.Passes.{something, closed_at}
-use Rattle.kfifo_c.proofs.Closings.{put_back, same_address, next_behind, numbers_more, numbers_same}
+use Rattle.kfifo_c.proofs.Closings.{put_back, same_fields, next_behind, numbers_more, numbers_same}
 use Rattle.kfifo_c.proofs.closing.numbers.Goals.{then-handle-ne0+in_ok-push, else-handle-ne0}
 use Rattle.kfifo_c.proofs.closing.numbers.Goals as goal
 
@@ -14,9 +14,9 @@ pub returns-in_err-push-clause-same : goal.returns-in_err-push-clause-same
 returns-in_err-push-clause-same c = put_back c.loop-handle.handles c.loop-handle.handle-index _ c.handle-item.result
     (sym c.seat_mut.ensures.value) ∙ c.loop-handle.invariant.same
 
-pub returns-in_err-push-clause-addresses : goal.returns-in_err-push-clause-addresses
-returns-in_err-push-clause-addresses c = same_address c.loop-handle.handles c.loop-handle.handle-index _ c.handle-item.result refl
-    ∙ c.loop-handle.invariant.addresses
+pub returns-in_err-push-clause-fields : goal.returns-in_err-push-clause-fields
+returns-in_err-push-clause-fields c = same_fields c.loop-handle.handles c.loop-handle.handle-index _ c.handle-item.result refl
+    ∙ c.loop-handle.invariant.fields
 
 pub loop-handle-preserved : goal.loop-handle-preserved
 loop-handle-preserved c =
@@ -25,7 +25,7 @@ loop-handle-preserved c =
     elim c.if-handle-ne0.branch [
       | then-handle-ne0+in_ok-push w ↦ record {
         same = ap behind w.handles-is ∙ put_back hs i _ d (sym w.seat_mut.ensures.value) ∙ c.loop-handle.invariant.same;
-        addresses = ap addresses w.handles-is ∙ same_address hs i _ d refl ∙ c.loop-handle.invariant.addresses;
+        fields = ap all_fields w.handles-is ∙ same_fields hs i _ d refl ∙ c.loop-handle.invariant.fields;
         found = ap (λ v. v.items) w.numbers-is ∙ w.in_ok-push.ensures.items
             ∙ ap (λ l. l ++ w.thread.result ∷ []) c.loop-handle.invariant.found
             ∙ ap (λ n. numbers_in (take i os) ++ n ∷ []) w.thread.ensures
@@ -35,7 +35,7 @@ loop-handle-preserved c =
       }
       | else-handle-ne0 w ↦ record {
         same = ap behind w.handles-is ∙ put_back hs i _ d refl ∙ c.loop-handle.invariant.same;
-        addresses = ap addresses w.handles-is ∙ same_address hs i _ d refl ∙ c.loop-handle.invariant.addresses;
+        fields = ap all_fields w.handles-is ∙ same_fields hs i _ d refl ∙ c.loop-handle.invariant.fields;
         found = ap (λ v. v.items) w.numbers-is ∙ c.loop-handle.invariant.found
             ∙ sym (numbers_same (take i os)) ∙ ap numbers_in
             (sym (next_behind hs os i d None c.loop-handle.invariant.same (omega arith)

@@ -1,8 +1,9 @@
 use Rattle.std.proofs.Common.{refl, subst, vec_capacity, ◌≡◌, ◌++◌, ◌∷◌, [], Some, None, get_or, take, length, sym, ap, ◌∙◌, arith}
 use Rattle.kfifo_live.specs.Pass.{IsPassOf}
-use Rattle.kfifo_c.specs.Handles.{behind}
+use Rattle.kfifo_c.specs.Handles.{WasClosed, behind}
 use Rattle.kfifo_c.specs.Exports.{passes_in, AreTheirs}
-use Rattle.kfifo_c.proofs.Closings.{one_longer, next_behind, passes_more, passes_same, theirs_more, closed_more, rest_more}
+use Rattle.kfifo_c.proofs.Closings.{one_longer, next_behind, passes_more, passes_same, theirs_more}
+use Rattle.kfifo_c.proofs.Turns.{changed_more, rest_more}
 use Rattle.kfifo_c.proofs.closing.take_all.Goals.{in-Some, in_default}
 use Rattle.kfifo_c.proofs.closing.take_all.Goals as goal
 
@@ -21,7 +22,7 @@ loop-handle-preserved c =
           let longer = ap length items ∙ one_longer c.loop-handle.passes.items w.into_pass.result in
           let wide = ap (λ v. vec_capacity v) w.passes-is ∙ w.push_reserved.ensures.capacity in record {
             rest = rest_more olds hs i c.take.new.self inv.rest;
-            closed = closed_more hs i c.take.new.self inv.closed c.take.ensures.closed (omega arith);
+            closed = changed_more olds hs i c.take.new.self WasClosed d (omega arith) inv.rest inv.closed c.take.ensures.closed;
             taken = items ∙ ap (λ l. l ++ w.into_pass.result ∷ []) inv.taken ∙ ap (λ p. passes_in (take i os) ++ p ∷ []) pass
                 ∙ sym (passes_more (take i os) seat) ∙ ap passes_in (sym next);
             theirs = subst AreTheirs (sym next) (theirs_more (take i os) (Some seat) inv.theirs
@@ -35,10 +36,13 @@ loop-handle-preserved c =
           let longer = ap (λ v. length v.items) w.passes-is in
           let wide = ap (λ v. vec_capacity v) w.passes-is in record {
             rest = rest_more olds hs i c.take.new.self inv.rest;
-            closed = closed_more hs i c.take.new.self inv.closed c.take.ensures.closed (omega arith);
+            closed = changed_more olds hs i c.take.new.self WasClosed d (omega arith) inv.rest inv.closed c.take.ensures.closed;
             taken = ap (λ v. v.items) w.passes-is ∙ inv.taken ∙ sym (passes_same (take i os)) ∙ ap passes_in (sym next);
             theirs = subst AreTheirs (sym next) (theirs_more (take i os) None inv.theirs tt);
             few = omega arith;
             room = omega arith;
           }
     ]
+
+pub returns-clause-closed : goal.returns-clause-closed
+returns-clause-closed c = (c.loop-handle.auto.handles, λ i d below. c.loop-handle.invariant.closed i d (omega (arith, below)))

@@ -1,22 +1,13 @@
-use Rattle.std.proofs.Common.{Some, refl, ◌∙◌}
-use Rattle.kfifo_model.specs.declared.calls.Answer.TheVariants as A
-use Rattle.kfifo_c.proofs.Cells.{has_released}
-use Rattle.kfifo_c.proofs.CellHandles.{something}
+use Rattle.std.proofs.Common.{Some, refl}
+use Rattle.kfifo_c.proofs.Turns.{something}
 use Rattle.kfifo_c.proofs.cell_queue.calls.kfifo_c_release.Goals as goal
 
 pub seat_mut-requires : goal.seat_mut-requires
-seat_mut-requires c = something _ (λ e. c.if-pass-eq0.false (c.args.pass.now.starts_are ∙ e))
+seat_mut-requires c = something _ 3 _ _ c.args.pass.now.kind_is c.if-pass-ne-CELLS.false
 
-pub returns-then-release-clause-answer : goal.returns-then-release-clause-answer
-returns-then-release-clause-answer c = (
-  Some A.Done,
-  refl,
-  (
-    c.seat_mut.result.now,
-    c.release.new.self,
-    c.seat_mut.ensures.value,
-    refl,
-    has_released c.seat_mut.result.now c.release.new.self c.if-release.ensures,
-    c.if-release.ensures,
-  ),
+pub returns-clause-answer : goal.returns-clause-answer
+returns-clause-answer c = (
+  Some c.release-given.result,
+  c.call_status.ensures,
+  (c.seat_mut.result.now, c.release-given.new.self, c.seat_mut.ensures.value, refl, tt, c.release-given.ensures),
 )

@@ -2,7 +2,8 @@ use Rattle.std.proofs.Common.{rules, ◌≡◌, ◌+◌, ◌++◌, ◌∷◌, []
 use Rattle.std.proofs.lemmas.List.{take_more_set}
 use Rattle.std.proofs.lemmas.List.Elements.{All-push}
 use Rattle.std.specs.List.{All}
-use Rattle.kfifo_c.specs.CellHandles.{cells_behind}
+use Rattle.kfifo_c.specs.Fields.{AreNew}
+use Rattle.kfifo_c.specs.CellHandles.{cells_behind, fields_of}
 use Rattle.kfifo_c.proofs.CellHandles.{put_more}
 use Rattle.kfifo_c.proofs.cell_queue.opening.put_all.Goals.{in-Some, in_default}
 use Rattle.kfifo_c.proofs.cell_queue.opening.put_all.Goals as goal
@@ -18,10 +19,10 @@ loop-handle-preserved c =
                 ∙ put_more (λ seat. seat.value) hs i w.of.result left w.in-Some.seat _ (omega arith) w.of.ensures.seat
                 (ap (λ l. cells_behind (take i hs) ++ map Some (reverse (map (λ seat. seat.value) l))) (sym items)
                 ∙ c.loop-handle.invariant.put);
-            address = subst (λ l. All (λ handle. handle.address ≡ c.args.address) (take (i + 1) l)) (sym w.handles-is)
-                (subst (All (λ handle. handle.address ≡ c.args.address)) (sym (take_more_set hs i w.of.result (omega arith)))
-                (All-push (λ handle. handle.address ≡ c.args.address) (take i hs) w.of.result c.loop-handle.invariant.address
-                w.of.ensures.address));
+            fields = subst (λ l. All (λ handle. AreNew c.args.address 3 c.args.size c.args.alignment (fields_of handle)) (take (i + 1) l)) (sym w.handles-is)
+                (subst (All (λ handle. AreNew c.args.address 3 c.args.size c.args.alignment (fields_of handle))) (sym (take_more_set hs i w.of.result (omega arith)))
+                (All-push (λ handle. AreNew c.args.address 3 c.args.size c.args.alignment (fields_of handle)) (take i hs) w.of.result c.loop-handle.invariant.fields
+                w.of.ensures.fields));
           }
-      | in_default w ↦ record { left = search rules; put = search rules; address = search rules }
+      | in_default w ↦ record { left = search rules; put = search rules; fields = search rules }
     ]

@@ -1,9 +1,9 @@
-use Rattle.std.proofs.Common.{Some, refl, ◌∙◌}
-use Rattle.kfifo_c.proofs.ValueHandles.{something}
+use Rattle.std.proofs.Common.{Some, refl}
+use Rattle.kfifo_c.proofs.Turns.{something}
 use Rattle.kfifo_c.proofs.value_queue.calls.kfifo_c_give.Goals as goal
 
 pub seat_mut-requires : goal.seat_mut-requires
-seat_mut-requires c = something _ (λ e. c.if-pass-eq0.false (c.args.pass.now.starts_are ∙ e))
+seat_mut-requires c = something _ 2 _ _ c.args.pass.now.kind_is c.if-pass-ne-VALUES.false
 
 pub returns-clause-answer : goal.returns-clause-answer
 returns-clause-answer c = (

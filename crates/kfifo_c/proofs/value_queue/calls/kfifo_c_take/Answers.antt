@@ -1,9 +1,9 @@
-use Rattle.std.proofs.Common.{◌≡◌, ℕ, Some, refl, subst, ◌∙◌}
+use Rattle.std.proofs.Common.{◌≡◌, ℕ, Some, refl, subst}
 use Rattle.kfifo_live.specs.declared.payload.Taken.{Taken}
 use Rattle.kfifo_live.specs.declared.payload.Taken.TheVariants as K
 use Rattle.kfifo_renewing.specs.Renewing.{TakesFromOldest}
 use Rattle.kfifo_c.specs.Values.{value_after}
-use Rattle.kfifo_c.proofs.ValueHandles.{something}
+use Rattle.kfifo_c.proofs.Turns.{something}
 use Rattle.kfifo_c.proofs.value_queue.calls.kfifo_c_take.Goals as goal
 
 -- what is no Got leaves the variable as it is
@@ -14,7 +14,7 @@ unchanged old K.Busy other = refl
 unchanged old K.Worn other = refl
 
 pub seat_mut-requires : goal.seat_mut-requires
-seat_mut-requires c = something _ (λ e. c.if-pass-eq0.false (c.args.pass.now.starts_are ∙ e))
+seat_mut-requires c = something _ 2 _ _ c.args.pass.now.kind_is c.if-pass-ne-VALUES.false
 
 pub returns-in-Got-clause-answer : goal.returns-in-Got-clause-answer
 returns-in-Got-clause-answer c = (

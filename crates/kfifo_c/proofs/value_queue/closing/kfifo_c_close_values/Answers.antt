@@ -1,9 +1,10 @@
-use Rattle.std.proofs.Common.{◌≡◌, ◌++◌, length, drop, vec_len, List, ap, sym, subst, ◌∙◌, arith, rules}
+use Rattle.std.proofs.Common.{◌≡◌, ◌++◌, ◌∷◌, [], length, drop, vec_len, List, ap, sym, subst, ◌∙◌, arith, rules}
 use Rattle.kfifo_renewing.specs.Renewing.{ClosesAll}
 use Rattle.kfifo_c.specs.declared.value_queue.handle.ValueHandle.{ValueHandle}
-use Rattle.kfifo_c.specs.ValueHandles.{values_behind, value_addresses}
+use Rattle.kfifo_c.specs.ValueHandles.{IsClosed, all_fields, values_behind}
 use Rattle.kfifo_c.specs.ValueSeats.{ValueSeated}
 use Rattle.kfifo_c.specs.Values.{LastFollows, NeedsRoom}
+use Rattle.kfifo_c.proofs.Turns.{all_closed}
 use Rattle.kfifo_c.proofs.ValueHandles.{closing_last, may_close}
 use Rattle.kfifo_c.proofs.value_queue.closing.kfifo_c_close_values.Goals as goal
 
@@ -11,7 +12,7 @@ pub returns-in_default-clause-nothing : goal.returns-in_default-clause-nothing
 returns-in_default-clause-nothing c = λ _.
     let same : c.take_all.new.handles ≡ c.room_of.new.handles = search (rules, c.in_default.ensures.refused) in
     subst (λ (hs : List ValueHandle). LastFollows (values_behind c.args.passes.now) (values_behind hs)
-    × (value_addresses hs ≡ value_addresses c.args.passes.now)) (sym same) (c.room_of.ensures.follows, c.room_of.ensures.addresses)
+    × (all_fields hs ≡ all_fields c.args.passes.now)) (sym same) (c.room_of.ensures.follows, c.room_of.ensures.fields)
 
 pub returns-in_default-close-clause-may : goal.returns-in_default-close-clause-may
 returns-in_default-close-clause-may c = λ _. (
@@ -52,3 +53,24 @@ returns-clause-done c = λ _.
             ∙ ap (λ l. l ++ drop (length l) c.args.values.now) c.as_slice.ensures.value;
       },
     )
+
+pub returns-in_default-close-clause-closed : goal.returns-in_default-close-clause-closed
+returns-in_default-close-clause-closed c = λ _.
+    let os = values_behind c.room_of.new.handles in let closed = c.in-Ok.ensures.closed in
+    let all = (subst (λ o. NeedsRoom o os) c.in-Ok-Some.field-0-is c.in-Ok-Some.ensures.room).0 in
+    all_closed (λ h. h.held.value) IsClosed c.room_of.new.handles c.take_all.new.handles (all.others ++ all.last ∷ []) all.each_open
+    closed.0 closed.1
+
+pub returns-then-not-write_values-clause-closed : goal.returns-then-not-write_values-clause-closed
+returns-then-not-write_values-clause-closed c = λ _.
+    let os = values_behind c.room_of.new.handles in let closed = c.in-Ok.ensures.closed in
+    let all = (subst (λ o. NeedsRoom o os) c.in-Ok-Some.field-0-is c.in-Ok-Some.ensures.room).0 in
+    all_closed (λ h. h.held.value) IsClosed c.room_of.new.handles c.take_all.new.handles (all.others ++ all.last ∷ []) all.each_open
+    closed.0 closed.1
+
+pub returns-clause-closed : goal.returns-clause-closed
+returns-clause-closed c = λ _.
+    let os = values_behind c.room_of.new.handles in let closed = c.in-Ok.ensures.closed in
+    let all = (subst (λ o. NeedsRoom o os) c.in-Ok-Some.field-0-is c.in-Ok-Some.ensures.room).0 in
+    all_closed (λ h. h.held.value) IsClosed c.room_of.new.handles c.take_all.new.handles (all.others ++ all.last ∷ []) all.each_open
+    closed.0 closed.1

@@ -1,5 +1,6 @@
 use Rattle.std.proofs.Common.{◌≡◌, ◌-◌, ◌*◌, ◌++◌, ◌∷◌, [], ◌<◌, length, true≢false, inl, refl, sym, ap, ◌∙◌, arith}
-use Rattle.kfifo_c.proofs.ValueHandles.{all_pass, are_all, last_follows, last_step, needs_room, not_all, open_at, put_back, same_address}
+use Rattle.kfifo_c.specs.ValueHandles.{fields_of}
+use Rattle.kfifo_c.proofs.ValueHandles.{all_pass, are_all, last_follows, last_step, needs_room, not_all, open_at, put_back, same_fields}
 use Rattle.kfifo_c.proofs.value_queue.closing.room_of.Goals as goal
 
 pub returns-then-not-are_open-clause-room : goal.returns-then-not-are_open-clause-room
@@ -17,9 +18,9 @@ pub returns-then-count-threads-clause-follows : goal.returns-then-count-threads-
 returns-then-count-threads-clause-follows c = inl (put_back c.args.handles.now (length c.args.handles.now - 1) _ c.in-Some.last.now
     (sym c.seat_mut-seat.ensures.value ∙ ap (λ h. h.held.value) c.in-Some.ensures.item.1))
 
-pub returns-then-count-threads-clause-addresses : goal.returns-then-count-threads-clause-addresses
-returns-then-count-threads-clause-addresses c = same_address c.args.handles.now (length c.args.handles.now - 1) _ c.in-Some.last.now
-    (ap (λ h. h.address) c.in-Some.ensures.item.1)
+pub returns-then-count-threads-clause-fields : goal.returns-then-count-threads-clause-fields
+returns-then-count-threads-clause-fields c = same_fields c.args.handles.now (length c.args.handles.now - 1) _ c.in-Some.last.now
+    (ap fields_of c.in-Some.ensures.item.1)
 
 pub returns-then-count-threads-clause-room : goal.returns-then-count-threads-clause-room
 returns-then-count-threads-clause-room c = λ all.
@@ -39,9 +40,9 @@ returns-in_default-generations-clause-follows c =
     (sym (ap (λ h. h.held.value) c.in-Some.ensures.item.1) ∙ c.seat_mut-seat.ensures.value) refl)
     c.generations.ensures.follows
 
-pub returns-in_default-generations-clause-addresses : goal.returns-in_default-generations-clause-addresses
-returns-in_default-generations-clause-addresses c = same_address c.args.handles.now (length c.args.handles.now - 1) _ c.in-Some.last.now
-    (ap (λ h. h.address) c.in-Some.ensures.item.1)
+pub returns-in_default-generations-clause-fields : goal.returns-in_default-generations-clause-fields
+returns-in_default-generations-clause-fields c = same_fields c.args.handles.now (length c.args.handles.now - 1) _ c.in-Some.last.now
+    (ap fields_of c.in-Some.ensures.item.1)
 
 pub returns-clause-follows : goal.returns-clause-follows
 returns-clause-follows c =
@@ -52,9 +53,9 @@ returns-clause-follows c =
     (sym (ap (λ h. h.held.value) c.in-Some.ensures.item.1) ∙ c.seat_mut-seat.ensures.value) refl)
     c.generations.ensures.follows
 
-pub returns-clause-addresses : goal.returns-clause-addresses
-returns-clause-addresses c = same_address c.args.handles.now (length c.args.handles.now - 1) _ c.in-Some.last.now
-    (ap (λ h. h.address) c.in-Some.ensures.item.1)
+pub returns-clause-fields : goal.returns-clause-fields
+returns-clause-fields c = same_fields c.args.handles.now (length c.args.handles.now - 1) _ c.in-Some.last.now
+    (ap fields_of c.in-Some.ensures.item.1)
 
 pub returns-clause-room : goal.returns-clause-room
 returns-clause-room c =

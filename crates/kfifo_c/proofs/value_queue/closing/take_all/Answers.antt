@@ -1,8 +1,9 @@
 use Rattle.std.proofs.Common.{◌≡◌, ◌++◌, ◌∷◌, [], Some, None, get_or, take, length, vec_capacity, sym, ap, ◌∙◌, arith}
-use Rattle.kfifo_c.specs.ValueHandles.{values_behind}
+use Rattle.kfifo_c.specs.ValueHandles.{WasClosed, values_behind}
 use Rattle.kfifo_c.specs.Values.{seats_in}
 use Rattle.kfifo_c.proofs.Closings.{one_longer}
-use Rattle.kfifo_c.proofs.ValueHandles.{next_behind, closed_more, seats_more, seats_same, rest_more}
+use Rattle.kfifo_c.proofs.ValueHandles.{next_behind, seats_more, seats_same}
+use Rattle.kfifo_c.proofs.Turns.{changed_more, rest_more}
 use Rattle.kfifo_c.proofs.value_queue.closing.take_all.Goals.{in-Some, in_default}
 use Rattle.kfifo_c.proofs.value_queue.closing.take_all.Goals as goal
 
@@ -22,7 +23,7 @@ loop-handle-preserved c =
           let longer = ap length items ∙ one_longer c.loop-handle.taken.items handle in
           let wide = ap (λ v. vec_capacity v) w.taken-is ∙ w.push_reserved.ensures.capacity in record {
             rest = rest_more olds hs i c.take.new.self inv.rest;
-            closed = closed_more hs i c.take.new.self inv.closed c.take.ensures.closed (omega arith);
+            closed = changed_more olds hs i c.take.new.self WasClosed d (omega arith) inv.rest inv.closed c.take.ensures.closed;
             seats = items ∙ ap (λ l. l ++ handle ∷ []) inv.seats ∙ ap (λ s. seats_in (take i os) ++ s ∷ []) is
                 ∙ sym (seats_more (take i os) seat) ∙ ap seats_in (sym next);
             few = omega arith;
@@ -33,9 +34,12 @@ loop-handle-preserved c =
           let longer = ap (λ v. length v.items) w.taken-is in
           let wide = ap (λ v. vec_capacity v) w.taken-is in record {
             rest = rest_more olds hs i c.take.new.self inv.rest;
-            closed = closed_more hs i c.take.new.self inv.closed c.take.ensures.closed (omega arith);
+            closed = changed_more olds hs i c.take.new.self WasClosed d (omega arith) inv.rest inv.closed c.take.ensures.closed;
             seats = ap (λ v. v.items) w.taken-is ∙ inv.seats ∙ sym (seats_same (take i os)) ∙ ap seats_in (sym next);
             few = omega arith;
             room = omega arith;
           }
     ]
+
+pub returns-clause-closed : goal.returns-clause-closed
+returns-clause-closed c = (c.loop-handle.auto.handles, λ i d below. c.loop-handle.invariant.closed i d (omega (arith, below)))

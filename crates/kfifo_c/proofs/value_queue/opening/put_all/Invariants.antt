@@ -1,5 +1,6 @@
 use Rattle.std.proofs.Common.{◌≡◌, All, ◌+◌, length, map, reverse, ◌++◌, take, Some}
-use Rattle.kfifo_c.specs.ValueHandles.{values_behind}
+use Rattle.kfifo_c.specs.Fields.{AreNew}
+use Rattle.kfifo_c.specs.ValueHandles.{fields_of, values_behind}
 use Rattle.kfifo_c.proofs.value_queue.opening.put_all.Given as goal
 
 abbrev pub invariant-loop-handle : goal.invariant-loop-handle
@@ -7,5 +8,5 @@ invariant-loop-handle l = record {
   left : length l.seats.items + l.handle-index ≡ length l.handles;
   put : values_behind (take l.handle-index l.handles) ++ map Some (reverse (map (λ seat. seat.value) l.seats.items))
       ≡ map Some (reverse (map (λ seat. seat.value) l.fn.seats.items));
-  address : All (λ handle. handle.address ≡ l.address) (take l.handle-index l.handles);
+  fields : All (λ handle. AreNew l.address 2 0 0 (fields_of handle)) (take l.handle-index l.handles);
 }

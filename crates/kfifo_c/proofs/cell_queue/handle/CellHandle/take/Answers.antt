@@ -1,10 +1,8 @@
-use Rattle.std.proofs.Common.{sym, ap, ◌∙◌}
-use Rattle.kfifo_c.proofs.CellHandles.{something, closed_at}
+use Rattle.std.proofs.Common.{ap, ◌∙◌}
+use Rattle.kfifo_c.proofs.Turns.{something}
 use Rattle.kfifo_c.proofs.cell_queue.handle.CellHandle.take.Goals as goal
 
 pub into_loose-requires : goal.into_loose-requires
-into_loose-requires c = something _ (λ e. c.if-starts-eq0.false (c.replace-held.result.starts_are ∙ e))
-
-pub returns-then-starts-eq0-clause-value : goal.returns-then-starts-eq0-clause-value
-returns-then-starts-eq0-clause-value c = ap (λ h. h.held.value) (sym c.replace-held.ensures.value)
-    ∙ closed_at _ (sym c.replace-held.result.starts_are ∙ c.if-starts-eq0.true)
+into_loose-requires c =
+    let seat = something _ 3 _ _ c.args.self.now.kind_is c.if-self-ne-CELLS.false in
+    (seat.0, ap (λ h. h.held.value) c.replace-held.ensures.value ∙ seat.1)

@@ -1,0 +1,13 @@
+use Rattle.std.proofs.Common.{Some, refl}
+use Rattle.kfifo_c.proofs.Turns.{something}
+use Rattle.kfifo_c.proofs.value_queue.calls.kfifo_c_values_len.Goals as goal
+
+pub seat_mut-requires : goal.seat_mut-requires
+seat_mut-requires c = something _ 2 _ _ c.args.pass.now.kind_is c.if-pass-ne-VALUES.false
+
+pub returns-clause-counted : goal.returns-clause-counted
+returns-clause-counted c = (
+  Some c.len.result,
+  refl,
+  (c.seat_mut.result.now, c.len.new.self, c.seat_mut.ensures.value, refl, tt, c.len.ensures),
+)
