@@ -12,15 +12,16 @@
 #include <stdio.h>
 #include <stdlib.h>
 
-uint32_t kfifo_c_whole_open(uint32_t k, uint32_t segments, uint32_t probes, uint64_t last, kfifo_pass *passes,
+uint32_t kfifo_c_whole_open(uint32_t k, uint32_t segments, uint32_t probes, uint64_t last, kfifo_handle *handles,
                             size_t threads);
-uint32_t kfifo_c_whole_open_values(uint32_t k, uint32_t segments, uint32_t probes, uint64_t last, uint32_t tokens,
-                                   uint64_t reserve, uint32_t generations, kfifo_value_pass *passes, size_t threads);
-uint32_t kfifo_c_whole_open_cells(uint32_t k, uint32_t segments, uint32_t probes, uint64_t last, uint32_t tokens,
-                                  uint64_t reserve, kfifo_cell_pass *passes, size_t threads);
+uint32_t kfifo_c_whole_open_values(uint32_t k, uint32_t capacity, uint64_t last, uint64_t reserve, uint32_t generations,
+                                   kfifo_handle *handles, size_t threads);
+uint32_t kfifo_c_whole_open_cells(uint32_t k, uint32_t capacity, uint32_t size, uint32_t alignment, uint64_t last,
+                                  uint64_t reserve, uint32_t generations, kfifo_handle *handles, size_t threads);
 
 #ifdef RENEWS
-enum { LAST = 128, RESERVE = 64, SEGMENTS = 4 };
+/* A queue has 32 tokens more for each thread. The reserve has to empty it. */
+enum { LAST = 320, RESERVE = 256, CAPACITY = 4 };
 
 /* The blocks of each size that openings ask for, and those that came later. A change asks for no more blocks of a size
    than an opening, which makes a generation and has each handle join it. */
@@ -52,33 +53,36 @@ __attribute__((destructor)) static void tell(void) {
     fprintf(stderr, "%ld changes of generations\n", changes);
 }
 #else
-enum { LAST = 3, RESERVE = 0, SEGMENTS = 1024 };
+enum { LAST = 3, RESERVE = 0, CAPACITY = 65536 };
 static int is_opening;
 #endif
 
 static uint64_t at_most(uint64_t number, uint64_t most) { return number < most ? number : most; }
 
-uint32_t kfifo_c_open(uint32_t k, uint32_t segments, uint32_t probes, uint64_t last, kfifo_pass *passes,
+uint32_t kfifo_c_open(uint32_t k, uint32_t segments, uint32_t probes, uint64_t last, kfifo_handle *handles,
                       size_t threads) {
-    return kfifo_c_whole_open(k, segments, probes, RESERVE ? last : at_most(last, LAST), passes, threads);
+    return kfifo_c_whole_open(k, segments, probes, RESERVE ? last : at_most(last, LAST), handles, threads);
 }
 
-uint32_t kfifo_c_open_values(uint32_t k, uint32_t segments, uint32_t probes, uint64_t last, uint32_t tokens,
-                             uint64_t reserve, uint32_t generations, kfifo_value_pass *passes, size_t threads) {
+/* A queue that grows is not worn out before it has as many generations as it may have. */
+static uint32_t at_most_generations(uint32_t generations) { return RESERVE ? generations : 1; }
+
+uint32_t kfifo_c_open_values(uint32_t k, uint32_t capacity, uint64_t last, uint64_t reserve, uint32_t generations,
+                             kfifo_handle *handles, size_t threads) {
     is_opening = 1;
-    /* A queue that grows is not worn out before it has as many generations as it may have. */
     uint32_t status =
-        kfifo_c_whole_open_values(k, (uint32_t)at_most(segments, SEGMENTS), probes, at_most(last, LAST), tokens,
-                                  at_most(reserve, RESERVE), RESERVE ? generations : 1, passes, threads);
+        kfifo_c_whole_open_values(k, (uint32_t)at_most(capacity, CAPACITY), at_most(last, LAST),
+                                  at_most(reserve, RESERVE), at_most_generations(generations), handles, threads);
     is_opening = 0;
     return status;
 }
 
-uint32_t kfifo_c_open_cells(uint32_t k, uint32_t segments, uint32_t probes, uint64_t last, uint32_t tokens,
-                            uint64_t reserve, kfifo_cell_pass *passes, size_t threads) {
+uint32_t kfifo_c_open_cells(uint32_t k, uint32_t capacity, uint32_t size, uint32_t alignment, uint64_t last,
+                            uint64_t reserve, uint32_t generations, kfifo_handle *handles, size_t threads) {
     is_opening = 1;
-    uint32_t status = kfifo_c_whole_open_cells(k, (uint32_t)at_most(segments, SEGMENTS), probes, at_most(last, LAST),
-                                               tokens, at_most(reserve, RESERVE), passes, threads);
+    uint32_t status =
+        kfifo_c_whole_open_cells(k, (uint32_t)at_most(capacity, CAPACITY), size, alignment, at_most(last, LAST),
+                                 at_most(reserve, RESERVE), at_most_generations(generations), handles, threads);
     is_opening = 0;
     return status;
 }

@@ -14,7 +14,7 @@ struct Message {
 
 int main() {
     constexpr int messages = 20000;
-    kfifo::ValueQueue<Message> queue(1, 1024, 2); // k, segments, threads
+    kfifo::ValueQueue<Message> queue(1, 512, 2); // k, capacity, threads
     auto put = kfifo::Put::done;
     bool in_order = true;
     int read = 0;

@@ -33,47 +33,61 @@ extern "C" {
 #endif
 
 /* The version of this header and its library. The number is for comparisons: 10000 * major + 100 * minor + patch. */
-#define KFIFO_VERSION "0.3.0"
-#define KFIFO_VERSION_NUMBER 300
+#define KFIFO_VERSION "0.4.0"
+#define KFIFO_VERSION_NUMBER 400
 
 /* What a call returns. */
 typedef enum kfifo_status {
     KFIFO_DONE = 0,      /* done; of a put: the item is in the queue, or was already taken; of a take: one was taken */
-    KFIFO_FULL = 1,      /* the ring was seen full; the item is not in it */
+    KFIFO_FULL = 1,      /* there is no room, or no free cell; nothing was put or reserved */
     KFIFO_EMPTY = 3,     /* the queue was empty */
     KFIFO_BUSY = 4,      /* the call used up its rounds, and nothing was done: see kfifo_put and kfifo_enqueue */
     KFIFO_WORN = 5,      /* the versions are used up, and were not renewed; close this queue and open another */
-    KFIFO_BAD_CALL = 6,  /* a null pointer, an argument out of range, a handle closed or missing, or one that has no
-                            cell to publish, cancel or release; nothing done */
+    KFIFO_BAD_CALL = 6,  /* a null pointer, an argument out of range, a handle closed, missing or of another kind, or
+                            one that has no cell to publish, cancel or release; nothing done */
     KFIFO_NO_MEMORY = 7, /* an allocation failed; nothing was done */
     KFIFO_BAD_THREADS = 8,   /* the number of threads is not 1 to 64; nothing was done */
     KFIFO_LOST = 9,          /* of a close: an allocation failed; the queue is closed, what was left in it is lost */
-    KFIFO_NO_TOKEN = 10,     /* of values and cells: the handle has no token, and the pool none; nothing was done */
     KFIFO_BAD_K = 11,        /* k is not 1 to 64 */
     KFIFO_BAD_SEGMENTS = 12, /* the number of segments is not 2 to 1,024 */
     KFIFO_BAD_LAST = 13,     /* the greatest version is not 2 to 2^40 - 1 */
     KFIFO_BAD_PROBES = 14,   /* the number of probes is not 1 to k */
-    KFIFO_BAD_TOKENS = 15,   /* the number of tokens a thread is not 1 to 1,024, or all threads have too many */
     KFIFO_TIMED_OUT = 16,    /* of a call that waits: its time was up; nothing was put or taken */
     KFIFO_FINISHED = 17,     /* of a queue whose threads wait: it was finished; nothing was put, or it was empty then */
-    KFIFO_BAD_RESERVE = 18   /* the reserve is not below the greatest version */
+    KFIFO_BAD_RESERVE = 18,  /* the reserve is not below the greatest version */
+    KFIFO_BAD_CAPACITY = 19, /* the capacity is 0, or greater than a queue of so many threads has room for */
+    KFIFO_BAD_LAYOUT = 20    /* of cells: the alignment is no power of two up to 4,096, or the size no multiple of it */
 } kfifo_status;
 
 /* The name of a status, as "KFIFO_EMPTY".
    Cost: a look into a table.
 
-       kfifo_status none = kfifo_get(&passes[1], &item);
+       kfifo_status none = kfifo_get(&handles[1], &item);
        if (none != KFIFO_DONE) puts(kfifo_status_name(none)); // KFIFO_EMPTY
 */
 static inline const char *kfifo_status_name(kfifo_status status) {
     static const char *const names[] = {
-        "KFIFO_DONE",         "KFIFO_FULL",      NULL,
-        "KFIFO_EMPTY",        "KFIFO_BUSY",      "KFIFO_WORN",
-        "KFIFO_BAD_CALL",     "KFIFO_NO_MEMORY", "KFIFO_BAD_THREADS",
-        "KFIFO_LOST",         "KFIFO_NO_TOKEN",  "KFIFO_BAD_K",
-        "KFIFO_BAD_SEGMENTS", "KFIFO_BAD_LAST",  "KFIFO_BAD_PROBES",
-        "KFIFO_BAD_TOKENS",   "KFIFO_TIMED_OUT", "KFIFO_FINISHED",
+        "KFIFO_DONE",
+        "KFIFO_FULL",
+        NULL,
+        "KFIFO_EMPTY",
+        "KFIFO_BUSY",
+        "KFIFO_WORN",
+        "KFIFO_BAD_CALL",
+        "KFIFO_NO_MEMORY",
+        "KFIFO_BAD_THREADS",
+        "KFIFO_LOST",
+        NULL,
+        "KFIFO_BAD_K",
+        "KFIFO_BAD_SEGMENTS",
+        "KFIFO_BAD_LAST",
+        "KFIFO_BAD_PROBES",
+        NULL,
+        "KFIFO_TIMED_OUT",
+        "KFIFO_FINISHED",
         "KFIFO_BAD_RESERVE",
+        "KFIFO_BAD_CAPACITY",
+        "KFIFO_BAD_LAYOUT",
     };
     const char *name = KFIFO_CAST(size_t, status) < sizeof names / sizeof names[0] ? names[status] : NULL;
     return name ? name : "no status of this library";
@@ -87,36 +101,36 @@ static inline const char *kfifo_status_name(kfifo_status status) {
 static inline const char *kfifo_status_text(kfifo_status status) {
     switch (status) {
     case KFIFO_DONE: return "done";
-    case KFIFO_FULL: return "the ring was full";
+    case KFIFO_FULL: return "the queue was full";
     case KFIFO_EMPTY: return "the queue was empty";
     case KFIFO_BUSY: return "the call used up its rounds";
     case KFIFO_WORN: return "the versions of the queue are used up: close it and open another";
     case KFIFO_BAD_CALL:
-        return "a pointer is null, an argument is out of range, a handle is closed or missing, or it has no such cell";
+        return "a pointer is null, an argument is out of range, or a handle is closed, missing, of another kind or "
+               "without such a cell";
     case KFIFO_NO_MEMORY: return "an allocation failed, and nothing was done";
     case KFIFO_BAD_THREADS: return "the number of threads is not 1 to 64";
     case KFIFO_LOST: return "an allocation failed, and what was left in the queue is lost";
-    case KFIFO_NO_TOKEN: return "the handle has no token and found none in the pool";
     case KFIFO_BAD_K: return "k is not 1 to 64";
     case KFIFO_BAD_SEGMENTS: return "the number of segments is not 2 to 1,024";
     case KFIFO_BAD_LAST: return "the greatest version is not 2 to 2^40 - 1";
     case KFIFO_BAD_PROBES: return "the number of probes is not 1 to k";
-    case KFIFO_BAD_TOKENS: return "the number of tokens a thread is not 1 to 1,024, or all threads have too many";
     case KFIFO_TIMED_OUT: return "the time was up";
     case KFIFO_FINISHED: return "the queue is finished";
     case KFIFO_BAD_RESERVE: return "the reserve is not below the greatest version";
+    case KFIFO_BAD_CAPACITY: return "the capacity is 0 or too great: a queue that grows takes more";
+    case KFIFO_BAD_LAYOUT: return "the alignment is no power of two up to 4,096, or the size no multiple of it";
     }
     return "no status of this library";
 }
 
-/* Whether a later call may do better: true of FULL, EMPTY, BUSY and NO_TOKEN. A loop that retries another status never
-   ends.
-   Cost: four comparisons.
+/* Whether a later call may do better: true of FULL, EMPTY and BUSY. A loop that retries another status never ends.
+   Cost: three comparisons.
 
-       while (kfifo_may_retry(put = kfifo_put(&passes[0], 7))) sched_yield();
+       while (kfifo_may_retry(put = kfifo_put(&handles[0], 7))) sched_yield();
 */
 KFIFO_MUST_USE static inline int kfifo_may_retry(kfifo_status status) {
-    return status == KFIFO_FULL || status == KFIFO_EMPTY || status == KFIFO_BUSY || status == KFIFO_NO_TOKEN;
+    return status == KFIFO_FULL || status == KFIFO_EMPTY || status == KFIFO_BUSY;
 }
 
 /* The greatest version that a word can have, 2^40 - 1: what `last` should be. */
@@ -127,71 +141,76 @@ KFIFO_MUST_USE static inline int kfifo_may_retry(kfifo_status status) {
 #define KFIFO_MAX_THREADS KFIFO_CAST(size_t, 64)
 /* The greatest item, 2^24 - 1. The least is 1. */
 #define KFIFO_MAX_ITEM UINT32_C(16777215)
-/* The greatest number of tokens a thread. */
-#define KFIFO_MAX_TOKENS UINT32_C(1024)
 
-/* How many tokens a thread may keep for itself, and how many a queue of values or cells has at most. */
-#define KFIFO_SPARE_TOKENS UINT32_C(32)
-#define KFIFO_MOST_TOKENS UINT32_C(65536)
+/* What a handle is of. */
+#define KFIFO_ITEMS UINT32_C(1)
+#define KFIFO_VALUES UINT32_C(2)
+#define KFIFO_CELLS UINT32_C(3)
 
-/* A handle of a queue of items, one for each thread. All bytes 0 is a closed one. What it holds is the library's:
-   neither read it nor write it. Hand it on by a pointer, and never use a copy. */
-typedef struct kfifo_pass {
+/* A handle of a queue of items, values or cells, one for each thread. All bytes 0 is a closed one. What it holds is the
+   library's: neither read it nor write it. Hand it on by a pointer, and never use a copy. */
+typedef struct kfifo_handle {
     void *inside;
     void *address;
-    uint32_t starts;
-    uint32_t mark;
-} kfifo_pass;
+    uint32_t starts; /* k of a queue of items, and else 0 */
+    uint32_t kind;   /* KFIFO_ITEMS, KFIFO_VALUES or KFIFO_CELLS; 0: it is closed */
+    uint32_t mark;   /* of KFIFO_DEBUG */
+    uint32_t size;   /* of a cell, in bytes; 0 of other queues */
+    uint32_t alignment;
+} kfifo_handle;
 
-/* A handle of a queue of values, likewise. */
-typedef struct kfifo_value_pass {
-    void *inside;
-    void *address;
-    uint32_t starts;
-    uint32_t mark;
-} kfifo_value_pass;
+/* Where a cell lies: `index` cells after the first multiple of the alignment in its block. */
+typedef struct kfifo_cell_at {
+    void *block;
+    uint32_t index;
+} kfifo_cell_at;
 
-/* A handle of a queue of cells, likewise. */
-typedef struct kfifo_cell_pass {
+/* The cells that were left in a queue when it was closed, with their memory. All bytes 0 is none. */
+typedef struct kfifo_left {
     void *inside;
-    void *address;
-    uint32_t starts;
-    uint32_t mark;
-} kfifo_cell_pass;
+    uint32_t holds;
+    uint32_t unused; /* the library may write it: its part ends here */
+    uint32_t size, alignment;
+} kfifo_left;
 
 /* The exports of the library, which test all but null pointers, and at a close that the handles are of one queue. Call
    those below. A take that is done returns KFIFO_C_GOT, where those below return KFIFO_DONE. Those of many return
    KFIFO_DONE where all their calls were done, and else what the last one came to. */
 #define KFIFO_C_GOT UINT32_C(2)
-uint32_t kfifo_c_open(uint32_t k, uint32_t segments, uint32_t probes, uint64_t last, kfifo_pass *passes,
+uint32_t kfifo_c_open(uint32_t k, uint32_t segments, uint32_t probes, uint64_t last, kfifo_handle *handles,
                       size_t threads);
-uint32_t kfifo_c_put(kfifo_pass *pass, uint32_t item);
-uint32_t kfifo_c_get(kfifo_pass *pass, uint32_t *item);
-uint32_t kfifo_c_put_many(kfifo_pass *pass, const uint32_t *items, size_t count, size_t *put);
-uint32_t kfifo_c_get_many(kfifo_pass *pass, uint32_t *items, size_t most, size_t *got);
-uint32_t kfifo_c_enqueue(kfifo_pass *pass, uint32_t item, uint32_t start, uint16_t turns);
-uint32_t kfifo_c_dequeue(kfifo_pass *pass, uint32_t *item, uint32_t start, uint16_t turns);
-uint32_t kfifo_c_word(kfifo_pass *pass, size_t index, uint64_t *word);
-uint32_t kfifo_c_close(kfifo_pass *passes, size_t threads, uint32_t *items, size_t room, size_t *count);
-void kfifo_c_abandon(kfifo_pass *passes, size_t threads);
-uint32_t kfifo_c_open_values(uint32_t k, uint32_t segments, uint32_t probes, uint64_t last, uint32_t tokens,
-                             uint64_t reserve, uint32_t generations, kfifo_value_pass *passes, size_t threads);
-uint32_t kfifo_c_give(kfifo_value_pass *pass, uint64_t value);
-uint32_t kfifo_c_take(kfifo_value_pass *pass, uint64_t *value);
-uint32_t kfifo_c_give_many(kfifo_value_pass *pass, const uint64_t *values, size_t count, size_t *given);
-uint32_t kfifo_c_take_many(kfifo_value_pass *pass, uint64_t *values, size_t most, size_t *taken);
-size_t kfifo_c_values_room(kfifo_value_pass *passes, size_t threads);
-uint32_t kfifo_c_close_values(kfifo_value_pass *passes, size_t threads, uint64_t *values, size_t room, size_t *count);
-void kfifo_c_abandon_values(kfifo_value_pass *passes, size_t threads);
-uint32_t kfifo_c_open_cells(uint32_t k, uint32_t segments, uint32_t probes, uint64_t last, uint32_t tokens,
-                            uint64_t reserve, kfifo_cell_pass *passes, size_t threads);
-uint32_t kfifo_c_reserve(kfifo_cell_pass *pass, uint64_t *cell);
-uint32_t kfifo_c_publish(kfifo_cell_pass *pass);
-uint32_t kfifo_c_cancel(kfifo_cell_pass *pass);
-uint32_t kfifo_c_receive(kfifo_cell_pass *pass, uint64_t *cell);
-uint32_t kfifo_c_release(kfifo_cell_pass *pass);
-uint32_t kfifo_c_close_cells(kfifo_cell_pass *passes, size_t threads, uint64_t *cells, size_t room, size_t *count);
-void kfifo_c_abandon_cells(kfifo_cell_pass *passes, size_t threads);
+uint32_t kfifo_c_put(kfifo_handle *handle, uint32_t item);
+uint32_t kfifo_c_get(kfifo_handle *handle, uint32_t *item);
+uint32_t kfifo_c_put_many(kfifo_handle *handle, const uint32_t *items, size_t count, size_t *put);
+uint32_t kfifo_c_get_many(kfifo_handle *handle, uint32_t *items, size_t most, size_t *got);
+uint32_t kfifo_c_enqueue(kfifo_handle *handle, uint32_t item, uint32_t start, uint16_t turns);
+uint32_t kfifo_c_dequeue(kfifo_handle *handle, uint32_t *item, uint32_t start, uint16_t turns);
+uint32_t kfifo_c_word(kfifo_handle *handle, size_t index, uint64_t *word);
+size_t kfifo_c_len(kfifo_handle *handle);
+uint32_t kfifo_c_close(kfifo_handle *handles, size_t threads, uint32_t *items, size_t room, size_t *count);
+void kfifo_c_abandon(kfifo_handle *handles, size_t threads);
+uint32_t kfifo_c_open_values(uint32_t k, uint32_t capacity, uint64_t last, uint64_t reserve, uint32_t generations,
+                             kfifo_handle *handles, size_t threads);
+uint32_t kfifo_c_give(kfifo_handle *handle, uint64_t value);
+uint32_t kfifo_c_take(kfifo_handle *handle, uint64_t *value);
+uint32_t kfifo_c_give_many(kfifo_handle *handle, const uint64_t *values, size_t count, size_t *given);
+uint32_t kfifo_c_take_many(kfifo_handle *handle, uint64_t *values, size_t most, size_t *taken);
+size_t kfifo_c_values_len(kfifo_handle *handle);
+size_t kfifo_c_values_room(kfifo_handle *handles, size_t threads);
+uint32_t kfifo_c_close_values(kfifo_handle *handles, size_t threads, uint64_t *values, size_t room, size_t *count);
+void kfifo_c_abandon_values(kfifo_handle *handles, size_t threads);
+uint32_t kfifo_c_open_cells(uint32_t k, uint32_t capacity, uint32_t size, uint32_t alignment, uint64_t last,
+                            uint64_t reserve, uint32_t generations, kfifo_handle *handles, size_t threads);
+uint32_t kfifo_c_reserve(kfifo_handle *handle, kfifo_cell_at *cell);
+uint32_t kfifo_c_publish(kfifo_handle *handle);
+uint32_t kfifo_c_cancel(kfifo_handle *handle);
+uint32_t kfifo_c_receive(kfifo_handle *handle, kfifo_cell_at *cell);
+uint32_t kfifo_c_release(kfifo_handle *handle);
+size_t kfifo_c_cells_len(kfifo_handle *handle);
+uint32_t kfifo_c_close_cells(kfifo_handle *handles, size_t threads, kfifo_left *left);
+uint32_t kfifo_c_next_left(kfifo_left *left, kfifo_cell_at *cell);
+void kfifo_c_free_left(kfifo_left *left);
+void kfifo_c_abandon_cells(kfifo_handle *handles, size_t threads);
 
 /* What the threads of a queue wait by. The opening makes it, and it goes with the last handle. Its fields are the
    library's: kfifo_wait.h says how it works. */
@@ -200,10 +219,9 @@ typedef struct kfifo_waits {
     uint32_t state; /* how many threads wait, and whether the queue is finished: only waiting threads and kfifo_finish
                        write this line */
     char between[124];
-    uint32_t filled;    /* what takers sleep on: it changes where a value may have come */
-    uint32_t emptied;   /* what givers sleep on: it changes where room may have come */
-    uint32_t tokenless; /* givers that sleep since they had no token */
-    char after[116];
+    uint32_t filled;  /* what takers sleep on: it changes where a value may have come */
+    uint32_t emptied; /* what givers sleep on: it changes where room may have come */
+    char after[120];
 } kfifo_waits;
 
 /* The same, with how many handles of the queue are open, and how many callers are left: in C the open handles, and in
@@ -258,7 +276,7 @@ static inline void kfifo_caller_goes(kfifo_waits *waits) {
 
 /* What the threads of a handle's queue wait by: NULL of a closed handle. The library writes an address there that it
    never reads, the same for all handles of a queue, and the opening writes this one over it. */
-#define KFIFO_WAITS(pass) KFIFO_CAST(kfifo_waits *, (pass)->address)
+#define KFIFO_WAITS(handle) KFIFO_CAST(kfifo_waits *, (handle)->address)
 
 /* After a give or a put. It is handed the status and returns it, so that no register has to keep it meanwhile. The look
    comes after the call, and a waiting thread's second look after it has announced itself: so one of the two sees the
@@ -294,19 +312,20 @@ void AnnotateIgnoreWritesBegin(const char *file, int line);
 void AnnotateIgnoreWritesEnd(const char *file, int line);
 #define KFIFO_ENTER() AnnotateIgnoreWritesBegin(__FILE__, __LINE__)
 #define KFIFO_LEAVE() AnnotateIgnoreWritesEnd(__FILE__, __LINE__)
-#define KFIFO_BEFORE_PUT(pass) __tsan_release((pass)->address)
-#define KFIFO_AFTER_TAKE(pass, status) ((status) == KFIFO_DONE ? __tsan_acquire((pass)->address) : KFIFO_CAST(void, 0))
-#define KFIFO_RELEASED(pass) KFIFO_CAST(void *, KFIFO_CAST(char *, (pass)->address) + 8)
-#define KFIFO_BEFORE_RELEASE(pass) ((pass)->starts ? __tsan_release(KFIFO_RELEASED(pass)) : KFIFO_CAST(void, 0))
-#define KFIFO_AFTER_RESERVE(pass, status)                                                                              \
-    ((status) == KFIFO_DONE ? __tsan_acquire(KFIFO_RELEASED(pass)) : KFIFO_CAST(void, 0))
+#define KFIFO_BEFORE_PUT(handle) __tsan_release((handle)->address)
+#define KFIFO_AFTER_TAKE(handle, status)                                                                               \
+    ((status) == KFIFO_DONE ? __tsan_acquire((handle)->address) : KFIFO_CAST(void, 0))
+#define KFIFO_RELEASED(handle) KFIFO_CAST(void *, KFIFO_CAST(char *, (handle)->address) + 8)
+#define KFIFO_BEFORE_RELEASE(handle) __tsan_release(KFIFO_RELEASED(handle))
+#define KFIFO_AFTER_RESERVE(handle, status)                                                                            \
+    ((status) == KFIFO_DONE ? __tsan_acquire(KFIFO_RELEASED(handle)) : KFIFO_CAST(void, 0))
 #else
 #define KFIFO_ENTER() KFIFO_CAST(void, 0)
 #define KFIFO_LEAVE() KFIFO_CAST(void, 0)
-#define KFIFO_BEFORE_PUT(pass) KFIFO_CAST(void, 0)
-#define KFIFO_AFTER_TAKE(pass, status) KFIFO_CAST(void, 0)
-#define KFIFO_BEFORE_RELEASE(pass) KFIFO_CAST(void, 0)
-#define KFIFO_AFTER_RESERVE(pass, status) KFIFO_CAST(void, 0)
+#define KFIFO_BEFORE_PUT(handle) KFIFO_CAST(void, 0)
+#define KFIFO_AFTER_TAKE(handle, status) KFIFO_CAST(void, 0)
+#define KFIFO_BEFORE_RELEASE(handle) KFIFO_CAST(void, 0)
+#define KFIFO_AFTER_RESERVE(handle, status) KFIFO_CAST(void, 0)
 #endif
 
 /* The status of a take that returned this. */
@@ -325,15 +344,15 @@ static inline kfifo_status kfifo_taken(uint32_t returned) {
 #define KFIFO_MARK_WRAPPER UINT32_C(2)
 #define KFIFO_MARK_CALLS (KFIFO_MARK_CALL | KFIFO_MARK_WRAPPER)
 
-static inline uint32_t kfifo_mark_of(const void *pass) {
-    return KFIFO_CAST(uint32_t, KFIFO_CAST_POINTER(uintptr_t, pass) >> 1) & ~KFIFO_MARK_CALLS;
+static inline uint32_t kfifo_mark_of(const kfifo_handle *handle) {
+    return KFIFO_CAST(uint32_t, KFIFO_CAST_POINTER(uintptr_t, handle) >> 1) & ~KFIFO_MARK_CALLS;
 }
 
 /* What the threads of a queue that is to be opened will wait by: NULL where there is no memory for it. */
 static inline kfifo_shared *kfifo_shared_new(size_t threads) {
     kfifo_shared *shared = KFIFO_CAST(kfifo_shared *, malloc(sizeof *shared));
     if (!shared) return NULL;
-    shared->waits.state = shared->waits.filled = shared->waits.emptied = shared->waits.tokenless = 0;
+    shared->waits.state = shared->waits.filled = shared->waits.emptied = 0;
     shared->handles = shared->callers = KFIFO_CAST(uint32_t, threads);
     return shared;
 }
@@ -346,56 +365,58 @@ static inline void kfifo_shared_leave(void *address) {
 }
 
 /* Opens handles by a call of the library, with what their threads wait by. */
-#define KFIFO_OPEN(passes, threads, call)                                                                              \
+#define KFIFO_OPEN(handles, threads, call)                                                                             \
     kfifo_shared *shared = kfifo_shared_new(threads);                                                                  \
     kfifo_status status = shared ? KFIFO_CAST(kfifo_status, call) : KFIFO_NO_MEMORY;                                   \
     if (status != KFIFO_DONE) free(shared);                                                                            \
     for (size_t i = 0; status == KFIFO_DONE && i < (threads); i++) {                                                   \
-        (passes)[i].address = shared;                                                                                  \
-        (passes)[i].mark = kfifo_mark_of(&(passes)[i]);                                                                \
+        (handles)[i].address = shared;                                                                                 \
+        (handles)[i].mark = kfifo_mark_of(&(handles)[i]);                                                              \
     }                                                                                                                  \
     return status
 
 /* What the threads of these handles wait by, before a call that may close them: the library empties a handle that it
    closes. */
-#define KFIFO_BEFORE_CLOSE(passes, threads)                                                                            \
+#define KFIFO_BEFORE_CLOSE(handles, threads)                                                                           \
     void *addresses[64];                                                                                               \
-    for (size_t i = 0; i < (threads); i++) addresses[i] = (passes)[i].starts ? (passes)[i].address : NULL
+    for (size_t i = 0; i < (threads); i++) addresses[i] = (handles)[i].kind ? (handles)[i].address : NULL
 
 /* Those that were closed leave it. */
-#define KFIFO_AFTER_CLOSE(passes, threads)                                                                             \
+#define KFIFO_AFTER_CLOSE(handles, threads)                                                                            \
     for (size_t i = 0; i < (threads); i++)                                                                             \
-        if (addresses[i] && !(passes)[i].starts) kfifo_shared_leave(addresses[i])
+        if (addresses[i] && !(handles)[i].kind) kfifo_shared_leave(addresses[i])
 
 #ifdef KFIFO_DEBUG
-static inline void kfifo_begin(const void *pass, uint32_t starts, uint32_t *mark, uint32_t kind, const char *call) {
-    if (starts == 0) return; /* it is closed, which the library refuses */
-    uint32_t was = __atomic_fetch_or(mark, kind, __ATOMIC_RELAXED);
-    int is_copy = (was & ~KFIFO_MARK_CALLS) != kfifo_mark_of(pass);
-    if (!is_copy && !(was & kind)) return;
-    fprintf(stderr, "%s: the handle at %p %s\n", call, pass,
+static inline void kfifo_begin(kfifo_handle *handle, uint32_t bit, const char *call) {
+    if (handle->kind == 0) return; /* it is closed, which the library refuses */
+    uint32_t was = __atomic_fetch_or(&handle->mark, bit, __ATOMIC_RELAXED);
+    int is_copy = (was & ~KFIFO_MARK_CALLS) != kfifo_mark_of(handle);
+    if (!is_copy && !(was & bit)) return;
+    fprintf(stderr, "%s: the handle at %p %s\n", call, KFIFO_CAST(const void *, handle),
             is_copy ? "is a copy of one that was opened at another place: use that one, by a pointer to it"
                     : "is in another call: one call at a time uses a handle");
     abort();
 }
-static inline void kfifo_end(uint32_t *mark, uint32_t kind) { __atomic_fetch_and(mark, ~kind, __ATOMIC_RELAXED); }
-#define KFIFO_BEGIN(pass, call) kfifo_begin((pass), (pass)->starts, &(pass)->mark, KFIFO_MARK_CALL, (call))
-#define KFIFO_END(pass) kfifo_end(&(pass)->mark, KFIFO_MARK_CALL)
-#define KFIFO_BEGIN_ALL(passes, threads)                                                                               \
-    for (size_t i = 0; i < (threads); i++) KFIFO_BEGIN(&(passes)[i], __func__)
-#define KFIFO_END_ALL(passes, threads)                                                                                 \
-    for (size_t i = 0; i < (threads); i++) KFIFO_END(&(passes)[i])
+static inline void kfifo_end(kfifo_handle *handle, uint32_t bit) {
+    __atomic_fetch_and(&handle->mark, ~bit, __ATOMIC_RELAXED);
+}
+#define KFIFO_BEGIN(handle, call) kfifo_begin((handle), KFIFO_MARK_CALL, (call))
+#define KFIFO_END(handle) kfifo_end((handle), KFIFO_MARK_CALL)
+#define KFIFO_BEGIN_ALL(handles, threads)                                                                              \
+    for (size_t i = 0; i < (threads); i++) KFIFO_BEGIN(&(handles)[i], __func__)
+#define KFIFO_END_ALL(handles, threads)                                                                                \
+    for (size_t i = 0; i < (threads); i++) KFIFO_END(&(handles)[i])
 #else
-#define KFIFO_BEGIN(pass, call) KFIFO_CAST(void, 0)
-#define KFIFO_END(pass) KFIFO_CAST(void, 0)
-#define KFIFO_BEGIN_ALL(passes, threads) KFIFO_CAST(void, 0)
-#define KFIFO_END_ALL(passes, threads) KFIFO_CAST(void, 0)
+#define KFIFO_BEGIN(handle, call) KFIFO_CAST(void, 0)
+#define KFIFO_END(handle) KFIFO_CAST(void, 0)
+#define KFIFO_BEGIN_ALL(handles, threads) KFIFO_CAST(void, 0)
+#define KFIFO_END_ALL(handles, threads) KFIFO_CAST(void, 0)
 #endif
 
 /* Pauses after BUSY, mostly the longer the more often it came. How long differs from handle to handle, by where it
    lies: threads that made their calls in step could keep each other busy. */
-static inline void kfifo_pause(const void *pass, uint32_t times) {
-    uint64_t mixed = (KFIFO_CAST_POINTER(uintptr_t, pass) / 8 + times) * UINT64_C(0x9e3779b97f4a7c15);
+static inline void kfifo_pause(const void *handle, uint32_t times) {
+    uint64_t mixed = (KFIFO_CAST_POINTER(uintptr_t, handle) / 8 + times) * UINT64_C(0x9e3779b97f4a7c15);
     uint32_t most = UINT32_C(16) << (times < 6 ? times : 6);
     for (uint32_t left = 1 + (KFIFO_CAST(uint32_t, mixed >> 32) & (most - 1)); left; left--) {
 #if defined(__x86_64__) || defined(__i386__)
@@ -407,24 +428,24 @@ static inline void kfifo_pause(const void *pass, uint32_t times) {
 }
 
 /* Returns what a bounded call comes to that is made again where it comes to BUSY. */
-#define KFIFO_UNLESS_BUSY(pass, call)                                                                                  \
+#define KFIFO_UNLESS_BUSY(handle, call)                                                                                \
     kfifo_status status = (call);                                                                                      \
     for (uint32_t times = 0; __builtin_expect(status == KFIFO_BUSY, 0); times++) {                                     \
-        kfifo_pause((pass), times);                                                                                    \
+        kfifo_pause((handle), times);                                                                                  \
         status = (call);                                                                                               \
     }                                                                                                                  \
     return status
 
 /* Returns what a give comes to: `finished` of a queue that was finished before, and else it wakes who waits for it. */
-#define KFIFO_LOOKING_GIVE(pass, finished, call)                                                                       \
-    kfifo_waits *waits = KFIFO_WAITS(pass);                                                                            \
+#define KFIFO_LOOKING_GIVE(handle, finished, call)                                                                     \
+    kfifo_waits *waits = KFIFO_WAITS(handle);                                                                          \
     if (__builtin_expect(kfifo_is_finished(waits), 0)) return (finished);                                              \
     return kfifo_after_give(waits, (call))
 
 /* Returns what a take comes to, and wakes who waits for room: FINISHED in place of EMPTY where the queue was finished,
    and then found empty. A value may have come between the look and the end. */
-#define KFIFO_LOOKING_TAKE(pass, call)                                                                                 \
-    kfifo_waits *waits = KFIFO_WAITS(pass);                                                                            \
+#define KFIFO_LOOKING_TAKE(handle, call)                                                                               \
+    kfifo_waits *waits = KFIFO_WAITS(handle);                                                                          \
     kfifo_status status = kfifo_after_take(waits, (call));                                                             \
     if (__builtin_expect(status != KFIFO_EMPTY, 1) || !kfifo_is_finished(waits)) return status;                        \
     status = kfifo_after_take(waits, (call));                                                                          \
@@ -436,25 +457,24 @@ static inline kfifo_status kfifo_finish_by(kfifo_waits *waits) {
     return KFIFO_DONE;
 }
 
-/* Whether one of these handles, of any kind, stands there twice, of which one is a copy: it would be freed twice. There
-   are 64 at most. */
-static inline int kfifo_has_copy(const void *passes, size_t threads) {
-    kfifo_pass all[64];
-    memcpy(all, passes, threads * sizeof *all);
+/* Whether this is an open handle of a queue of that kind. */
+#define KFIFO_IS_OF(handle, of) ((handle) && (handle)->kind == (of))
+
+/* Whether one of these handles stands there twice, of which one is a copy: it would be freed twice. There are 64 at
+   most. */
+static inline int kfifo_has_copy(const kfifo_handle *handles, size_t threads) {
     for (size_t i = 1; i < threads; i++)
         for (size_t j = 0; j < i; j++)
-            if (all[i].starts && all[j].starts && all[i].inside == all[j].inside) return 1;
+            if (handles[i].kind && handles[j].kind && handles[i].inside == handles[j].inside) return 1;
     return 0;
 }
 
-/* Whether these handles, of any kind, are of one queue, and each but once. `address` is that of the queue, which stays
-   as long as a handle of it is open. */
-static inline int kfifo_are_of_one_queue(const void *passes, size_t threads) {
-    kfifo_pass all[64];
-    memcpy(all, passes, threads * sizeof *all);
+/* Whether these handles are of one queue, and each but once. `address` is that of the queue, which stays as long as a
+   handle of it is open. */
+static inline int kfifo_are_of_one_queue(const kfifo_handle *handles, size_t threads) {
     for (size_t i = 1; i < threads; i++)
-        if (all[i].address != all[0].address) return 0;
-    return !kfifo_has_copy(passes, threads);
+        if (handles[i].address != handles[0].address) return 0;
+    return !kfifo_has_copy(handles, threads);
 }
 
 /* A number of threads for the library, which refuses 65 as it does any more, and reads no handle then. */
@@ -464,8 +484,73 @@ static inline size_t kfifo_at_most_one_over(size_t threads) {
 
 /* Closes the handles of an array that is to be opened. More than 64 are refused, so nothing beyond them is touched: a
    number that is wrong says nothing about the array. */
-static inline void kfifo_zero(void *passes, size_t size, size_t threads) {
-    memset(passes, 0, size * (threads < KFIFO_MAX_THREADS ? threads : KFIFO_MAX_THREADS));
+static inline void kfifo_zero(kfifo_handle *handles, size_t threads) {
+    memset(handles, 0, sizeof *handles * (threads < KFIFO_MAX_THREADS ? threads : KFIFO_MAX_THREADS));
+}
+
+/* ---- Any queue ---- */
+
+/* Says that no more will come, and wakes all that wait: DONE, or BAD_CALL of a null pointer or a closed handle. Any
+   thread may call it by any open handle, also while that one is in a call, and again. A put, a give, a reserve or a
+   publish that begins after it returns FINISHED; a get, a take or a receive does so once the queue is empty. One that
+   it meets halfway may still put something in, so call it when the producers have ended, or close the queue to have
+   what is left.
+   Cost: an atomic step and two calls of the system.
+
+       if (kfifo_finish(&handles[0]) != KFIFO_DONE) abort();
+*/
+KFIFO_MUST_USE static inline kfifo_status kfifo_finish(kfifo_handle *handle) {
+    if (!handle || !KFIFO_WAITS(handle)) return KFIFO_BAD_CALL;
+    return kfifo_finish_by(KFIFO_WAITS(handle));
+}
+
+/* About how many items, values or cells are in the queue: what lies in the segments at its two ends, and k for each
+   segment between them. Calls that run meanwhile are counted or not. Returns 0 of a null pointer or a closed handle.
+   Cost: 2k + 1 loads at most, for each generation, of which there is mostly one.
+
+       size_t backlog = kfifo_len(&handles[0]);
+*/
+KFIFO_MUST_USE static inline size_t kfifo_len(kfifo_handle *handle) {
+    if (!handle) return 0;
+    KFIFO_BEGIN(handle, __func__);
+    KFIFO_ENTER();
+    size_t len = 0;
+    switch (handle->kind) {
+    case KFIFO_ITEMS: len = kfifo_c_len(handle); break;
+    case KFIFO_VALUES: len = kfifo_c_values_len(handle); break;
+    case KFIFO_CELLS: len = kfifo_c_cells_len(handle); break;
+    default: break;
+    }
+    KFIFO_LEAVE();
+    KFIFO_END(handle);
+    return len;
+}
+
+/* Closes these handles, at most 64: DONE; BAD_CALL of a null pointer or of a handle that is there twice, or
+   BAD_THREADS, and nothing was done. With the last open handle of a queue the queue goes, with the memory of its cells,
+   and what is left in it. Values that are pointers are not freed.
+   Cost: little, and the last one frees the memory of the queue.
+
+       return kfifo_abandon(handles, 2) != KFIFO_DONE;
+*/
+KFIFO_MUST_USE static inline kfifo_status kfifo_abandon(kfifo_handle *handles, size_t threads) {
+    if (!handles) return KFIFO_BAD_CALL;
+    if (threads > KFIFO_MAX_THREADS) return KFIFO_BAD_THREADS;
+    KFIFO_BEGIN_ALL(handles, threads);
+    KFIFO_BEFORE_CLOSE(handles, threads);
+    KFIFO_ENTER();
+    kfifo_status status = KFIFO_BAD_CALL;
+    if (!kfifo_has_copy(handles, threads)) {
+        /* Each leaves those of the other kinds as they are. */
+        kfifo_c_abandon(handles, threads);
+        kfifo_c_abandon_values(handles, threads);
+        kfifo_c_abandon_cells(handles, threads);
+        status = KFIFO_DONE;
+    }
+    KFIFO_LEAVE();
+    KFIFO_END_ALL(handles, threads);
+    KFIFO_AFTER_CLOSE(handles, threads);
+    return status;
 }
 
 /* ---- A queue of items, which are numbers from 1 to KFIFO_MAX_ITEM ----
@@ -473,65 +558,67 @@ static inline void kfifo_zero(void *passes, size_t size, size_t threads) {
    A put or a get takes a few atomic steps, and none of them waits or asks for memory: docs/PERFORMANCE.md says how long
    they take. An opening asks for all memory, and a close and an abandon give it back. */
 
-/* Opens a queue of `segments` segments of k slots, and writes a handle for each thread into the array `passes`, whose
+/* Opens a queue of `segments` segments of k slots, and writes a handle for each thread into the array `handles`, whose
    old contents are lost. DONE; BAD_CALL of a null pointer; BAD_K, BAD_SEGMENTS, BAD_LAST, BAD_PROBES, BAD_THREADS,
    NO_MEMORY, and all handles are then closed, at most the first 64.
    Cost: it asks for all memory of the queue, and writes to each word.
 
-       kfifo_pass passes[2];
-       if (kfifo_open(1, 4, 1, KFIFO_LAST, passes, 2) != KFIFO_DONE) return 1;
+       kfifo_handle handles[2];
+       if (kfifo_open(1, 4, 1, KFIFO_LAST, handles, 2) != KFIFO_DONE) return 1;
 */
 KFIFO_MUST_USE static inline kfifo_status kfifo_open(uint32_t k, uint32_t segments, uint32_t probes, uint64_t last,
-                                                     kfifo_pass *passes, size_t threads) {
-    if (!passes) return KFIFO_BAD_CALL;
-    kfifo_zero(passes, sizeof *passes, threads);
-    KFIFO_OPEN(passes, threads, kfifo_c_open(k, segments, probes, last, passes, kfifo_at_most_one_over(threads)));
+                                                     kfifo_handle *handles, size_t threads) {
+    if (!handles) return KFIFO_BAD_CALL;
+    kfifo_zero(handles, threads);
+    KFIFO_OPEN(handles, threads, kfifo_c_open(k, segments, probes, last, handles, kfifo_at_most_one_over(threads)));
 }
 
 /* Why a put, get, enqueue or dequeue with these arguments returns BAD_CALL: the first cause that holds, or NULL where
    none does. Of a call without an item hand over item 1, of one without a start and turns 0 and 1.
    Cost: a few comparisons.
 
-       if (kfifo_put(&passes[0], 0) == KFIFO_BAD_CALL) puts(kfifo_bad_call_text(&passes[0], 0, 0, 1));
+       if (kfifo_put(&handles[0], 0) == KFIFO_BAD_CALL) puts(kfifo_bad_call_text(&handles[0], 0, 0, 1));
 */
-static inline const char *kfifo_bad_call_text(const kfifo_pass *pass, uint32_t item, uint32_t start, uint16_t turns) {
-    if (!pass) return "the pointer to the handle is null";
-    if (pass->starts == 0) return "the handle is closed";
+static inline const char *kfifo_bad_call_text(const kfifo_handle *handle, uint32_t item, uint32_t start,
+                                              uint16_t turns) {
+    if (!handle) return "the pointer to the handle is null";
+    if (handle->kind == 0) return "the handle is closed";
+    if (handle->kind != KFIFO_ITEMS) return "the handle is of a queue of another kind";
     if (item < 1 || item > KFIFO_MAX_ITEM) return "the item is not 1 to 16,777,215";
-    if (start >= pass->starts) return "the start is not below k";
+    if (start >= handle->starts) return "the start is not below k";
     if (turns == 0) return "turns is not 1 to 65,535";
     return NULL;
 }
 
-static inline kfifo_status kfifo_bare_put(kfifo_pass *pass, uint32_t item) {
-    KFIFO_BEGIN(pass, "kfifo_put");
-    KFIFO_BEFORE_PUT(pass);
-    kfifo_status status = KFIFO_CAST(kfifo_status, kfifo_c_put(pass, item));
-    KFIFO_END(pass);
+static inline kfifo_status kfifo_bare_put(kfifo_handle *handle, uint32_t item) {
+    KFIFO_BEGIN(handle, "kfifo_put");
+    KFIFO_BEFORE_PUT(handle);
+    kfifo_status status = KFIFO_CAST(kfifo_status, kfifo_c_put(handle, item));
+    KFIFO_END(handle);
     return status;
 }
 
-static inline kfifo_status kfifo_bare_enqueue(kfifo_pass *pass, uint32_t item, uint32_t start, uint16_t turns) {
-    KFIFO_BEGIN(pass, "kfifo_enqueue");
-    KFIFO_BEFORE_PUT(pass);
-    kfifo_status status = KFIFO_CAST(kfifo_status, kfifo_c_enqueue(pass, item, start, turns));
-    KFIFO_END(pass);
+static inline kfifo_status kfifo_bare_enqueue(kfifo_handle *handle, uint32_t item, uint32_t start, uint16_t turns) {
+    KFIFO_BEGIN(handle, "kfifo_enqueue");
+    KFIFO_BEFORE_PUT(handle);
+    kfifo_status status = KFIFO_CAST(kfifo_status, kfifo_c_enqueue(handle, item, start, turns));
+    KFIFO_END(handle);
     return status;
 }
 
-static inline kfifo_status kfifo_bare_get(kfifo_pass *pass, uint32_t *item) {
-    KFIFO_BEGIN(pass, "kfifo_get");
-    kfifo_status status = kfifo_taken(kfifo_c_get(pass, item));
-    KFIFO_AFTER_TAKE(pass, status);
-    KFIFO_END(pass);
+static inline kfifo_status kfifo_bare_get(kfifo_handle *handle, uint32_t *item) {
+    KFIFO_BEGIN(handle, "kfifo_get");
+    kfifo_status status = kfifo_taken(kfifo_c_get(handle, item));
+    KFIFO_AFTER_TAKE(handle, status);
+    KFIFO_END(handle);
     return status;
 }
 
-static inline kfifo_status kfifo_bare_dequeue(kfifo_pass *pass, uint32_t *item, uint32_t start, uint16_t turns) {
-    KFIFO_BEGIN(pass, "kfifo_dequeue");
-    kfifo_status status = kfifo_taken(kfifo_c_dequeue(pass, item, start, turns));
-    KFIFO_AFTER_TAKE(pass, status);
-    KFIFO_END(pass);
+static inline kfifo_status kfifo_bare_dequeue(kfifo_handle *handle, uint32_t *item, uint32_t start, uint16_t turns) {
+    KFIFO_BEGIN(handle, "kfifo_dequeue");
+    kfifo_status status = kfifo_taken(kfifo_c_dequeue(handle, item, start, turns));
+    KFIFO_AFTER_TAKE(handle, status);
+    KFIFO_END(handle);
     return status;
 }
 
@@ -539,12 +626,12 @@ static inline kfifo_status kfifo_bare_dequeue(kfifo_pass *pass, uint32_t *item, 
    changed the queue in the meantime.
    Cost: as kfifo_put.
 
-       if (kfifo_put_once(&passes[0], 8) == KFIFO_BUSY) puts("the item is not put, and a later call may do better");
+       if (kfifo_put_once(&handles[0], 8) == KFIFO_BUSY) puts("the item is not put, and a later call may do better");
 */
-KFIFO_MUST_USE static inline kfifo_status kfifo_put_once(kfifo_pass *pass, uint32_t item) {
-    if (!pass || !KFIFO_WAITS(pass)) return KFIFO_BAD_CALL;
-    KFIFO_LOOKING_GIVE(pass, kfifo_bad_call_text(pass, item, 0, 1) ? KFIFO_BAD_CALL : KFIFO_FINISHED,
-                       kfifo_bare_put(pass, item));
+KFIFO_MUST_USE static inline kfifo_status kfifo_put_once(kfifo_handle *handle, uint32_t item) {
+    if (!KFIFO_IS_OF(handle, KFIFO_ITEMS)) return KFIFO_BAD_CALL;
+    KFIFO_LOOKING_GIVE(handle, kfifo_bad_call_text(handle, item, 0, 1) ? KFIFO_BAD_CALL : KFIFO_FINISHED,
+                       kfifo_bare_put(handle, item));
 }
 
 /* Puts an item, 1 to KFIFO_MAX_ITEM, and wakes a thread that waits for it: DONE; else FULL, FINISHED, WORN or BAD_CALL,
@@ -552,30 +639,30 @@ KFIFO_MUST_USE static inline kfifo_status kfifo_put_once(kfifo_pass *pass, uint3
    Cost: some 100 instructions, of which a few are atomic steps. It asks for no memory, and calls the system only to
    wake a thread.
 
-       kfifo_status put = kfifo_put(&passes[0], 7);
+       kfifo_status put = kfifo_put(&handles[0], 7);
 */
-KFIFO_MUST_USE static inline kfifo_status kfifo_put(kfifo_pass *pass, uint32_t item) {
-    KFIFO_UNLESS_BUSY(pass, kfifo_put_once(pass, item));
+KFIFO_MUST_USE static inline kfifo_status kfifo_put(kfifo_handle *handle, uint32_t item) {
+    KFIFO_UNLESS_BUSY(handle, kfifo_put_once(handle, item));
 }
 
 /* As kfifo_get, but bounded, as kfifo_put_once is: also BUSY.
    Cost: as kfifo_get.
 
-       if (kfifo_get_once(&passes[1], &item) == KFIFO_BUSY) puts("no item is got, and a later call may do better");
+       if (kfifo_get_once(&handles[1], &item) == KFIFO_BUSY) puts("no item is got, and a later call may do better");
 */
-KFIFO_MUST_USE static inline kfifo_status kfifo_get_once(kfifo_pass *pass, uint32_t *item) {
-    if (!pass || !item || !KFIFO_WAITS(pass)) return KFIFO_BAD_CALL;
-    KFIFO_LOOKING_TAKE(pass, kfifo_bare_get(pass, item));
+KFIFO_MUST_USE static inline kfifo_status kfifo_get_once(kfifo_handle *handle, uint32_t *item) {
+    if (!item || !KFIFO_IS_OF(handle, KFIFO_ITEMS)) return KFIFO_BAD_CALL;
+    KFIFO_LOOKING_TAKE(handle, kfifo_bare_get(handle, item));
 }
 
 /* Takes one of the k oldest items, and wakes a thread that waits for room: DONE, and writes it; else EMPTY, FINISHED,
    WORN or BAD_CALL, and *item stays. It does not wait.
    Cost: as kfifo_put. A get that returns EMPTY has looked at all k slots of a segment.
 
-       kfifo_status took = kfifo_get(&passes[1], &item);
+       kfifo_status took = kfifo_get(&handles[1], &item);
 */
-KFIFO_MUST_USE static inline kfifo_status kfifo_get(kfifo_pass *pass, uint32_t *item) {
-    KFIFO_UNLESS_BUSY(pass, kfifo_get_once(pass, item));
+KFIFO_MUST_USE static inline kfifo_status kfifo_get(kfifo_handle *handle, uint32_t *item) {
+    KFIFO_UNLESS_BUSY(handle, kfifo_get_once(handle, item));
 }
 
 /* As kfifo_put_once, with a start and turns of your own: the scan begins at slot `start`, below k, and the call makes
@@ -583,37 +670,24 @@ KFIFO_MUST_USE static inline kfifo_status kfifo_get(kfifo_pass *pass, uint32_t *
    any other.
    Cost: as kfifo_put.
 
-       kfifo_status enqueued = kfifo_enqueue(&passes[0], 9, 0, 100);
+       kfifo_status enqueued = kfifo_enqueue(&handles[0], 9, 0, 100);
 */
-KFIFO_MUST_USE static inline kfifo_status kfifo_enqueue(kfifo_pass *pass, uint32_t item, uint32_t start,
+KFIFO_MUST_USE static inline kfifo_status kfifo_enqueue(kfifo_handle *handle, uint32_t item, uint32_t start,
                                                         uint16_t turns) {
-    if (!pass || !KFIFO_WAITS(pass)) return KFIFO_BAD_CALL;
-    KFIFO_LOOKING_GIVE(pass, kfifo_bad_call_text(pass, item, start, turns) ? KFIFO_BAD_CALL : KFIFO_FINISHED,
-                       kfifo_bare_enqueue(pass, item, start, turns));
+    if (!KFIFO_IS_OF(handle, KFIFO_ITEMS)) return KFIFO_BAD_CALL;
+    KFIFO_LOOKING_GIVE(handle, kfifo_bad_call_text(handle, item, start, turns) ? KFIFO_BAD_CALL : KFIFO_FINISHED,
+                       kfifo_bare_enqueue(handle, item, start, turns));
 }
 
 /* As kfifo_get_once, with a start and turns of your own.
    Cost: as kfifo_get.
 
-       kfifo_status dequeued = kfifo_dequeue(&passes[1], &item, 0, 100);
+       kfifo_status dequeued = kfifo_dequeue(&handles[1], &item, 0, 100);
 */
-KFIFO_MUST_USE static inline kfifo_status kfifo_dequeue(kfifo_pass *pass, uint32_t *item, uint32_t start,
+KFIFO_MUST_USE static inline kfifo_status kfifo_dequeue(kfifo_handle *handle, uint32_t *item, uint32_t start,
                                                         uint16_t turns) {
-    if (!pass || !item || !KFIFO_WAITS(pass)) return KFIFO_BAD_CALL;
-    KFIFO_LOOKING_TAKE(pass, kfifo_bare_dequeue(pass, item, start, turns));
-}
-
-/* Says that no more items will come, and wakes all that wait: DONE, or BAD_CALL of a null pointer or a closed handle.
-   Any thread may call it by any open handle, also while that one is in a call, and again. A put that begins after it
-   returns FINISHED; a get does so once the queue is empty. A put that it meets halfway may still put its item in, so
-   call it when the producers have ended, or close the queue to have what is left.
-   Cost: an atomic step and two calls of the system.
-
-       if (kfifo_finish(&passes[0]) != KFIFO_DONE) abort();
-*/
-KFIFO_MUST_USE static inline kfifo_status kfifo_finish(kfifo_pass *pass) {
-    if (!pass || !KFIFO_WAITS(pass)) return KFIFO_BAD_CALL;
-    return kfifo_finish_by(KFIFO_WAITS(pass));
+    if (!item || !KFIFO_IS_OF(handle, KFIFO_ITEMS)) return KFIFO_BAD_CALL;
+    KFIFO_LOOKING_TAKE(handle, kfifo_bare_dequeue(handle, item, start, turns));
 }
 
 /* Reads a word of the queue: 0 is the ends word, then come the slots, segment by segment, and last the clock. DONE, and
@@ -621,13 +695,13 @@ KFIFO_MUST_USE static inline kfifo_status kfifo_finish(kfifo_pass *pass) {
    Cost: one atomic load.
 
        uint64_t ends = 0;
-       if (kfifo_word(&passes[0], 0, &ends) != KFIFO_DONE) return 1;
+       if (kfifo_word(&handles[0], 0, &ends) != KFIFO_DONE) return 1;
 */
-KFIFO_MUST_USE static inline kfifo_status kfifo_word(kfifo_pass *pass, size_t index, uint64_t *word) {
-    if (!pass || !word) return KFIFO_BAD_CALL;
-    KFIFO_BEGIN(pass, __func__);
-    kfifo_status status = KFIFO_CAST(kfifo_status, kfifo_c_word(pass, index, word));
-    KFIFO_END(pass);
+KFIFO_MUST_USE static inline kfifo_status kfifo_word(kfifo_handle *handle, size_t index, uint64_t *word) {
+    if (!word || !KFIFO_IS_OF(handle, KFIFO_ITEMS)) return KFIFO_BAD_CALL;
+    KFIFO_BEGIN(handle, __func__);
+    kfifo_status status = KFIFO_CAST(kfifo_status, kfifo_c_word(handle, index, word));
+    KFIFO_END(handle);
     return status;
 }
 
@@ -639,47 +713,28 @@ KFIFO_MUST_USE static inline kfifo_status kfifo_word(kfifo_pass *pass, size_t in
 
        uint32_t left[1 * 4];
        size_t count = 0;
-       if (kfifo_close(passes, 2, left, 1 * 4, &count) != KFIFO_DONE) return 1;
+       if (kfifo_close(handles, 2, left, 1 * 4, &count) != KFIFO_DONE) return 1;
 */
-KFIFO_MUST_USE static inline kfifo_status kfifo_close(kfifo_pass *passes, size_t threads, uint32_t *items, size_t room,
-                                                      size_t *count) {
-    if (!passes || !items || !count) return KFIFO_BAD_CALL;
+KFIFO_MUST_USE static inline kfifo_status kfifo_close(kfifo_handle *handles, size_t threads, uint32_t *items,
+                                                      size_t room, size_t *count) {
+    if (!handles || !items || !count) return KFIFO_BAD_CALL;
     if (threads > KFIFO_MAX_THREADS) return KFIFO_BAD_THREADS;
-    KFIFO_BEGIN_ALL(passes, threads);
-    KFIFO_BEFORE_CLOSE(passes, threads);
+    KFIFO_BEGIN_ALL(handles, threads);
+    KFIFO_BEFORE_CLOSE(handles, threads);
     kfifo_status status = KFIFO_BAD_CALL;
-    if (kfifo_are_of_one_queue(passes, threads))
-        status = KFIFO_CAST(kfifo_status, kfifo_c_close(passes, threads, items, room, count));
-    KFIFO_END_ALL(passes, threads);
-    KFIFO_AFTER_CLOSE(passes, threads);
-    return status;
-}
-
-/* Closes these handles, at most 64: DONE; BAD_CALL of a null pointer or of a handle that is there twice, or
-   BAD_THREADS, and nothing was done. With the last open handle of a queue the queue goes, and the items that are left
-   in it.
-   Cost: little, and the last one frees the memory of the queue.
-
-       return kfifo_abandon(passes, 2) != KFIFO_DONE;
-*/
-KFIFO_MUST_USE static inline kfifo_status kfifo_abandon(kfifo_pass *passes, size_t threads) {
-    if (!passes) return KFIFO_BAD_CALL;
-    if (threads > KFIFO_MAX_THREADS) return KFIFO_BAD_THREADS;
-    KFIFO_BEGIN_ALL(passes, threads);
-    KFIFO_BEFORE_CLOSE(passes, threads);
-    kfifo_status status = KFIFO_BAD_CALL;
-    if (!kfifo_has_copy(passes, threads)) {
-        kfifo_c_abandon(passes, threads);
-        status = KFIFO_DONE;
-    }
-    KFIFO_END_ALL(passes, threads);
-    KFIFO_AFTER_CLOSE(passes, threads);
+    if (kfifo_are_of_one_queue(handles, threads))
+        status = KFIFO_CAST(kfifo_status, kfifo_c_close(handles, threads, items, room, count));
+    KFIFO_END_ALL(handles, threads);
+    KFIFO_AFTER_CLOSE(handles, threads);
     return status;
 }
 
 /* ---- A queue of values, which are 64-bit numbers or pointers ----
 
    A give or a take takes a few atomic steps more than a put or a get, for its token. None of them waits.
+
+   A queue is opened by its `capacity`: it has room for so many values, whatever the handles keep for themselves between
+   their calls, which is up to 32 tokens each. FULL says that as many are in the queue, or in the hands of calls.
 
    It does not wear out: before the versions of its words are used up, it goes on in a new *generation*, a queue of the
    same sizes. Takes empty the old one first. Where generations meet, some 2^40 calls apart, a take may pass over one
@@ -690,95 +745,63 @@ KFIFO_MUST_USE static inline kfifo_status kfifo_abandon(kfifo_pass *passes, size
    Where there is none, later gives ask again; only when the reserve is used up too, calls return WORN. Then close the
    queue to have what is left, and open another. */
 
-/* How many tokens a thread it takes that a full ring returns FULL, not NO_TOKEN, whatever the other threads keep
-   between their calls: k * segments + 1 + 15 * (threads - 1), but KFIFO_MAX_TOKENS at most, and no more than the queue
-   may have for each of 63 or 64 threads. With fewer, a queue of values has room for threads * tokens values. Of cells a
-   thread can always have tokens - 15 * (threads - 1) in the queue, less those that others have reserved or received.
-   Cost: a multiplication and a division.
-
-       uint32_t tokens = kfifo_enough_tokens(1, 4, 2);
-*/
-KFIFO_MUST_USE static inline uint32_t kfifo_enough_tokens(uint32_t k, uint32_t segments, size_t threads) {
-    uint64_t others = threads > 1 ? kfifo_at_most_one_over(threads) - 1 : 0;
-    uint64_t enough = KFIFO_CAST(uint64_t, k) * segments + 1 + 15 * others;
-    uint64_t most = KFIFO_MOST_TOKENS / (others + 1) - KFIFO_SPARE_TOKENS;
-    if (most > KFIFO_MAX_TOKENS) most = KFIFO_MAX_TOKENS;
-    return KFIFO_CAST(uint32_t, enough < most ? enough : most);
-}
-
-static inline kfifo_status kfifo_open_values_as(uint32_t k, uint32_t segments, uint32_t tokens, uint64_t last,
-                                                uint64_t reserve, uint32_t generations, kfifo_value_pass *passes,
-                                                size_t threads) {
-    if (!passes) return KFIFO_BAD_CALL;
-    kfifo_zero(passes, sizeof *passes, threads);
-    KFIFO_OPEN(passes, threads,
-               kfifo_c_open_values(k, segments, k, last, tokens, reserve, generations, passes,
-                                   kfifo_at_most_one_over(threads)));
-}
-
 /* Opens a queue of values with versions up to `last`, 2 to KFIFO_LAST, and a `reserve`, KFIFO_RESERVE unless you test
    something: with fewer versions left, the queue goes on in its next generation. With reserve 0 it does not, and wears
    out as a queue of items does. A reserve has to last until the old generation is empty: half of a small `last` will
-   do. The queue has `tokens` tokens for each thread, 1 to KFIFO_MAX_TOKENS, and KFIFO_SPARE_TOKENS more, which a thread
-   may keep for itself: so it has room for threads * tokens values. It has KFIFO_MOST_TOKENS in all at most.
-   kfifo_enough_tokens says with how many a full ring returns FULL, not NO_TOKEN. DONE; BAD_CALL of a null pointer;
-   BAD_K, BAD_SEGMENTS, BAD_LAST, BAD_RESERVE of one that is not below `last`, BAD_THREADS, BAD_TOKENS, NO_MEMORY, and
-   all handles are then closed, at most the first 64.
-   Cost: it asks for the memory of the queue and of its tokens, and writes to each word.
+   do.
 
-       if (kfifo_open_values_with(1, 4, 8, 64, 32, passes, 2) != KFIFO_DONE) return 1; // it changes all the time
+   The queue may grow to `generations` at a time, 1 to 129 - 2 * threads: a give that finds no room opens the next one,
+   as long as there are fewer. So there is room for generations * capacity values. A generation goes with its memory
+   once it is empty and each handle that gave to it has made another call. Where memory for one is missing, a give
+   returns FULL. DONE; BAD_CALL of a null pointer, or of generations out of range; BAD_THREADS, BAD_K, BAD_LAST,
+   BAD_CAPACITY, BAD_RESERVE of one that is not below `last`, NO_MEMORY, and all handles are then closed, at most the
+   first 64.
+   Cost: it asks for the memory of the queue and of its tokens, and writes to each word. A give that opens a generation
+   asks for as much again.
+
+       kfifo_handle growing[2];
+       if (kfifo_open_values_with(1, 512, KFIFO_LAST, KFIFO_RESERVE, 100, growing, 2) != KFIFO_DONE)
+           return 1; // up to 51,200 values
 */
-KFIFO_MUST_USE static inline kfifo_status kfifo_open_values_with(uint32_t k, uint32_t segments, uint32_t tokens,
-                                                                 uint64_t last, uint64_t reserve,
-                                                                 kfifo_value_pass *passes, size_t threads) {
-    return kfifo_open_values_as(k, segments, tokens, last, reserve, 1, passes, threads);
+KFIFO_MUST_USE static inline kfifo_status kfifo_open_values_with(uint32_t k, uint32_t capacity, uint64_t last,
+                                                                 uint64_t reserve, uint32_t generations,
+                                                                 kfifo_handle *handles, size_t threads) {
+    if (!handles) return KFIFO_BAD_CALL;
+    kfifo_zero(handles, threads);
+    KFIFO_OPEN(handles, threads,
+               kfifo_c_open_values(k, capacity, last, reserve, generations, handles, kfifo_at_most_one_over(threads)));
 }
 
-/* Opens a queue of values that does not wear out. Returns what kfifo_open_values_with does.
+/* Opens a queue of values that does not wear out, with room for `capacity` values, 1 to
+   threads * (1022 * k / threads - 32), divided downwards: with k = 1 a queue has at most 30 threads. Returns what
+   kfifo_open_values_with does.
    Cost: as kfifo_open_values_with.
 
-       kfifo_value_pass passes[2];
-       if (kfifo_open_values(1, 4, kfifo_enough_tokens(1, 4, 2), passes, 2) != KFIFO_DONE) return 1;
+       kfifo_handle handles[2];
+       if (kfifo_open_values(1, 64, handles, 2) != KFIFO_DONE) return 1;
 */
-KFIFO_MUST_USE static inline kfifo_status kfifo_open_values(uint32_t k, uint32_t segments, uint32_t tokens,
-                                                            kfifo_value_pass *passes, size_t threads) {
-    return kfifo_open_values_with(k, segments, tokens, KFIFO_LAST, KFIFO_RESERVE, passes, threads);
+KFIFO_MUST_USE static inline kfifo_status kfifo_open_values(uint32_t k, uint32_t capacity, kfifo_handle *handles,
+                                                            size_t threads) {
+    return kfifo_open_values_with(k, capacity, KFIFO_LAST, KFIFO_RESERVE, 1, handles, threads);
 }
 
-/* Opens a queue of values that does not wear out, and that grows: a give that finds no room opens the next generation,
-   as long as there are fewer than `generations`, 1 to 129 - 2 * threads. Takes empty the older ones first. One that is
-   empty goes with its memory, once each handle that gave to it has made another call. So there is room for generations
-   * threads * tokens values, if a ring has as many slots as a generation has values. A give that finds no room returns
-   FULL or NO_TOKEN, also where memory for a generation is missing; there is room again once the oldest generation is
-   empty. Returns what kfifo_open_values_with does; BAD_CALL of generations out of range.
-   Cost: as kfifo_open_values_with, and a give that opens a generation asks for as much again.
-
-       kfifo_value_pass growing[2];
-       if (kfifo_open_growing_values(1, 1024, 512, 100, growing, 2) != KFIFO_DONE) return 1; // up to 102,400 values
-*/
-KFIFO_MUST_USE static inline kfifo_status kfifo_open_growing_values(uint32_t k, uint32_t segments, uint32_t tokens,
-                                                                    uint32_t generations, kfifo_value_pass *passes,
-                                                                    size_t threads) {
-    return kfifo_open_values_as(k, segments, tokens, KFIFO_LAST, KFIFO_RESERVE, generations, passes, threads);
-}
-
-static inline kfifo_status kfifo_bare_give(kfifo_value_pass *pass, uint64_t value) {
-    KFIFO_BEGIN(pass, "kfifo_give");
-    KFIFO_BEFORE_PUT(pass);
+static inline kfifo_status kfifo_bare_give(kfifo_handle *handle, uint64_t value) {
+    KFIFO_BEGIN(handle, "kfifo_give");
+    KFIFO_BEFORE_PUT(handle);
     KFIFO_ENTER();
-    kfifo_status status = KFIFO_CAST(kfifo_status, kfifo_c_give(pass, value));
+    kfifo_status status = KFIFO_CAST(kfifo_status, kfifo_c_give(handle, value));
     KFIFO_LEAVE();
-    KFIFO_END(pass);
+    KFIFO_END(handle);
     return status;
 }
 
-static inline kfifo_status kfifo_bare_take(kfifo_value_pass *pass, uint64_t *value) {
-    KFIFO_BEGIN(pass, "kfifo_take");
+static inline kfifo_status kfifo_bare_take(kfifo_handle *handle, uint64_t *value) {
+    KFIFO_BEGIN(handle, "kfifo_take");
     KFIFO_ENTER();
-    kfifo_status status = kfifo_taken(kfifo_c_take(pass, value));
+    kfifo_status status = kfifo_taken(kfifo_c_take(handle, value));
     KFIFO_LEAVE();
-    KFIFO_AFTER_TAKE(pass, status);
-    KFIFO_END(pass);
+    KFIFO_AFTER_TAKE(handle, status);
+    KFIFO_END(handle);
     return status;
 }
 
@@ -786,91 +809,79 @@ static inline kfifo_status kfifo_bare_take(kfifo_value_pass *pass, uint64_t *val
    another thread changed the queue in the meantime.
    Cost: as kfifo_give.
 
-       if (kfifo_give_once(&passes[0], 8) == KFIFO_BUSY) puts("the value is not given, and a later call may do better");
+       if (kfifo_give_once(&handles[0], 8) == KFIFO_BUSY) puts("the value is not given, and a later one may be");
 */
-KFIFO_MUST_USE static inline kfifo_status kfifo_give_once(kfifo_value_pass *pass, uint64_t value) {
-    if (!pass || !KFIFO_WAITS(pass)) return KFIFO_BAD_CALL;
-    KFIFO_LOOKING_GIVE(pass, KFIFO_FINISHED, kfifo_bare_give(pass, value));
+KFIFO_MUST_USE static inline kfifo_status kfifo_give_once(kfifo_handle *handle, uint64_t value) {
+    if (!KFIFO_IS_OF(handle, KFIFO_VALUES)) return KFIFO_BAD_CALL;
+    KFIFO_LOOKING_GIVE(handle, KFIFO_FINISHED, kfifo_bare_give(handle, value));
 }
 
-/* Gives any value to the queue, and wakes a thread that waits for it: DONE; else FULL, FINISHED, WORN, NO_TOKEN or
-   BAD_CALL, and the value stays the caller's. It does not wait. Where there is no memory for the next generation until
+/* Gives any value to the queue, and wakes a thread that waits for it: DONE; else FULL, FINISHED, WORN or BAD_CALL,
+   and the value stays the caller's. It does not wait. Where there is no memory for the next generation until
    the reserve is used up, also a value whose give returned DONE may be one that no take reaches any more: they return
    WORN, and a close gives it back.
    Cost: some 40 instructions more than a kfifo_put. It asks for memory only where it opens a generation.
 
-       if (kfifo_give(&passes[0], 7) != KFIFO_DONE) return 1;
+       if (kfifo_give(&handles[0], 7) != KFIFO_DONE) return 1;
 */
-KFIFO_MUST_USE static inline kfifo_status kfifo_give(kfifo_value_pass *pass, uint64_t value) {
-    KFIFO_UNLESS_BUSY(pass, kfifo_give_once(pass, value));
+KFIFO_MUST_USE static inline kfifo_status kfifo_give(kfifo_handle *handle, uint64_t value) {
+    KFIFO_UNLESS_BUSY(handle, kfifo_give_once(handle, value));
 }
 
 /* As kfifo_take, but bounded, as kfifo_give_once is: also BUSY.
    Cost: as kfifo_take.
 
-       if (kfifo_take_once(&passes[1], &value) == KFIFO_BUSY) puts("no value is taken, and a later call may do better");
+       if (kfifo_take_once(&handles[1], &value) == KFIFO_BUSY) puts("no value is taken, and a later call may get one");
 */
-KFIFO_MUST_USE static inline kfifo_status kfifo_take_once(kfifo_value_pass *pass, uint64_t *value) {
-    if (!pass || !value || !KFIFO_WAITS(pass)) return KFIFO_BAD_CALL;
-    KFIFO_LOOKING_TAKE(pass, kfifo_bare_take(pass, value));
+KFIFO_MUST_USE static inline kfifo_status kfifo_take_once(kfifo_handle *handle, uint64_t *value) {
+    if (!value || !KFIFO_IS_OF(handle, KFIFO_VALUES)) return KFIFO_BAD_CALL;
+    KFIFO_LOOKING_TAKE(handle, kfifo_bare_take(handle, value));
 }
 
 /* Takes one of the k oldest values, and wakes a thread that waits for room: DONE, and writes it; else EMPTY, FINISHED,
    WORN or BAD_CALL, and *value stays. It does not wait.
    Cost: some 40 instructions more than a kfifo_get, and a look into each older generation.
 
-       while (kfifo_take(&passes[1], &value) == KFIFO_DONE) sum += value;
+       while (kfifo_take(&handles[1], &value) == KFIFO_DONE) sum += value;
 */
-KFIFO_MUST_USE static inline kfifo_status kfifo_take(kfifo_value_pass *pass, uint64_t *value) {
-    KFIFO_UNLESS_BUSY(pass, kfifo_take_once(pass, value));
-}
-
-/* Says that no more values will come, and wakes all that wait: DONE, or BAD_CALL of a null pointer or a closed handle.
-   Any thread may call it by any open handle, also while that one is in a call, and again. A give that begins after it
-   returns FINISHED; a take does so once the queue is empty. A give that it meets halfway may still put its value in, so
-   call it when the producers have ended, or close the queue to have what is left.
-   Cost: as kfifo_finish.
-
-       if (kfifo_finish_values(&passes[0]) != KFIFO_DONE) abort();
-*/
-KFIFO_MUST_USE static inline kfifo_status kfifo_finish_values(kfifo_value_pass *pass) {
-    if (!pass || !KFIFO_WAITS(pass)) return KFIFO_BAD_CALL;
-    return kfifo_finish_by(KFIFO_WAITS(pass));
+KFIFO_MUST_USE static inline kfifo_status kfifo_take(kfifo_handle *handle, uint64_t *value) {
+    KFIFO_UNLESS_BUSY(handle, kfifo_take_once(handle, value));
 }
 
 /* kfifo_give and kfifo_take with a pointer for a value.
    Cost: as theirs.
 
-       if (kfifo_give_pointer(&passes[0], order) != KFIFO_DONE) free(order); // it is still ours
+       if (kfifo_give_pointer(&handles[0], order) != KFIFO_DONE) free(order); // it is still ours
        void *taken = NULL;
-       if (kfifo_take_pointer(&passes[1], &taken) == KFIFO_DONE) free(taken);
+       if (kfifo_take_pointer(&handles[1], &taken) == KFIFO_DONE) free(taken);
 */
-KFIFO_MUST_USE static inline kfifo_status kfifo_give_pointer(kfifo_value_pass *pass, void *pointer) {
-    return kfifo_give(pass, KFIFO_CAST_POINTER(uintptr_t, pointer));
+KFIFO_MUST_USE static inline kfifo_status kfifo_give_pointer(kfifo_handle *handle, void *pointer) {
+    return kfifo_give(handle, KFIFO_CAST_POINTER(uintptr_t, pointer));
 }
 
-KFIFO_MUST_USE static inline kfifo_status kfifo_take_pointer(kfifo_value_pass *pass, void **pointer) {
+KFIFO_MUST_USE static inline kfifo_status kfifo_take_pointer(kfifo_handle *handle, void **pointer) {
     uint64_t value;
     if (!pointer) return KFIFO_BAD_CALL;
-    kfifo_status status = kfifo_take(pass, &value);
+    kfifo_status status = kfifo_take(handle, &value);
     if (status == KFIFO_DONE) *pointer = KFIFO_CAST_POINTER(void *, KFIFO_CAST(uintptr_t, value));
     return status;
 }
 
-/* Room for how many values kfifo_close_values needs: k * segments for each generation that may have some. That is one
-   mostly, and more near a change, or where a handle made no calls since. 0 where these are not all handles of one
-   queue, each open and there but once.
+/* Room for how many values kfifo_close_values needs: as many as a generation has slots, which are more than the
+   capacity, for each generation that may have some. That is one mostly, and more near a change, where the queue has
+   grown, or where a handle made no calls since. 0 where these are not all handles of one queue of values, each open and
+   there but once.
    Cost: a look at each generation, mostly one.
 
-       size_t room = kfifo_values_room(passes, 2);
+       size_t room = kfifo_values_room(handles, 2);
 */
-KFIFO_MUST_USE static inline size_t kfifo_values_room(kfifo_value_pass *passes, size_t threads) {
-    if (!passes || threads > KFIFO_MAX_THREADS) return 0;
-    KFIFO_BEGIN_ALL(passes, threads);
+KFIFO_MUST_USE static inline size_t kfifo_values_room(kfifo_handle *handles, size_t threads) {
+    if (!handles || threads > KFIFO_MAX_THREADS) return 0;
+    KFIFO_BEGIN_ALL(handles, threads);
     KFIFO_ENTER();
-    size_t room = kfifo_are_of_one_queue(passes, threads) ? kfifo_c_values_room(passes, threads) : 0;
+    size_t room = kfifo_are_of_one_queue(handles, threads) ? kfifo_c_values_room(handles, threads) : 0;
     KFIFO_LEAVE();
-    KFIFO_END_ALL(passes, threads);
+    KFIFO_END_ALL(handles, threads);
     return room;
 }
 
@@ -878,271 +889,290 @@ KFIFO_MUST_USE static inline size_t kfifo_values_room(kfifo_value_pass *passes, 
    for kfifo_values_room values. With less it returns BAD_CALL, and nothing was done.
    Cost: as kfifo_close, for each generation.
 
-       size_t room = kfifo_values_room(passes, THREADS), count = 0;
+       size_t room = kfifo_values_room(handles, THREADS), count = 0;
        uint64_t *left = malloc(room * sizeof *left);
-       if (!left || kfifo_close_values(passes, THREADS, left, room, &count) != KFIFO_DONE) return 1;
+       if (!left || kfifo_close_values(handles, THREADS, left, room, &count) != KFIFO_DONE) return 1;
 */
-KFIFO_MUST_USE static inline kfifo_status kfifo_close_values(kfifo_value_pass *passes, size_t threads, uint64_t *values,
+KFIFO_MUST_USE static inline kfifo_status kfifo_close_values(kfifo_handle *handles, size_t threads, uint64_t *values,
                                                              size_t room, size_t *count) {
-    if (!passes || !values || !count) return KFIFO_BAD_CALL;
+    if (!handles || !values || !count) return KFIFO_BAD_CALL;
     if (threads > KFIFO_MAX_THREADS) return KFIFO_BAD_THREADS;
-    KFIFO_BEGIN_ALL(passes, threads);
-    KFIFO_BEFORE_CLOSE(passes, threads);
+    KFIFO_BEGIN_ALL(handles, threads);
+    KFIFO_BEFORE_CLOSE(handles, threads);
     KFIFO_ENTER();
     kfifo_status status = KFIFO_BAD_CALL;
-    if (kfifo_are_of_one_queue(passes, threads))
-        status = KFIFO_CAST(kfifo_status, kfifo_c_close_values(passes, threads, values, room, count));
+    if (kfifo_are_of_one_queue(handles, threads))
+        status = KFIFO_CAST(kfifo_status, kfifo_c_close_values(handles, threads, values, room, count));
     KFIFO_LEAVE();
-    KFIFO_END_ALL(passes, threads);
-    KFIFO_AFTER_CLOSE(passes, threads);
-    return status;
-}
-
-/* Closes these handles, as kfifo_abandon does. Values that are pointers are not freed.
-   Cost: as kfifo_abandon.
-
-       return kfifo_abandon_values(passes, 2) != KFIFO_DONE;
-*/
-KFIFO_MUST_USE static inline kfifo_status kfifo_abandon_values(kfifo_value_pass *passes, size_t threads) {
-    if (!passes) return KFIFO_BAD_CALL;
-    if (threads > KFIFO_MAX_THREADS) return KFIFO_BAD_THREADS;
-    KFIFO_BEGIN_ALL(passes, threads);
-    KFIFO_BEFORE_CLOSE(passes, threads);
-    KFIFO_ENTER();
-    kfifo_status status = KFIFO_BAD_CALL;
-    if (!kfifo_has_copy(passes, threads)) {
-        kfifo_c_abandon_values(passes, threads);
-        status = KFIFO_DONE;
-    }
-    KFIFO_LEAVE();
-    KFIFO_END_ALL(passes, threads);
-    KFIFO_AFTER_CLOSE(passes, threads);
+    KFIFO_END_ALL(handles, threads);
+    KFIFO_AFTER_CLOSE(handles, threads);
     return status;
 }
 
 /* ---- A queue of cells, for values of any size ----
 
-   The caller has an array of threads * tokens cells, of any type. The queue says whose a cell is, by its index in that
-   array. A thread reserves a cell, writes into it and publishes it. Another receives it, reads it and releases it. So a
-   value stays where it was made, and no call copies it. The queue renews itself as one of values does.
+   A thread reserves a cell, writes into it and publishes it. Another receives it, reads it and releases it. So a value
+   stays where it was made, and no call copies it. The cells are the library's memory; with `capacity`, the generations,
+   growth and WORN it is as with values.
 
        struct frame { int width, height; unsigned char pixels[4096]; };
-       static struct frame frames[2 * 8];            // threads * tokens
-       kfifo_cell_pass passes[2];                    // one for each thread
-       uint64_t cell;
-       if (kfifo_open_cells(1, 4, 8, passes, 2) != KFIFO_DONE) return 1;
+       struct frame *frame = NULL;
+       void *cell = NULL;
+       kfifo_handle handles[2]; // one for each thread
+       if (kfifo_open_cells(1, 8, sizeof *frame, _Alignof(struct frame), handles, 2) != KFIFO_DONE) return 1;
 
-       if (kfifo_reserve(&passes[0], &cell) == KFIFO_DONE) {
+       if (kfifo_reserve(&handles[0], &cell) == KFIFO_DONE) {
+           frame = cell;
+           frame->width = 64; // the cell is this thread's alone
            kfifo_status status;
-           frames[cell].width = 64;                  // frames[cell] is this thread's alone
-           while (kfifo_may_retry(status = kfifo_publish(&passes[0]))) sched_yield();
-           if (status != KFIFO_DONE) return 1;       // worn
+           while (kfifo_may_retry(status = kfifo_publish(&handles[0]))) sched_yield();
+           if (status != KFIFO_DONE) return 1; // worn
        }
 
-       if (kfifo_receive(&passes[1], &cell) == KFIFO_DONE) {
-           show(&frames[cell]);                      // now it is this one's alone
-           if (kfifo_release(&passes[1]) != KFIFO_DONE) return 1;
+       if (kfifo_receive(&handles[1], &cell) == KFIFO_DONE) {
+           show(cell); // now it is this one's alone
+           if (kfifo_release(&handles[1]) != KFIFO_DONE) return 1;
        }
-       return kfifo_abandon_cells(passes, 2) != KFIFO_DONE;
+       return kfifo_abandon(handles, 2) != KFIFO_DONE;
 */
 
-/* Opens a queue of cells with versions up to `last` and a reserve, as kfifo_open_values_with. Each thread begins with
-   `tokens` tokens, 1 to KFIFO_MAX_TOKENS. Each token has a cell, so the cells are numbers from 0 to
-   threads * tokens - 1, in all generations. How many are enough says kfifo_enough_tokens. Returns what
-   kfifo_open_values_with returns.
-   Cost: as kfifo_open_values_with. The cells are the caller's.
-
-       if (kfifo_open_cells_with(1, 4, 8, 64, 32, passes, 2) != KFIFO_DONE) return 1; // it changes all the time
-*/
-KFIFO_MUST_USE static inline kfifo_status kfifo_open_cells_with(uint32_t k, uint32_t segments, uint32_t tokens,
-                                                                uint64_t last, uint64_t reserve,
-                                                                kfifo_cell_pass *passes, size_t threads) {
-    if (!passes) return KFIFO_BAD_CALL;
-    kfifo_zero(passes, sizeof *passes, threads);
-    KFIFO_OPEN(passes, threads,
-               kfifo_c_open_cells(k, segments, k, last, tokens, reserve, passes, kfifo_at_most_one_over(threads)));
+/* Where a cell begins. */
+static inline void *kfifo_place_of(const kfifo_cell_at *at, uint32_t size, uint32_t alignment) {
+    uintptr_t begins = KFIFO_CAST_POINTER(uintptr_t, at->block), mask = alignment - UINT32_C(1);
+    return KFIFO_CAST(char *, at->block) + (((begins + mask) & ~mask) - begins) + KFIFO_CAST(size_t, at->index) * size;
 }
 
-/* Opens a queue of cells that does not wear out. Returns what kfifo_open_values_with does.
+/* Opens a queue of cells of this size, at least 1, and this alignment, both in bytes: a power of two up to 4,096 that
+   divides the size. `last`, `reserve` and `generations` are as in kfifo_open_values_with. The queue has 32 cells more
+   for each thread, which that one may keep for itself. Returns what kfifo_open_values_with does; BAD_LAYOUT of a size
+   or an alignment that there is not.
+   Cost: the memory of a generation is asked for here: that of (capacity + 32 * threads) cells, and some 50 bytes for
+   each. A reserve that opens a generation asks for as much again.
+
+       kfifo_handle growing[2];
+       if (kfifo_open_cells_with(1, 8, 64, 64, KFIFO_LAST, KFIFO_RESERVE, 100, growing, 2) != KFIFO_DONE)
+           return 1; // up to 800 cells
+*/
+KFIFO_MUST_USE static inline kfifo_status kfifo_open_cells_with(uint32_t k, uint32_t capacity, uint32_t size,
+                                                                uint32_t alignment, uint64_t last, uint64_t reserve,
+                                                                uint32_t generations, kfifo_handle *handles,
+                                                                size_t threads) {
+    if (!handles) return KFIFO_BAD_CALL;
+    kfifo_zero(handles, threads);
+    KFIFO_OPEN(handles, threads,
+               kfifo_c_open_cells(k, capacity, size, alignment, last, reserve, generations, handles,
+                                  kfifo_at_most_one_over(threads)));
+}
+
+/* Opens a queue of cells that does not wear out, with room for `capacity` cells, as many as kfifo_open_values takes.
+   Returns what kfifo_open_cells_with does.
    Cost: as kfifo_open_cells_with.
 
-       if (kfifo_open_cells(1, 4, 8, passes, 2) != KFIFO_DONE) return 1; // the cells are 0 to 15
+       if (kfifo_open_cells(1, 8, sizeof *frame, _Alignof(struct frame), handles, 2) != KFIFO_DONE) return 1;
 */
-KFIFO_MUST_USE static inline kfifo_status kfifo_open_cells(uint32_t k, uint32_t segments, uint32_t tokens,
-                                                           kfifo_cell_pass *passes, size_t threads) {
-    return kfifo_open_cells_with(k, segments, tokens, KFIFO_LAST, KFIFO_RESERVE, passes, threads);
+KFIFO_MUST_USE static inline kfifo_status kfifo_open_cells(uint32_t k, uint32_t capacity, uint32_t size,
+                                                           uint32_t alignment, kfifo_handle *handles, size_t threads) {
+    return kfifo_open_cells_with(k, capacity, size, alignment, KFIFO_LAST, KFIFO_RESERVE, 1, handles, threads);
 }
 
-/* Reserves a cell: DONE, and writes its number. Until kfifo_publish puts it into the queue, the cell is the handle's
-   alone, and a further call writes the same number. Else NO_TOKEN, where the handle has no cell and found none that
-   another one released, FINISHED or BAD_CALL, and *cell stays.
-   Cost: a few dozen instructions, without an atomic step unless it fetches tokens from the pool.
+/* Any of these may free a generation, or make one. The handle is an open one of a queue of cells. */
 
-       if (kfifo_reserve(&passes[0], &cell) != KFIFO_DONE) return 1;
-       frames[cell].width = 64; // until the publish the cell is ours
-*/
-KFIFO_MUST_USE static inline kfifo_status kfifo_reserve(kfifo_cell_pass *pass, uint64_t *cell) {
-    if (!pass || !cell || !KFIFO_WAITS(pass)) return KFIFO_BAD_CALL;
-    if (__builtin_expect(kfifo_is_finished(KFIFO_WAITS(pass)), 0)) return KFIFO_FINISHED;
-    KFIFO_BEGIN(pass, __func__);
-    kfifo_status status = KFIFO_CAST(kfifo_status, kfifo_c_reserve(pass, cell));
-    KFIFO_AFTER_RESERVE(pass, status);
-    KFIFO_END(pass);
+static inline kfifo_status kfifo_bare_reserve(kfifo_handle *handle, kfifo_cell_at *at) {
+    if (__builtin_expect(kfifo_is_finished(KFIFO_WAITS(handle)), 0)) return KFIFO_FINISHED;
+    KFIFO_BEGIN(handle, "kfifo_reserve");
+    KFIFO_ENTER();
+    kfifo_status status = KFIFO_CAST(kfifo_status, kfifo_c_reserve(handle, at));
+    KFIFO_LEAVE();
+    KFIFO_AFTER_RESERVE(handle, status);
+    KFIFO_END(handle);
     return status;
 }
 
-static inline kfifo_status kfifo_bare_publish(kfifo_cell_pass *pass) {
-    KFIFO_BEGIN(pass, "kfifo_publish");
-    KFIFO_BEFORE_PUT(pass);
+static inline kfifo_status kfifo_bare_publish(kfifo_handle *handle) {
+    KFIFO_BEGIN(handle, "kfifo_publish");
+    KFIFO_BEFORE_PUT(handle);
     KFIFO_ENTER();
-    kfifo_status status = KFIFO_CAST(kfifo_status, kfifo_c_publish(pass));
+    kfifo_status status = KFIFO_CAST(kfifo_status, kfifo_c_publish(handle));
     KFIFO_LEAVE();
-    KFIFO_END(pass);
+    KFIFO_END(handle);
     return status;
 }
 
-static inline kfifo_status kfifo_bare_receive(kfifo_cell_pass *pass, uint64_t *cell) {
-    KFIFO_BEGIN(pass, "kfifo_receive");
-    KFIFO_BEFORE_RELEASE(pass);
+static inline kfifo_status kfifo_bare_cancel(kfifo_handle *handle) {
+    KFIFO_BEGIN(handle, "kfifo_cancel");
+    KFIFO_BEFORE_RELEASE(handle);
     KFIFO_ENTER();
-    kfifo_status status = kfifo_taken(kfifo_c_receive(pass, cell));
+    kfifo_status status = KFIFO_CAST(kfifo_status, kfifo_c_cancel(handle));
     KFIFO_LEAVE();
-    KFIFO_AFTER_TAKE(pass, status);
-    KFIFO_END(pass);
+    KFIFO_END(handle);
+    return kfifo_after_take(KFIFO_WAITS(handle), status);
+}
+
+static inline kfifo_status kfifo_bare_receive(kfifo_handle *handle, kfifo_cell_at *at) {
+    KFIFO_BEGIN(handle, "kfifo_receive");
+    KFIFO_BEFORE_RELEASE(handle);
+    KFIFO_ENTER();
+    kfifo_status status = kfifo_taken(kfifo_c_receive(handle, at));
+    KFIFO_LEAVE();
+    KFIFO_AFTER_TAKE(handle, status);
+    KFIFO_END(handle);
+    return status;
+}
+
+static inline kfifo_status kfifo_bare_release(kfifo_handle *handle) {
+    KFIFO_BEGIN(handle, "kfifo_release");
+    KFIFO_BEFORE_RELEASE(handle);
+    KFIFO_ENTER();
+    kfifo_status status = KFIFO_CAST(kfifo_status, kfifo_c_release(handle));
+    KFIFO_LEAVE();
+    KFIFO_END(handle);
+    return kfifo_after_take(KFIFO_WAITS(handle), status);
+}
+
+static inline kfifo_status kfifo_looking_receive(kfifo_handle *handle, kfifo_cell_at *at) {
+    KFIFO_LOOKING_TAKE(handle, kfifo_bare_receive(handle, at));
+}
+
+/* Reserves a cell: DONE, and writes where it is. Until kfifo_publish puts it into the queue, the cell is the handle's
+   alone, and a further call writes the same one. What is in it is whatever was there before. Else FULL, where no cell
+   is free, FINISHED or BAD_CALL, and *cell stays.
+   Cost: a few dozen instructions, without an atomic step unless it fetches cells that others have released.
+
+       if (kfifo_reserve(&handles[0], &cell) != KFIFO_DONE) return 1;
+       frame = cell;
+       frame->width = 64; // until the publish the cell is ours
+*/
+KFIFO_MUST_USE static inline kfifo_status kfifo_reserve(kfifo_handle *handle, void **cell) {
+    kfifo_cell_at at;
+    if (!cell || !KFIFO_IS_OF(handle, KFIFO_CELLS)) return KFIFO_BAD_CALL;
+    kfifo_status status = kfifo_bare_reserve(handle, &at);
+    if (__builtin_expect(status == KFIFO_DONE, 1)) *cell = kfifo_place_of(&at, handle->size, handle->alignment);
     return status;
 }
 
 /* As kfifo_publish, but bounded, as kfifo_give_once is: also BUSY.
    Cost: as kfifo_publish.
 
-       if (kfifo_publish_once(&passes[0]) == KFIFO_BUSY) puts("the cell is still reserved");
+       if (kfifo_publish_once(&handles[0]) == KFIFO_BUSY) puts("the cell is still reserved");
 */
-KFIFO_MUST_USE static inline kfifo_status kfifo_publish_once(kfifo_cell_pass *pass) {
-    if (!pass || !KFIFO_WAITS(pass)) return KFIFO_BAD_CALL;
-    KFIFO_LOOKING_GIVE(pass, KFIFO_FINISHED, kfifo_bare_publish(pass));
+KFIFO_MUST_USE static inline kfifo_status kfifo_publish_once(kfifo_handle *handle) {
+    if (!KFIFO_IS_OF(handle, KFIFO_CELLS)) return KFIFO_BAD_CALL;
+    KFIFO_LOOKING_GIVE(handle, KFIFO_FINISHED, kfifo_bare_publish(handle));
 }
 
 /* Puts the reserved cell into the queue, and wakes a thread that waits for it: DONE, and the cell is no longer the
-   handle's. Else FULL, FINISHED, NO_TOKEN or WORN, and the cell is still reserved. BAD_CALL, also where none is
-   reserved. After DONE too, takes may no longer reach the cell where kfifo_give says so of a value.
-   Cost: as kfifo_give, which has a token to find and a payload to write besides.
+   handle's. Else FULL, FINISHED or WORN, and the cell is still reserved. BAD_CALL, also where none is reserved. After
+   DONE too, takes may no longer reach the cell where kfifo_give says so of a value.
 
-       if (kfifo_publish(&passes[0]) != KFIFO_DONE) puts("the cell is still reserved");
+   WORN says that the generation of the cell takes no more: while it was reserved, the others went on in the next one,
+   and used up the reserve too. Copy what is in the cell, cancel it, reserve another, and write it there. Where that
+   comes to WORN as well, the queue is worn out.
+   Cost: as kfifo_give.
+
+       if (kfifo_publish(&handles[0]) != KFIFO_DONE) puts("the cell is still reserved");
 */
-KFIFO_MUST_USE static inline kfifo_status kfifo_publish(kfifo_cell_pass *pass) {
-    KFIFO_UNLESS_BUSY(pass, kfifo_publish_once(pass));
+KFIFO_MUST_USE static inline kfifo_status kfifo_publish(kfifo_handle *handle) {
+    KFIFO_UNLESS_BUSY(handle, kfifo_publish_once(handle));
 }
 
 /* Gives the reserved cell back: DONE, and any handle may reserve it. BAD_CALL, also where none is reserved. A cell that
    stays reserved is one that no other handle can have.
    Cost: as kfifo_reserve.
 
-       if (kfifo_cancel(&passes[0]) != KFIFO_DONE) return 1;
+       if (kfifo_cancel(&handles[0]) != KFIFO_DONE) return 1;
 */
-KFIFO_MUST_USE static inline kfifo_status kfifo_cancel(kfifo_cell_pass *pass) {
-    if (!pass || !KFIFO_WAITS(pass)) return KFIFO_BAD_CALL;
-    KFIFO_BEGIN(pass, __func__);
-    KFIFO_BEFORE_RELEASE(pass);
-    kfifo_status status = KFIFO_CAST(kfifo_status, kfifo_c_cancel(pass));
-    KFIFO_END(pass);
-    return kfifo_after_take(KFIFO_WAITS(pass), status);
+KFIFO_MUST_USE static inline kfifo_status kfifo_cancel(kfifo_handle *handle) {
+    return KFIFO_IS_OF(handle, KFIFO_CELLS) ? kfifo_bare_cancel(handle) : KFIFO_BAD_CALL;
 }
 
 /* As kfifo_receive, but bounded, as kfifo_give_once is: also BUSY.
    Cost: as kfifo_receive.
 
-       if (kfifo_receive_once(&passes[1], &cell) == KFIFO_BUSY) puts("no cell is received");
+       if (kfifo_receive_once(&handles[1], &cell) == KFIFO_BUSY) puts("no cell is received");
 */
-KFIFO_MUST_USE static inline kfifo_status kfifo_receive_once(kfifo_cell_pass *pass, uint64_t *cell) {
-    if (!pass || !cell || !KFIFO_WAITS(pass)) return KFIFO_BAD_CALL;
-    KFIFO_LOOKING_TAKE(pass, kfifo_bare_receive(pass, cell));
+KFIFO_MUST_USE static inline kfifo_status kfifo_receive_once(kfifo_handle *handle, void **cell) {
+    kfifo_cell_at at;
+    if (!cell || !KFIFO_IS_OF(handle, KFIFO_CELLS)) return KFIFO_BAD_CALL;
+    kfifo_status status = kfifo_looking_receive(handle, &at);
+    if (__builtin_expect(status == KFIFO_DONE, 1)) *cell = kfifo_place_of(&at, handle->size, handle->alignment);
+    return status;
 }
 
-/* Takes one of the k oldest cells, and wakes a thread that waits for room: DONE, and writes its number. Until the
+/* Takes one of the k oldest cells, and wakes a thread that waits for room: DONE, and writes where it is. Until the
    handle's next kfifo_receive or kfifo_release the cell is the handle's alone. Else EMPTY, FINISHED, WORN or BAD_CALL,
    and *cell stays. The call first releases the cell that the handle received before, also where it then takes none. A
    handle may have a received and a reserved cell at once.
    Cost: as a kfifo_get, a kfifo_release, and a look into each older generation.
 
-       while (kfifo_receive(&passes[1], &cell) == KFIFO_DONE) show(&frames[cell]);
+       while (kfifo_receive(&handles[1], &cell) == KFIFO_DONE) show(cell);
 */
-KFIFO_MUST_USE static inline kfifo_status kfifo_receive(kfifo_cell_pass *pass, uint64_t *cell) {
-    KFIFO_UNLESS_BUSY(pass, kfifo_receive_once(pass, cell));
+KFIFO_MUST_USE static inline kfifo_status kfifo_receive(kfifo_handle *handle, void **cell) {
+    KFIFO_UNLESS_BUSY(handle, kfifo_receive_once(handle, cell));
 }
 
 /* Releases the cell that the handle received: DONE, and any handle may reserve it. BAD_CALL, also where none was
    received, or it is released already.
    Cost: as kfifo_reserve.
 
-       if (kfifo_release(&passes[1]) != KFIFO_DONE) return 1;
+       if (kfifo_release(&handles[1]) != KFIFO_DONE) return 1;
 */
-KFIFO_MUST_USE static inline kfifo_status kfifo_release(kfifo_cell_pass *pass) {
-    if (!pass || !KFIFO_WAITS(pass)) return KFIFO_BAD_CALL;
-    KFIFO_BEGIN(pass, __func__);
-    KFIFO_BEFORE_RELEASE(pass);
-    kfifo_status status = KFIFO_CAST(kfifo_status, kfifo_c_release(pass));
-    KFIFO_END(pass);
-    return kfifo_after_take(KFIFO_WAITS(pass), status);
+KFIFO_MUST_USE static inline kfifo_status kfifo_release(kfifo_handle *handle) {
+    return KFIFO_IS_OF(handle, KFIFO_CELLS) ? kfifo_bare_release(handle) : KFIFO_BAD_CALL;
 }
 
-/* Says that no more cells will come, and wakes all that wait: DONE, or BAD_CALL of a null pointer or a closed handle.
-   Any thread may call it by any open handle, also while that one is in a call, and again. A publish that begins after
-   it returns FINISHED; a receive does so once the queue is empty. A publish that it meets halfway may still put its
-   cell in, so call it when the producers have ended, or close the queue to have what is left.
-   Cost: as kfifo_finish.
+/* Closes a queue of cells by all its handles, and keeps the cells that are in it, with their memory, in `left`: DONE.
+   What `left` held before is not freed. A cell that a handle had reserved or received is not among them: it is gone.
+   BAD_CALL, BAD_THREADS, NO_MEMORY and LOST are as those of kfifo_close.
+   Cost: a look at each slot of each generation, and it asks for memory.
 
-       if (kfifo_finish_cells(&passes[0]) != KFIFO_DONE) abort();
+       kfifo_left left;
+       if (kfifo_close_cells(handles, 2, &left) != KFIFO_DONE) return 1;
+       while (kfifo_next_left(&left, &cell) == KFIFO_DONE) show(cell);
+       kfifo_free_left(&left);
 */
-KFIFO_MUST_USE static inline kfifo_status kfifo_finish_cells(kfifo_cell_pass *pass) {
-    if (!pass || !KFIFO_WAITS(pass)) return KFIFO_BAD_CALL;
-    return kfifo_finish_by(KFIFO_WAITS(pass));
-}
-
-/* Closes a queue of cells, as kfifo_close does, and writes the numbers of the cells that are in it, in the queue's
-   order. A cell that a handle had reserved or received is not among them. There has to be room for each cell,
-   threads * tokens: with less the call returns BAD_CALL, and nothing was done.
-   Cost: as kfifo_close_values.
-
-       uint64_t left[2 * 8]; // threads * tokens
-       size_t count = 0;
-       if (kfifo_close_cells(passes, 2, left, 2 * 8, &count) != KFIFO_DONE) return 1;
-*/
-KFIFO_MUST_USE static inline kfifo_status kfifo_close_cells(kfifo_cell_pass *passes, size_t threads, uint64_t *cells,
-                                                            size_t room, size_t *count) {
-    if (!passes || !cells || !count) return KFIFO_BAD_CALL;
+KFIFO_MUST_USE static inline kfifo_status kfifo_close_cells(kfifo_handle *handles, size_t threads, kfifo_left *left) {
+    if (!handles || !left) return KFIFO_BAD_CALL;
     if (threads > KFIFO_MAX_THREADS) return KFIFO_BAD_THREADS;
-    KFIFO_BEGIN_ALL(passes, threads);
-    KFIFO_BEFORE_CLOSE(passes, threads);
+    KFIFO_BEGIN_ALL(handles, threads);
+    KFIFO_BEFORE_CLOSE(handles, threads);
     KFIFO_ENTER();
+    uint32_t size = threads ? handles[0].size : 0, alignment = threads ? handles[0].alignment : 0;
+    kfifo_left of = {NULL, 0, 0, size, alignment};
     kfifo_status status = KFIFO_BAD_CALL;
-    if (kfifo_are_of_one_queue(passes, threads))
-        status = KFIFO_CAST(kfifo_status, kfifo_c_close_cells(passes, threads, cells, room, count));
+    if (kfifo_are_of_one_queue(handles, threads))
+        status = KFIFO_CAST(kfifo_status, kfifo_c_close_cells(handles, threads, &of));
+    if (status == KFIFO_DONE) *left = of;
     KFIFO_LEAVE();
-    KFIFO_END_ALL(passes, threads);
-    KFIFO_AFTER_CLOSE(passes, threads);
+    KFIFO_END_ALL(handles, threads);
+    KFIFO_AFTER_CLOSE(handles, threads);
     return status;
 }
 
-/* Closes these handles, as kfifo_abandon does. The array of the cells stays as it is.
-   Cost: as kfifo_abandon.
+/* Writes where the next one of the cells is that were left, in the queue's order, those of the oldest generation first:
+   DONE. EMPTY where there is none any more, and BAD_CALL of a null pointer or where nothing is kept: *cell stays. The
+   cells stay where they are until kfifo_free_left.
+   Cost: a few dozen instructions.
 
-       return kfifo_abandon_cells(passes, 2) != KFIFO_DONE;
+       while (kfifo_next_left(&left, &cell) == KFIFO_DONE) show(cell);
 */
-KFIFO_MUST_USE static inline kfifo_status kfifo_abandon_cells(kfifo_cell_pass *passes, size_t threads) {
-    if (!passes) return KFIFO_BAD_CALL;
-    if (threads > KFIFO_MAX_THREADS) return KFIFO_BAD_THREADS;
-    KFIFO_BEGIN_ALL(passes, threads);
-    KFIFO_BEFORE_CLOSE(passes, threads);
-    KFIFO_ENTER();
-    kfifo_status status = KFIFO_BAD_CALL;
-    if (!kfifo_has_copy(passes, threads)) {
-        kfifo_c_abandon_cells(passes, threads);
-        status = KFIFO_DONE;
-    }
-    KFIFO_LEAVE();
-    KFIFO_END_ALL(passes, threads);
-    KFIFO_AFTER_CLOSE(passes, threads);
+KFIFO_MUST_USE static inline kfifo_status kfifo_next_left(kfifo_left *left, void **cell) {
+    kfifo_cell_at at;
+    if (!left || !cell) return KFIFO_BAD_CALL;
+    kfifo_status status = KFIFO_CAST(kfifo_status, kfifo_c_next_left(left, &at));
+    if (status == KFIFO_DONE) *cell = kfifo_place_of(&at, left->size, left->alignment);
     return status;
+}
+
+/* Frees the cells that were left, and what is in them is lost. Without any, or of a null pointer, it does nothing.
+   Cost: it frees the memory of each generation.
+
+       kfifo_free_left(&left);
+*/
+static inline void kfifo_free_left(kfifo_left *left) {
+    if (!left) return;
+    KFIFO_ENTER();
+    kfifo_c_free_left(left);
+    KFIFO_LEAVE();
 }
 
 #ifdef __cplusplus

@@ -64,7 +64,6 @@ enum class [[nodiscard]] Put {
     full = KFIFO_FULL,
     busy = KFIFO_BUSY,           // of the bounded calls, whose names end in _once
     worn = KFIFO_WORN,
-    no_token = KFIFO_NO_TOKEN,
     timed_out = KFIFO_TIMED_OUT, // of a call that waits: its time was up
     finished = KFIFO_FINISHED    // finish() was called before
 };
@@ -79,7 +78,7 @@ enum class Miss {
     finished = KFIFO_FINISHED // finish() was called, and the queue was empty then
 };
 
-// A line of text, as "the ring was full".
+// A line of text, as "the queue was full".
 // Cost: a few comparisons.
 //
 //     kfifo::TakenValue<std::string> none = taker.take();
@@ -88,7 +87,7 @@ enum class Miss {
 [[nodiscard]] inline const char *text(Miss miss) noexcept { return kfifo_status_text(static_cast<kfifo_status>(miss)); }
 
 // Whether a later call may do better: a loop that retries another answer, as Put::worn, never ends.
-// Cost: four comparisons.
+// Cost: three comparisons.
 //
 //     while (kfifo::may_retry(gave = giver.give("a word"))) std::this_thread::yield();
 [[nodiscard]] inline bool may_retry(Put put) noexcept { return kfifo_may_retry(static_cast<kfifo_status>(put)); }
@@ -117,8 +116,9 @@ inline kfifo_status checked(kfifo_status status) {
     case KFIFO_BAD_SEGMENTS:
     case KFIFO_BAD_LAST:
     case KFIFO_BAD_PROBES:
-    case KFIFO_BAD_TOKENS:
-    case KFIFO_BAD_RESERVE: raise(Error(status));
+    case KFIFO_BAD_RESERVE:
+    case KFIFO_BAD_CAPACITY:
+    case KFIFO_BAD_LAYOUT: raise(Error(status));
     default: return status;
     }
 }
@@ -228,6 +228,18 @@ class Pass {
     template <typename Container> TookUpTo dequeue_up_to(std::size_t most, Container &out) const;
     TakenItems dequeue_up_to(std::size_t most) const;
 
+    // About how many items are in the queue. Calls that run meanwhile are counted or not.
+    // Cost: as kfifo_len.
+    //
+    //     std::size_t waiting = pass.len();
+    [[nodiscard]] std::size_t len() const { return kfifo_len(handle); }
+
+    // Whether len() is 0.
+    // Cost: as len.
+    //
+    //     if (pass.is_empty()) std::puts("no item is there");
+    [[nodiscard]] bool is_empty() const { return len() == 0; }
+
     // One word of the queue, as kfifo_word reads it. Throws Error where it has none with this index.
     // Cost: one atomic load.
     //
@@ -241,11 +253,11 @@ class Pass {
 
   private:
     friend class Queue;
-    using Handles = std::shared_ptr<std::vector<kfifo_pass>>;
+    using Handles = std::shared_ptr<std::vector<kfifo_handle>>;
     Pass(Handles of, std::size_t thread) : all(std::move(of)), handle(&(*all)[thread]) {}
     [[noreturn]] void refuse(std::uint32_t item, std::uint32_t start, std::uint16_t turns,
                              const char *otherwise) const {
-        if (handle->starts == 0) detail::raise(Error(KFIFO_BAD_CALL, "the queue is closed"));
+        if (handle->kind == 0) detail::raise(Error(KFIFO_BAD_CALL, "the queue is closed"));
         const char *why = kfifo_bad_call_text(handle, item, start, turns);
         detail::raise(Error(KFIFO_BAD_CALL, why ? why : otherwise));
     }
@@ -260,7 +272,7 @@ class Pass {
         return {std::nullopt, static_cast<Miss>(status)};
     }
     Handles all; // they stay where they are when the queue goes, closed
-    kfifo_pass *handle;
+    kfifo_handle *handle;
 };
 
 // A queue and its passes. What is left in it when it goes is lost: close it before to have it back.
@@ -318,7 +330,7 @@ class Queue {
     //
     //     kfifo::Pass pass = queue.pass(0);
     [[nodiscard]] Pass pass(std::size_t thread) {
-        std::vector<kfifo_pass> &all = usable();
+        std::vector<kfifo_handle> &all = usable();
         if (thread >= all.size())
             detail::raise(Error(KFIFO_BAD_CALL, "the thread is not 0 to " + std::to_string(all.size() - 1)));
         return Pass(handles, thread);
@@ -330,7 +342,7 @@ class Queue {
     //
     //     std::vector<std::uint32_t> left = queue.close();
     [[nodiscard]] std::vector<std::uint32_t> close() {
-        std::vector<kfifo_pass> &all = usable();
+        std::vector<kfifo_handle> &all = usable();
         std::vector<std::uint32_t> items(slots);
         std::size_t count = 0;
         kfifo_status status = kfifo_close(all.data(), all.size(), items.data(), items.size(), &count);
@@ -345,14 +357,14 @@ class Queue {
     struct Closed {};
     Queue(Closed, std::uint32_t k, std::uint32_t segments, std::size_t threads)
         : slots(std::size_t(k) * segments),
-          handles(std::make_shared<std::vector<kfifo_pass>>(threads <= 64 ? threads : 65)) {}
+          handles(std::make_shared<std::vector<kfifo_handle>>(threads <= 64 ? threads : 65)) {}
 
     kfifo_status open(std::uint32_t k, std::uint32_t segments, std::uint32_t probes, std::uint64_t last) {
         if (handles->empty()) return KFIFO_BAD_THREADS;
         return kfifo_open(k, segments, probes, last, handles->data(), handles->size());
     }
 
-    std::vector<kfifo_pass> &usable() const {
+    std::vector<kfifo_handle> &usable() const {
         if (!handles) detail::raise(Error(KFIFO_BAD_CALL, "the queue was moved from"));
         return *handles;
     }
@@ -363,15 +375,20 @@ class Queue {
 
 // ---- A queue of values of any type that can be moved ----
 
-// How long the versions of a queue of values last: each word has versions up to `last`, 2 to KFIFO_LAST, and with fewer
+// What a queue of values is opened with besides. Each word has versions up to `last`, 2 to KFIFO_LAST, and with fewer
 // left than `reserve`, which is below it, the queue goes on in its next generation. With reserve 0 it does not, and
-// wears out as a queue of items does.
-struct Versions {
+// wears out as a queue of items does. The queue has up to `grows` generations at a time, 1 to 129 - 2 * threads: with
+// more than 1 a give that finds no room opens the next one.
+struct Options {
     std::uint64_t last = KFIFO_LAST;
     std::uint64_t reserve = KFIFO_RESERVE;
+    std::uint32_t grows = 1;
 };
 
 namespace detail {
+
+// How many cells more than its capacity a queue has for each thread, which that one may keep for itself.
+constexpr std::size_t spare_cells = 32;
 
 // A duration in nanoseconds: a negative one is 0, one beyond the clock is for ever.
 template <typename Rep, typename Period> std::uint64_t nanoseconds_of(const std::chrono::duration<Rep, Period> &time) {
@@ -382,12 +399,12 @@ template <typename Rep, typename Period> std::uint64_t nanoseconds_of(const std:
 
 // How a call by a handle is made again while it may do better: not at all.
 struct Once {
-    template <typename Call> kfifo_status operator()(const kfifo_cell_pass *, Call call) const { return call(); }
+    template <typename Call> kfifo_status operator()(const kfifo_handle *, Call call) const { return call(); }
 };
 
 // While it is busy.
 struct UnlessBusy {
-    template <typename Call> kfifo_status operator()(const kfifo_cell_pass *pass, Call call) const {
+    template <typename Call> kfifo_status operator()(const kfifo_handle *pass, Call call) const {
         KFIFO_UNLESS_BUSY(pass, call());
     }
 };
@@ -398,7 +415,7 @@ class Within {
     Within(kfifo_waits *waits, std::uint32_t kind, std::uint64_t nanoseconds)
         : waiter(kfifo_waiter_of(waits, kind, nanoseconds)) {}
 
-    template <typename Call> kfifo_status operator()(const kfifo_cell_pass *, Call call) {
+    template <typename Call> kfifo_status operator()(const kfifo_handle *, Call call) {
         kfifo_status status = call();
         if (!kfifo_may_retry(status)) return status;
         for (;;) {
@@ -422,7 +439,7 @@ template <typename Clock, typename Duration> class Until {
     Until(kfifo_waits *waits, std::uint32_t kind, const std::chrono::time_point<Clock, Duration> &time)
         : of(waits), which(kind), end(time) {}
 
-    template <typename Call> kfifo_status operator()(const kfifo_cell_pass *pass, Call call) {
+    template <typename Call> kfifo_status operator()(const kfifo_handle *pass, Call call) {
         for (;;) {
             auto now = Clock::now();
             kfifo_status status = Within(of, which, now < end ? nanoseconds_of(end - now) : 0)(pass, call);
@@ -440,128 +457,64 @@ template <typename Clock, typename Duration> class Until {
 class InCall {
   public:
 #ifdef KFIFO_DEBUG
-    InCall(kfifo_cell_pass *by, const char *call) : pass(by) {
-        kfifo_begin(pass, pass->starts, &pass->mark, KFIFO_MARK_WRAPPER, call);
-    }
-    ~InCall() { kfifo_end(&pass->mark, KFIFO_MARK_WRAPPER); }
+    InCall(kfifo_handle *by, const char *call) : pass(by) { kfifo_begin(pass, KFIFO_MARK_WRAPPER, call); }
+    ~InCall() { kfifo_end(pass, KFIFO_MARK_WRAPPER); }
 
   private:
-    kfifo_cell_pass *pass;
+    kfifo_handle *pass;
 
   public:
 #else
-    InCall(kfifo_cell_pass *, const char *) {}
+    InCall(kfifo_handle *, const char *) {}
 #endif
     InCall(const InCall &) = delete;
     InCall &operator=(const InCall &) = delete;
 };
 
+// ---- The calls with cells ----
+
+// Puts the cell that is reserved into the queue, and wakes who waits for it.
+inline kfifo_status publish_cell(kfifo_handle *pass) {
+    KFIFO_LOOKING_GIVE(pass, KFIFO_FINISHED, kfifo_bare_publish(pass));
+}
+
+// The same of one of many: where it is done it wakes nobody.
+inline kfifo_status publish_one(kfifo_handle *pass) { KFIFO_ONE_GIVE(KFIFO_WAITS(pass), kfifo_bare_publish(pass)); }
+
 // The handles of a queue of cells. They are closed where the opening did not come to DONE.
 struct CellPasses {
-    CellPasses(std::uint32_t k, std::uint32_t segments, std::size_t threads, std::uint32_t number, Versions versions)
-        : all(threads <= 64 ? threads : 65), tokens(number), status(KFIFO_BAD_THREADS) {
+    CellPasses(std::uint32_t k, std::uint32_t capacity, std::size_t threads, std::uint32_t size,
+               std::uint32_t alignment, const Options &options)
+        : all(kfifo_at_most_one_over(threads)), room(capacity), generations(options.grows), status(KFIFO_BAD_THREADS) {
         if (all.empty()) return;
-        status = kfifo_open_cells_with(k, segments, tokens, versions.last, versions.reserve, all.data(), all.size());
+        status = kfifo_open_cells_with(k, capacity, size, alignment, options.last, options.reserve, options.grows,
+                                       all.data(), all.size());
     }
     // The handles stay where they are.
     CellPasses(CellPasses &&) noexcept = default;
     CellPasses &operator=(CellPasses &&) = delete;
     ~CellPasses() {
-        if (!all.empty()) (void)kfifo_abandon_cells(all.data(), all.size());
+        if (!all.empty()) (void)kfifo_abandon(all.data(), all.size());
     }
 
-    std::vector<kfifo_cell_pass> all;
-    std::uint32_t tokens; // a thread
+    // How many values may be in the queue, or a few more.
+    std::size_t most() const { return (std::size_t(room) + all.size() * spare_cells) * generations; }
+
+    std::vector<kfifo_handle> all;
+    std::uint32_t room, generations;
     kfifo_status status;
 };
 
-// No cell has this number.
-constexpr std::uint64_t no_cell = ~std::uint64_t(0);
+// Where the value of a cell is. The block of a cell begins at a multiple of 16.
+template <typename T> void *place_in(const kfifo_cell_at &cell) {
+    auto block = static_cast<std::byte *>(cell.block);
+    if constexpr (alignof(T) > 16) block += -reinterpret_cast<std::uintptr_t>(block) & (alignof(T) - 1);
+    return block + std::size_t(cell.index) * sizeof(T);
+}
 
-// The cells of a queue of values, and which of them have a value. Each handle has a bit for each cell, and flips it
-// when it makes a value in that cell or destroys one: a cell has a value where an odd number of its bits is set. So a
-// take marks the cell in memory of its own handle. A mark in the cell itself would make the take write to that line of
-// the cache, and the next handle to have the cell would fetch the line from it. The values that are left are destroyed
-// with the array, each once, whatever became of the queue.
-template <typename T> class Cells {
-  public:
-    Cells(std::size_t handles, std::size_t tokens)
-        : count(handles * tokens), gap((line - tokens * sizeof(T) % line) % line),
-          reciprocal(((std::uint64_t(1) << 32) + tokens - 1) / tokens), words((count + 511) / 512 * 8),
-          bits(zeros(handles * words)), end(bits.get() + handles * words),
-          memory(static_cast<std::byte *>(::operator new(count * sizeof(T) + handles * gap, alignment))) {}
-    Cells(const Cells &) = delete;
-    Cells &operator=(const Cells &) = delete;
-    ~Cells() {
-        for_each_value([this](std::uint64_t number) { (*this)[number].~T(); });
-        ::operator delete(memory, alignment);
-    }
-
-    // The bits of a handle.
-    std::uint64_t *bits_of(std::size_t handle) { return &bits[handle * words]; }
-
-    // The value of a cell that has one.
-    T &operator[](std::uint64_t number) { return *std::launder(reinterpret_cast<T *>(place(number))); }
-
-    // Makes a value in a cell that the handle with these bits has. If the constructor throws, the cell has none.
-    template <typename... Arguments> void make(std::uint64_t *own, std::uint64_t number, Arguments &&...arguments) {
-        ::new (place(number)) T(std::forward<Arguments>(arguments)...);
-        own[number / 64] ^= std::uint64_t(1) << number % 64;
-    }
-
-    // Destroys the value of a cell that the handle with these bits has.
-    void destroy(std::uint64_t *own, std::uint64_t number) {
-        (*this)[number].~T();
-        own[number / 64] ^= std::uint64_t(1) << number % 64;
-    }
-
-    std::size_t size() const { return count; }
-
-    // The numbers of the cells that have a value. No handle makes a call meanwhile.
-    std::vector<std::uint64_t> with_values() const {
-        std::vector<std::uint64_t> found;
-        for_each_value([&](std::uint64_t number) { found.push_back(number); });
-        return found;
-    }
-
-  private:
-    // The bits of each handle have lines of the cache of their own.
-    static constexpr std::align_val_t apart{64};
-    struct Free {
-        void operator()(std::uint64_t *block) const { ::operator delete(block, apart); }
-    };
-    static std::uint64_t *zeros(std::size_t number) {
-        auto block = static_cast<std::uint64_t *>(::operator new(number * sizeof(std::uint64_t), apart));
-        std::uninitialized_fill_n(block, number, 0);
-        return block;
-    }
-
-    template <typename Use> void for_each_value(Use use) const {
-        for (std::size_t first = 0; first < count; first += 64) {
-            std::uint64_t odd = 0;
-            for (const std::uint64_t *own = bits.get(); own != end; own += words) odd ^= own[first / 64];
-            for (std::uint64_t number = first; odd; number++, odd >>= 1)
-                if (odd & 1) use(number);
-        }
-    }
-
-    // The cells that a thread begins with begin on a line of the cache, so that no other thread writes to it at first.
-    static constexpr std::size_t line = alignof(T) > 64 ? alignof(T) : 64;
-    static constexpr std::align_val_t alignment{line};
-
-    // After the cells of each thread there is a gap. The product is number / tokens, rounded down, since a
-    // number is less than 2^16 and there are at most 2^10 tokens a thread. A division would take longer than the rest.
-    std::byte *place(std::uint64_t number) const {
-        return memory + number * sizeof(T) + (number * reciprocal >> 32) * gap;
-    }
-
-    std::size_t count, gap;
-    std::uint64_t reciprocal;
-    std::size_t words; // of the bits of each handle
-    std::unique_ptr<std::uint64_t[], Free> bits;
-    std::uint64_t *end; // of the bits
-    std::byte *memory;
-};
+template <typename T> T &value_in(const kfifo_cell_at &cell) {
+    return *std::launder(static_cast<T *>(place_in<T>(cell)));
+}
 
 } // namespace detail
 
@@ -578,30 +531,37 @@ template <typename T> struct [[nodiscard]] TakenValues {
 // A queue of values. Each thread takes a Handle of its own. The queue goes with the last of the ValueQueue and its
 // handles, and with it the values that are left, which are destroyed.
 //
-//     kfifo::ValueQueue<std::string> queue(1, 1024, 2); // k, segments, threads
+//     kfifo::ValueQueue<std::string> queue(1, 512, 2); // k, capacity, threads
 //     auto giver = queue.handle(), taker = queue.handle();
 //     if (giver.give("first") != kfifo::Put::done) return 1;
 //     if (giver.emplace(3, 'x') != kfifo::Put::done) return 1;
 //     kfifo::TakenValue<std::string> taken = taker.take();
 //     std::string word = taken.value.value_or("none yet");
 //
-// The queue has a cell for each token. A value is made in a cell, stays there, and is moved out of it. T may be
-// over-aligned, and needs no default constructor.
+// A value is made in a cell of the queue, stays there, and is moved out of it. T may be over-aligned, and needs no
+// default constructor.
 //
 // The queue does not wear out: before the versions of its words are used up, it goes on in a new generation, as kfifo.h
-// says. Only the opening, a close and a give that opens a generation, once in some 2^40 calls, allocate. Put::worn and
-// Miss::worn come where there was no memory for the next generation until the reserve was used up too: then close the
-// queue, which gives back what is left, and open another.
+// says. A give that finds its generation to be over moves its value on to the next one, as it would move it into the
+// queue. Only the opening, a close and a give that opens a generation, once in some 2^40 calls or where the queue
+// grows, allocate. Put::worn and Miss::worn come where there was no memory for the next generation until the reserve
+// was used up too: then close the queue, which gives back what is left, and open another.
 template <typename T> class ValueQueue {
     // T may be incomplete until a queue is opened: see ValueHandle.
     struct State {
         static_assert(std::is_object_v<T> && std::is_move_constructible_v<T> && std::is_nothrow_destructible_v<T>,
                       "a value is moved or copied out of the queue, and what is left of it destroyed");
 
+        static_assert(alignof(T) <= 4096 && sizeof(T) <= UINT32_MAX,
+                      "a cell has 4,294,967,295 bytes at most, aligned to 4,096");
+
         explicit State(detail::CellPasses of)
-            : passes(std::move(of)), cells(passes.all.size(), passes.tokens), free_passes(all_passes()),
-              kept(passes.all.size(), detail::no_cell) {
+            : passes(std::move(of)), free_passes(all_passes()), kept(passes.all.size()) {
             kfifo_callers_are(waits(), 1); // the queue object
+        }
+        ~State() {
+            if constexpr (!std::is_trivially_destructible_v<T>) (void)empty([](T &) {});
+            kfifo_free_left(&closed);
         }
 
         kfifo_waits *waits() const { return KFIFO_WAITS(&passes.all[0]); }
@@ -633,34 +593,52 @@ template <typename T> class ValueQueue {
         // Whether no handle is out. Then all calls that were made have ended.
         bool is_idle() const { return free_passes.load(std::memory_order_acquire) == all_passes(); }
 
-        // Closes the queue. After it the cells with values are in `left`, in the queue's order. Throws std::bad_alloc,
-        // and nothing changes, where there is no memory for it.
-        void close() {
-            if (is_closed) return;
-            std::vector<std::uint64_t> all = cells.with_values(), queued(cells.size());
-            std::size_t count = 0;
-            left.reserve(all.size());
-            kfifo_status status =
-                kfifo_close_cells(passes.all.data(), passes.all.size(), queued.data(), queued.size(), &count);
-            // The queue is closed and has lost the order of its cells. They are here, and so are their values.
-            if (status == KFIFO_LOST) {
-                left.swap(all);
-            } else {
-                detail::checked(status);
-                // What a take could not move out had been taken before the rest.
-                for (std::uint64_t cell : kept)
-                    if (cell != detail::no_cell) left.push_back(cell);
-                left.insert(left.end(), queued.begin(), queued.begin() + std::ptrdiff_t(count));
-            }
+        // Hands each value that is left to `use`, in the queue's order, and destroys it then. No handle is out. Where
+        // `use` throws, the next call goes on with that value. Where a take comes to WORN, the library closes the
+        // queue, and says what is left: that may come to NO_MEMORY or LOST.
+        template <typename Use> kfifo_status empty(Use use) {
             is_closed = true;
+            for (std::size_t i = 0; i < kept.size(); i++)
+                if (kept[i].block) use_up(kept[i], use);
+            kfifo_status status = next();
+            for (; status == KFIFO_DONE; status = next()) use_up(kept[0], use);
+            return status;
+        }
+
+        // Destroys a value that was handed to `use`. Its cell is released by the next receive, if it is to be.
+        template <typename Use> void use_up(kfifo_cell_at &cell, Use use) {
+            T &value = detail::value_in<T>(cell);
+            use(value);
+            value.~T();
+            cell.block = nullptr;
+        }
+
+        // The next cell with a value: also EMPTY, where there is none.
+        kfifo_status next() {
+            if (KFIFO_WAITS(&passes.all[0])) {
+                kfifo_status status =
+                    detail::UnlessBusy()(&passes.all[0], [&] { return kfifo_bare_receive(&passes.all[0], &kept[0]); });
+                if (status != KFIFO_WORN) return status;
+                status = kfifo_close_cells(passes.all.data(), passes.all.size(), &closed);
+                if (status != KFIFO_DONE) return status;
+            }
+            if (!closed.holds) return KFIFO_EMPTY; // they were lost
+            return static_cast<kfifo_status>(kfifo_c_next_left(&closed, &kept[0]));
+        }
+
+        // Closes the queue. After it the values are in `left`, in the queue's order. Where there is no memory for them,
+        // or a move throws, a further call goes on.
+        void close() {
+            kfifo_status status = empty([this](T &value) { left.push_back(std::move_if_noexcept(value)); });
+            if (status != KFIFO_EMPTY) (void)detail::checked(status);
         }
 
         detail::CellPasses passes;
-        detail::Cells<T> cells;
         std::atomic<std::uint64_t> free_passes; // a bit for each pass that is in no Handle
-        std::vector<std::uint64_t> kept; // by pass that is in none: the cell whose value a take could not move out
+        std::vector<kfifo_cell_at> kept; // by pass that is in none: the cell whose value a take could not move out
         bool is_closed = false;
-        std::vector<std::uint64_t> left;
+        kfifo_left closed{};
+        std::vector<T> left;
     };
 
   public:
@@ -688,12 +666,10 @@ template <typename T> class ValueQueue {
     // room.
     class Handle {
       public:
-        Handle(Handle &&other) noexcept
-            : state(std::move(other.state)), pass(other.pass), bits(other.bits), kept(other.kept) {}
+        Handle(Handle &&other) noexcept : state(std::move(other.state)), pass(other.pass), kept(other.kept) {}
         Handle &operator=(Handle &&other) noexcept {
             std::swap(state, other.state);
             std::swap(pass, other.pass);
-            std::swap(bits, other.bits);
             std::swap(kept, other.kept);
             return *this;
         }
@@ -707,10 +683,11 @@ template <typename T> class ValueQueue {
             kfifo_caller_goes(state->waits());
         }
 
-        // Gives a value to the queue: done, full, no_token, finished or worn. On any answer but done the value is what
-        // it was. It does not wait.
-        // Cost: as kfifo_reserve and kfifo_publish, and a move of T. It asks for memory only where it opens a
-        // generation.
+        // Gives a value to the queue: done, full, finished or worn. On any answer but done the value is what it was. It
+        // does not wait. Full says that as many values as the queue was opened for are in it, or in the hands of calls,
+        // or that it had no memory to grow.
+        // Cost: some 150 instructions, of which a few are atomic steps, and a move of T. It asks for memory only where
+        // it opens a generation.
         //
         //     if (giver.give(std::move(word)) != kfifo::Put::done) std::puts(word.c_str()); // it is still ours
         //
@@ -745,7 +722,8 @@ template <typename T> class ValueQueue {
         }
 
         // Takes one of the k oldest values: the value, or empty, finished or worn. It does not wait.
-        // Cost: as kfifo_receive and kfifo_release, and a move of T.
+        // Cost: some 150 instructions, of which a few are atomic steps, a move of T, and a look into each older
+        // generation.
         //
         //     kfifo::TakenValue<std::string> taken = taker.take();
         //     if (!taken.value) std::puts(kfifo::text(taken.why));
@@ -845,7 +823,7 @@ template <typename T> class ValueQueue {
 
         // Gives each value of a range, until the queue takes no more. It does not wait, and wakes a thread for each
         // when it ends. What is not given stays as it was, from `rest` of the result on, and `why` is done, full,
-        // no_token, finished or worn.
+        // finished or worn.
         // Cost: as a give for each value, but for all but one of the looks for threads that wait.
         //
         //     auto gave = giver.give_all(kfifo::moving(words));
@@ -890,7 +868,7 @@ template <typename T> class ValueQueue {
         //     if (took.why == kfifo::Miss::finished) is_over = true;
         template <typename Container> TookUpTo take_up_to(std::size_t most, Container &out);
 
-        // The same, but returns the values, at most as many as the queue has cells: threads * tokens. Where T throws
+        // The same, but returns the values, at most as many as there may be in the queue at a time. Where T throws
         // after the first one, the call ends with those before, and the next take of the handle throws.
         // Cost: the same, and memory for the vector.
         //
@@ -936,6 +914,22 @@ template <typename T> class ValueQueue {
             return FinishGuard(state);
         }
 
+        // About how many values are in the queue. Calls that run meanwhile are counted or not.
+        // Cost: as kfifo_len.
+        //
+        //     std::size_t backlog = taker.len();
+        [[nodiscard]] std::size_t len() {
+            (void)usable();
+            detail::InCall in_call(pass, "len of kfifo::ValueQueue");
+            return kfifo_len(pass);
+        }
+
+        // Whether len() is 0.
+        // Cost: as len.
+        //
+        //     if (taker.is_empty()) rest();
+        [[nodiscard]] bool is_empty() { return len() == 0; }
+
         // Says that no more values will come, as ValueQueue::finish.
         // Cost: an atomic step and two calls of the system.
         //
@@ -945,8 +939,7 @@ template <typename T> class ValueQueue {
       private:
         friend class ValueQueue;
         Handle(std::shared_ptr<State> of, std::size_t number)
-            : state(std::move(of)), pass(&state->passes.all[number]), bits(state->cells.bits_of(number)),
-              kept(state->kept[number]) {
+            : state(std::move(of)), pass(&state->passes.all[number]), kept(state->kept[number]) {
             kfifo_caller_comes(state->waits());
         }
 
@@ -967,44 +960,75 @@ template <typename T> class ValueQueue {
             return detail::Until<Clock, Duration>(usable(), kind, end);
         }
 
-        // Ends a give that came to nothing, also by an exception: destroys what is left of the value, and gives the
-        // cell back. A cell that stayed reserved would be one that no other handle can have.
+        // The cell that a give has reserved. Where the give comes to nothing, also by an exception, this destroys what
+        // is left of the value, and gives the cell back: no other handle can have one that stays reserved.
         struct Reserved {
-            Reserved(Handle &by, std::uint64_t what) : handle(by), number(what) {}
+            explicit Reserved(Handle &by) : handle(by) {}
             Reserved(const Reserved &) = delete;
             ~Reserved() {
-                // Once it is published another thread may have the cell.
-                if (is_published) return;
-                if (is_made) handle.state->cells.destroy(handle.bits, number);
-                (void)kfifo_cancel(handle.pass);
+                if (cell.block) give_back();
             }
+            kfifo_status reserve() { return kfifo_bare_reserve(handle.pass, &cell); }
             template <typename... Arguments> void make(Arguments &&...arguments) {
-                handle.state->cells.make(handle.bits, number, std::forward<Arguments>(arguments)...);
+                ::new (detail::place_in<T>(cell)) T(std::forward<Arguments>(arguments)...);
                 is_made = true;
             }
+            T &value() { return detail::value_in<T>(cell); }
+            void give_back() {
+                if (is_made) value().~T();
+                is_made = false;
+                cell.block = nullptr;
+                (void)kfifo_bare_cancel(handle.pass);
+            }
+            // Once it is published another thread may have the cell.
+            void is_published() { cell.block = nullptr; }
+
             Handle &handle;
-            std::uint64_t number;
-            bool is_made = false, is_published = false;
+            kfifo_cell_at cell{};
+            bool is_made = false;
         };
 
         // Reserves a cell, makes a value in it and publishes it by this call. A value that is refused is handed back.
-        template <kfifo_status (*publish)(kfifo_cell_pass *) = kfifo_publish_once, typename Calls, typename Make,
+        template <kfifo_status (*publish)(kfifo_handle *) = detail::publish_cell, typename Calls, typename Make,
                   typename Back>
         Put put(Calls calls, Make make, Back back) {
             (void)usable();
             detail::InCall in_call(pass, "a give of kfifo::ValueQueue");
-            std::uint64_t number = 0;
-            kfifo_status status = calls(pass, [&] { return kfifo_reserve(pass, &number); });
+            Reserved reserved(*this);
+            kfifo_status status = calls(pass, [&] { return reserved.reserve(); });
             if (status != KFIFO_DONE) return static_cast<Put>(detail::checked(status));
-            Reserved reserved(*this, number);
             make(reserved);
             status = calls(pass, [&] { return publish(pass); });
-            reserved.is_published = status == KFIFO_DONE;
-            if (!reserved.is_published) back(state->cells[number]);
+            if (__builtin_expect(status == KFIFO_WORN, 0)) status = put_on<publish>(calls, reserved, back);
+            if (status == KFIFO_DONE)
+                reserved.is_published();
+            else if (reserved.is_made)
+                back(reserved.value());
             return static_cast<Put>(detail::checked(status));
         }
 
-        template <kfifo_status (*publish)(kfifo_cell_pass *) = kfifo_publish_once, typename Calls>
+        // Where the generation of a cell takes no more values: moves the value on, to a cell of the next generation. On
+        // the way it is in no cell, since the old one may be gone once it is given back. WORN comes where there is no
+        // next generation.
+        template <kfifo_status (*publish)(kfifo_handle *), typename Calls, typename Back>
+        __attribute__((noinline, cold)) kfifo_status put_on(Calls &calls, Reserved &reserved, Back &back) {
+            kfifo_status status = KFIFO_WORN;
+            for (void *worn = nullptr; status == KFIFO_WORN && reserved.cell.block != worn;) {
+                worn = reserved.cell.block;
+                std::optional<T> carried(std::in_place, std::move_if_noexcept(reserved.value()));
+                reserved.give_back();
+                status = calls(pass, [&] { return reserved.reserve(); });
+                if (status == KFIFO_DONE) {
+                    reserved.make(std::move_if_noexcept(*carried));
+                    status = calls(pass, [&] { return publish(pass); });
+                } else {
+                    back(*carried);
+                }
+            }
+            return status;
+        }
+
+        template <kfifo_status (*publish)(kfifo_handle *) = detail::publish_cell, typename Calls>
         Put give_by(Calls calls, T &&value) {
             constexpr bool comes_back = std::is_nothrow_move_constructible_v<T> && std::is_nothrow_move_assignable_v<T>;
             if constexpr (comes_back || !std::is_copy_constructible_v<T>) {
@@ -1021,18 +1045,19 @@ template <typename T> class ValueQueue {
 
         // Ends a take: destroys what is left of the value and releases its cell, or keeps both for the next take where
         // the value could not be moved out. Either looks for givers that wait: before the release the look would miss
-        // one that then finds no token.
+        // one that then finds no room.
         struct Received {
-            Received(Handle &of, std::uint64_t what) : handle(of), number(what) {}
+            Received(Handle &of, const kfifo_cell_at &what) : handle(of), cell(what) {}
             Received(const Received &) = delete;
             ~Received() {
-                handle.kept = is_out ? detail::no_cell : number;
                 if (!is_out) {
+                    handle.kept = cell;
                     (void)kfifo_after_take(KFIFO_WAITS(handle.pass), KFIFO_DONE);
                     return;
                 }
-                handle.state->cells.destroy(handle.bits, number);
-                (void)kfifo_release(handle.pass);
+                handle.kept.block = nullptr;
+                detail::value_in<T>(cell).~T();
+                (void)kfifo_bare_release(handle.pass);
             }
             // The value is moved out.
             Miss out() {
@@ -1040,18 +1065,18 @@ template <typename T> class ValueQueue {
                 return Miss::empty;
             }
             Handle &handle;
-            std::uint64_t number;
+            kfifo_cell_at cell;
             bool is_out = false;
         };
 
-        // As kfifo_receive_once, but where it got a cell it wakes nobody: Received does that.
-        kfifo_status look(kfifo_waits *waits, std::uint64_t *number) {
-            kfifo_status status = kfifo_bare_receive(pass, number);
+        // Receives a cell, and wakes who waits for room where it got none: Received does so where it got one.
+        kfifo_status look(kfifo_waits *waits, kfifo_cell_at *cell) {
+            kfifo_status status = kfifo_bare_receive(pass, cell);
             if (status == KFIFO_DONE) return status;
             (void)kfifo_after_take(waits, status);
             if (status != KFIFO_EMPTY || !kfifo_is_finished(waits)) return status;
             // A value may have come between the look and the end.
-            status = kfifo_bare_receive(pass, number);
+            status = kfifo_bare_receive(pass, cell);
             if (status == KFIFO_DONE) return status;
             (void)kfifo_after_take(waits, status);
             return status == KFIFO_EMPTY ? KFIFO_FINISHED : status;
@@ -1062,13 +1087,13 @@ template <typename T> class ValueQueue {
         template <typename Calls, typename Use, typename None> auto receive(Calls calls, Use use, None none) {
             kfifo_waits *waits = usable();
             detail::InCall in_call(pass, "a take of kfifo::ValueQueue");
-            std::uint64_t number = kept;
-            if (number == detail::no_cell) {
-                kfifo_status status = calls(pass, [&] { return look(waits, &number); });
+            kfifo_cell_at cell = kept;
+            if (!cell.block) {
+                kfifo_status status = calls(pass, [&] { return look(waits, &cell); });
                 if (status != KFIFO_DONE) return none(static_cast<Miss>(detail::checked(status)));
             }
-            Received received(*this, number);
-            return use(state->cells[number], received);
+            Received received(*this, cell);
+            return use(detail::value_in<T>(cell), received);
         }
 
         template <typename Calls> TakenValue<T> take_by(Calls calls) {
@@ -1091,9 +1116,8 @@ template <typename T> class ValueQueue {
         template <typename Calls> TakenValues<T> take_up_to_by(Calls calls, std::size_t most);
 
         std::shared_ptr<State> state;
-        kfifo_cell_pass *pass; // of the state
-        std::uint64_t *bits;   // of the state
-        std::uint64_t kept;    // the cell whose value a take could not move out
+        kfifo_handle *pass; // of the state
+        kfifo_cell_at kept; // the cell whose value a take could not move out, or none
     };
 
     // What comes out of a queue until its end, as a range, in C++20 a view: handle.values() | std::views::take(3). One
@@ -1160,46 +1184,43 @@ template <typename T> class ValueQueue {
         Handle *handle;
     };
 
-    // k slots in each of these segments, for `threads` threads. A value in the queue has a token, and of those that a
-    // thread begins with the others keep up to 15 each. So a thread can always have `tokens - 15 * (threads - 1)`
-    // values in the queue, and may find Put::no_token with more. Unless another number is given, it is that of
-    // kfifo_enough_tokens: with it a give finds a token until the queue is full, whatever the others keep between their
-    // calls, but where that would be more than KFIFO_MAX_TOKENS. The queue has room for threads * tokens values of T
-    // from the beginning. Throws Error where there is no such queue, and std::bad_alloc.
-    // Cost: all this memory is asked for here, and the words of the queue are written.
+    // Room for `capacity` values or more, for `threads` threads: a take gets one of the k oldest. There is that much
+    // room whatever the handles keep for themselves between their calls. With k = 1 values come out in their order;
+    // with a greater k threads get in each other's way less. The greatest capacity is
+    // threads * (1022 * k / threads - 32), divided downwards: with k = 1 a queue has at most 30 threads. Throws Error
+    // where there is no such queue, and std::bad_alloc.
+    // Cost: the memory of a generation is asked for here: that of (capacity + 32 * threads) values of T, and some 50
+    // bytes for each. The words of the queue are written.
     //
-    //     kfifo::ValueQueue<std::string> queue(1, 1024, 2); // k, segments, threads
-    ValueQueue(std::uint32_t k, std::uint32_t segments, std::size_t threads)
-        : ValueQueue(k, segments, threads, kfifo_enough_tokens(k, segments, threads)) {}
+    //     kfifo::ValueQueue<std::string> queue(1, 512, 2); // k, capacity, threads
+    ValueQueue(std::uint32_t k, std::uint32_t capacity, std::size_t threads)
+        : ValueQueue(k, capacity, threads, Options()) {}
 
-    ValueQueue(std::uint32_t k, std::uint32_t segments, std::size_t threads, std::uint32_t tokens)
-        : ValueQueue(k, segments, threads, tokens, Versions()) {}
-
-    // The same with versions of your own. Throws Error also where there are no such ones.
-    // Cost: the same.
+    // The same with options of your own. One that grows has room for as many times `capacity` values as it may have
+    // generations, while there is memory, and gives the memory of those back that are empty. Throws Error also where
+    // there are no such options.
+    // Cost: the same. A give that opens a generation asks for as much again.
     //
-    //     kfifo::ValueQueue<std::string> changing(1, 8, 2, 24, kfifo::Versions{64, 32}); // it changes all the time
-    ValueQueue(std::uint32_t k, std::uint32_t segments, std::size_t threads, std::uint32_t tokens, Versions versions)
-        : ValueQueue(open(k, segments, threads, tokens, versions)) {}
+    //     kfifo::Options options;
+    //     options.grows = 100; // up to 51,200 values
+    //     kfifo::ValueQueue<std::string> growing(1, 512, 2, options);
+    ValueQueue(std::uint32_t k, std::uint32_t capacity, std::size_t threads, Options options)
+        : ValueQueue(open(k, capacity, threads, options)) {}
 
     // The same, but they say why there is no such queue, and throw nothing: for builds without exceptions too. In those
-    // a program that has no memory for the cells ends.
+    // a program that has no memory for the handles ends.
     // Cost: the same.
     //
-    //     auto opened = kfifo::ValueQueue<std::string>::try_open(1, 8, 2); // k, segments, threads
+    //     auto opened = kfifo::ValueQueue<std::string>::try_open(1, 512, 2); // k, capacity, threads
     //     if (!opened.queue) {
     //         std::fprintf(stderr, "no queue: %s\n", kfifo_status_text(opened.status));
     //         return 1;
     //     }
-    static Opened<ValueQueue> try_open(std::uint32_t k, std::uint32_t segments, std::size_t threads) {
-        return try_open(k, segments, threads, kfifo_enough_tokens(k, segments, threads));
-    }
-
-    static Opened<ValueQueue> try_open(std::uint32_t k, std::uint32_t segments, std::size_t threads,
-                                       std::uint32_t tokens, Versions versions = Versions()) {
+    static Opened<ValueQueue> try_open(std::uint32_t k, std::uint32_t capacity, std::size_t threads,
+                                       Options options = Options()) {
         kfifo_status status = KFIFO_NO_MEMORY;
         KFIFO_TRY {
-            detail::CellPasses passes(k, segments, threads, tokens, versions);
+            detail::CellPasses passes = cells_of(k, capacity, threads, options);
             if (passes.status == KFIFO_DONE) return {ValueQueue(std::move(passes)), KFIFO_DONE};
             status = passes.status;
         }
@@ -1244,21 +1265,28 @@ template <typename T> class ValueQueue {
         (void)kfifo_finish_by(state->waits());
     }
 
+    // How many values the queue has room for at least, as it was opened: a queue that grows has so many in each
+    // generation.
+    // Cost: a read.
+    //
+    //     std::uint32_t capacity = queue.capacity();
+    [[nodiscard]] std::uint32_t capacity() const { return usable().passes.room; }
+
     // Closes the queue and gives back the values that are left, in its order. Throws Error, and nothing changes, where
-    // a handle is still out, and std::bad_alloc, and no value is lost, where there is no memory for them. Where the
-    // library alone has no memory to tell the order, the values come in another one.
-    // Cost: a look at each slot and each cell, and it asks for memory.
+    // a handle is still out. Throws std::bad_alloc where there is no memory for the vector: no value is lost then. The
+    // queue takes no more calls, but a further close gives them all back.
+    // Cost: a take of each value, and memory for the vector.
     //
     //     std::vector<std::string> left = queue.close();
     //
-    // Where a move of T may throw and T can be copied, the values are copied out. If that throws, no value is lost: the
-    // queue takes no more calls, but a further close gives them all back.
+    // Where a move of T may throw and T can be copied, the values are copied out. If that throws, no value is lost
+    // either. Of a queue that is worn out, the library has to ask for memory to find what is left. Where it has none,
+    // the call throws std::bad_alloc: mostly a further one goes on, but where the library got a part of it, what is
+    // left is lost, and its destructors do not run. Nor do they where such a queue goes.
     [[nodiscard]] std::vector<T> close() {
         if (!usable().is_idle()) detail::raise(Error(KFIFO_BAD_CALL, "a handle of the queue is in use"));
-        std::vector<T> values;
-        values.reserve(state->is_closed ? state->left.size() : state->cells.with_values().size());
         state->close();
-        for (std::uint64_t number : state->left) values.push_back(std::move_if_noexcept(state->cells[number]));
+        std::vector<T> values = std::move(state->left);
         state.reset();
         was_closed = true;
         return values;
@@ -1267,9 +1295,17 @@ template <typename T> class ValueQueue {
   private:
     explicit ValueQueue(detail::CellPasses passes) : state(std::make_shared<State>(std::move(passes))) {}
 
-    static detail::CellPasses open(std::uint32_t k, std::uint32_t segments, std::size_t threads, std::uint32_t tokens,
-                                   Versions versions) {
-        detail::CellPasses passes(k, segments, threads, tokens, versions);
+    static detail::CellPasses cells_of(std::uint32_t k, std::uint32_t capacity, std::size_t threads,
+                                       const Options &options) {
+        return {k, capacity, threads, std::uint32_t(sizeof(T)), std::uint32_t(alignof(T)), options};
+    }
+
+    static detail::CellPasses open(std::uint32_t k, std::uint32_t capacity, std::size_t threads,
+                                   const Options &options) {
+        detail::CellPasses passes = cells_of(k, capacity, threads, options);
+        // The handles are there, so this is the one argument that is left.
+        if (passes.status == KFIFO_BAD_CALL)
+            detail::raise(Error(KFIFO_BAD_CALL, "the queue may not grow to so many generations"));
         detail::checked(passes.status);
         return passes;
     }

@@ -97,7 +97,7 @@ class GivesMany {
 // How a call of many is made again that waits by these: before a wait it wakes who waits for what it has given, since
 // it may be they who make room.
 template <typename Calls> struct WakingFirst {
-    template <typename Call> kfifo_status operator()(const kfifo_cell_pass *pass, Call call) const {
+    template <typename Call> kfifo_status operator()(const kfifo_handle *pass, Call call) const {
         kfifo_status status = call();
         if (!kfifo_may_retry(status)) return status;
         gives.wake();
@@ -219,9 +219,9 @@ Put ValueQueue<T>::Handle::give_one(Calls calls, Reference &&value) {
     static_assert(std::is_convertible_v<Reference &&, T>,
                   "a value of the range cannot be copied or converted to one of the queue: see kfifo::moving");
     if constexpr (std::is_same_v<Reference &&, T &&>) {
-        return give_by<kfifo_one_publish_once>(calls, std::move(value));
+        return give_by<detail::publish_one>(calls, std::move(value));
     } else {
-        return put<kfifo_one_publish_once>(
+        return put<detail::publish_one>(
             calls, [&](Reserved &cell) { cell.make(std::forward<Reference>(value)); }, [](T &) {});
     }
 }
@@ -294,30 +294,32 @@ template <typename T> struct ValueQueue<T>::Handle::LastCell {
     LastCell &operator=(const LastCell &) = delete;
     ~LastCell() {
         if (has_value) {
-            handle.kept = number;
+            handle.kept = cell;
             (void)kfifo_after_take(KFIFO_WAITS(handle.pass), KFIFO_DONE);
         } else if (is_received) {
-            (void)kfifo_release(handle.pass);
+            (void)kfifo_bare_release(handle.pass);
         }
     }
 
     // Takes a value, if there is one: that of the cell that was kept, or one of the queue.
     template <typename Calls> kfifo_status take(Calls &&calls, kfifo_waits *waits) {
-        number = std::exchange(handle.kept, detail::no_cell);
+        cell = std::exchange(handle.kept, kfifo_cell_at{});
         kfifo_status status = KFIFO_DONE;
-        if (number == detail::no_cell) status = calls(handle.pass, [&] { return handle.look(waits, &number); });
+        if (!cell.block) status = calls(handle.pass, [&] { return handle.look(waits, &cell); });
         is_received = has_value = status == KFIFO_DONE;
         return status;
     }
 
+    T &value() { return detail::value_in<T>(cell); }
+
     // The value is moved out.
     void out() {
-        handle.state->cells.destroy(handle.bits, number);
+        value().~T();
         has_value = false;
     }
 
     Handle &handle;
-    std::uint64_t number = detail::no_cell;
+    kfifo_cell_at cell{};
     bool is_received = false, has_value = false;
 };
 
@@ -335,7 +337,7 @@ TookUpTo ValueQueue<T>::Handle::take_up_to_by(Calls calls, std::size_t most, Con
             takes.all.why = static_cast<Miss>(detail::checked(status));
             break;
         }
-        out.push_back(std::move_if_noexcept(state->cells[last.number]));
+        out.push_back(std::move_if_noexcept(last.value()));
         last.out();
     }
     return takes.all;
@@ -346,8 +348,9 @@ template <typename Calls>
 TakenValues<T> ValueQueue<T>::Handle::take_up_to_by(Calls calls, std::size_t most) {
     (void)usable();
     TakenValues<T> taken;
-    most = most < state->cells.size() ? most : state->cells.size();
-    taken.values.reserve(most);
+    std::size_t room = state->passes.room;
+    most = most < state->passes.most() ? most : state->passes.most();
+    taken.values.reserve(most < room ? most : room);
     KFIFO_TRY { taken.why = take_up_to_by(std::move(calls), most, taken.values).why; }
     KFIFO_CATCH {
         if (taken.values.empty()) KFIFO_THROW_AGAIN;

@@ -23,13 +23,16 @@
    A look before the call, a word that is read after the second look, or no second look would break this. So would
    acquire and release alone: the giver's look and the taker's second look could then both miss.
 
-   Givers that find FULL sleep in the same way, and takes wake them. A give finds FULL by an item in the segment that
-   takes empty. Either a take removes that item and then looks for givers, or the put that brought it takes it back, and
-   that give looks for givers when it ends. One take may make room for several givers, and the giver that it wakes may
-   find its room gone. So a give that was done wakes the next giver too, and a call that gives up after BUSY hands its
-   wake-up on. Where a giver sleeps for want of a token, a take wakes all givers, since any of them may have one now. Of
-   cells it is the release that brings a token, so that one looks for givers too. A take in C++ looks once, after its
-   release.
+   Givers that find FULL sleep in the same way, and takes wake them. A put finds FULL by an item in the segment that
+   gets empty. Either a get removes that item and then looks for givers, or the put that brought it takes it back, and
+   that one looks for givers when it ends. One get may make room for several givers, and the giver that it wakes may
+   find its room gone. So a put that was done wakes the next giver too, and a call that gives up after BUSY hands its
+   wake-up on.
+
+   A give or a reserve finds FULL where no token or cell is free. A take, a release or a cancel frees one and then looks
+   for givers, and wakes one. That one may find none, since a handle keeps some of those that it frees. When it lays a
+   batch of them into the pool, that call wakes a giver too. Who takes the batch wakes the next when its give is done,
+   so while the pool has some a giver is on its way to them.
 
    test_wait_model.cpp goes through all interleavings of three threads in a model of these steps. */
 #ifndef KFIFO_WAIT_H
@@ -66,17 +69,17 @@ static inline kfifo_waiter kfifo_waiter_of(kfifo_waits *waits, uint32_t kind, ui
 
 /* Waits, and says whether to look again. With KFIFO_DEBUG the handle is in a call meanwhile. */
 #ifdef KFIFO_DEBUG
-static inline int kfifo_wait_again_by(const void *pass, uint32_t starts, uint32_t *mark, kfifo_waiter *waiter,
-                                      kfifo_status *status, const char *call) {
-    kfifo_begin(pass, starts, mark, KFIFO_MARK_CALL, call);
+static inline int kfifo_wait_again_by(kfifo_handle *handle, kfifo_waiter *waiter, kfifo_status *status,
+                                      const char *call) {
+    kfifo_begin(handle, KFIFO_MARK_CALL, call);
     int again = kfifo_wait_again(waiter, status);
-    kfifo_end(mark, KFIFO_MARK_CALL);
+    kfifo_end(handle, KFIFO_MARK_CALL);
     return again;
 }
-#define KFIFO_WAIT_AGAIN(pass, waiter, status)                                                                         \
-    ((pass) && kfifo_wait_again_by((pass), (pass)->starts, &(pass)->mark, (waiter), (status), __func__))
+#define KFIFO_WAIT_AGAIN(handle, waiter, status)                                                                       \
+    ((handle) && kfifo_wait_again_by((handle), (waiter), (status), __func__))
 #else
-#define KFIFO_WAIT_AGAIN(pass, waiter, status) kfifo_wait_again((waiter), (status))
+#define KFIFO_WAIT_AGAIN(handle, waiter, status) kfifo_wait_again((waiter), (status))
 #endif
 
 /* Whether a call that came to this cannot do better, since the caller is alone: it makes the call once more, since
@@ -87,28 +90,28 @@ static inline int kfifo_may_be_over(kfifo_waits *waits, kfifo_status status) {
 
 /* Waits while a call that came to `status` may do better, and makes it again: `status` is then what it came to last,
    FINISHED where nobody else is left. One waiter may be used for several waits, whose time is one. */
-#define KFIFO_WAIT_FOR(pass, waiter, status, call)                                                                     \
+#define KFIFO_WAIT_FOR(handle, waiter, status, call)                                                                   \
     for (int again = 1; again;) {                                                                                      \
         if (kfifo_may_be_over((waiter).waits, status)) {                                                               \
             status = (call);                                                                                           \
             if (kfifo_may_retry(status) && status != KFIFO_BUSY) status = KFIFO_FINISHED;                              \
         }                                                                                                              \
-        again = KFIFO_WAIT_AGAIN(pass, &(waiter), &status);                                                            \
+        again = KFIFO_WAIT_AGAIN(handle, &(waiter), &status);                                                          \
         if (again) status = (call);                                                                                    \
     }
 
 /* Returns what a call comes to that is made again while it may do better. */
-#define KFIFO_WAITING(pass, kind, call)                                                                                \
+#define KFIFO_WAITING(handle, kind, call)                                                                              \
     kfifo_status status = (call);                                                                                      \
     if (__builtin_expect(!kfifo_may_retry(status), 1)) return status;                                                  \
-    kfifo_waiter waiter = kfifo_waiter_of(KFIFO_WAITS(pass), (kind), nanoseconds);                                     \
-    KFIFO_WAIT_FOR(pass, waiter, status, call)                                                                         \
+    kfifo_waiter waiter = kfifo_waiter_of(KFIFO_WAITS(handle), (kind), nanoseconds);                                   \
+    KFIFO_WAIT_FOR(handle, waiter, status, call)                                                                       \
     return status
 
 /* ---- Values ----
 
    A call that waits returns DONE; TIMED_OUT, and nothing was given or taken; FINISHED; WORN; or BAD_CALL. It
-   never returns FULL, NO_TOKEN, EMPTY or BUSY. FINISHED comes too where no other handle of the queue is open. With 0
+   never returns FULL, EMPTY or BUSY. FINISHED comes too where no other handle of the queue is open. With 0
    nanoseconds it looks once and does not sleep. A call that need not wait costs as much as one of kfifo.h; one that
    sleeps makes a call of the system, and so does the one that wakes it. Who gets WORN calls kfifo_finish, so that the
    others end too, and then closes the queue. */
@@ -116,75 +119,70 @@ static inline int kfifo_may_be_over(kfifo_waits *waits, kfifo_status status) {
 /* Gives a value, and waits at most `nanoseconds` while there is no room for it.
    Cost: as kfifo_give where it need not wait.
 
-       if (kfifo_give_wait(&passes[0], 7, KFIFO_FOREVER) != KFIFO_DONE) return 1;
+       if (kfifo_give_wait(&handles[0], 7, KFIFO_FOREVER) != KFIFO_DONE) return 1;
 */
-KFIFO_MUST_USE static inline kfifo_status kfifo_give_wait(kfifo_value_pass *pass, uint64_t value,
-                                                          uint64_t nanoseconds) {
-    KFIFO_WAITING(pass, KFIFO_WAITS_GIVER, kfifo_give_once(pass, value));
+KFIFO_MUST_USE static inline kfifo_status kfifo_give_wait(kfifo_handle *handle, uint64_t value, uint64_t nanoseconds) {
+    KFIFO_WAITING(handle, KFIFO_WAITS_GIVER, kfifo_give_once(handle, value));
 }
 
 /* Takes a value, and waits at most `nanoseconds` while there is none. FINISHED comes exactly where the queue was
    finished, and then found empty.
    Cost: as kfifo_take where it need not wait.
 
-       while (kfifo_take_wait(&passes[1], &value, KFIFO_FOREVER) == KFIFO_DONE) sum += value;
+       while (kfifo_take_wait(&handles[1], &value, KFIFO_FOREVER) == KFIFO_DONE) sum += value;
 */
-KFIFO_MUST_USE static inline kfifo_status kfifo_take_wait(kfifo_value_pass *pass, uint64_t *value,
-                                                          uint64_t nanoseconds) {
-    KFIFO_WAITING(pass, KFIFO_WAITS_TAKER, kfifo_take_once(pass, value));
+KFIFO_MUST_USE static inline kfifo_status kfifo_take_wait(kfifo_handle *handle, uint64_t *value, uint64_t nanoseconds) {
+    KFIFO_WAITING(handle, KFIFO_WAITS_TAKER, kfifo_take_once(handle, value));
 }
 
 /* The same with a pointer for a value.
    Cost: as that of the calls for values.
 
-       if (kfifo_give_pointer_wait(&passes[0], order, 1000000) == KFIFO_TIMED_OUT) free(order); // it is still ours
-       if (kfifo_take_pointer_wait(&passes[1], &taken, 1000000) == KFIFO_DONE) free(taken);
+       if (kfifo_give_pointer_wait(&handles[0], order, 1000000) == KFIFO_TIMED_OUT) free(order); // it is still ours
+       if (kfifo_take_pointer_wait(&handles[1], &taken, 1000000) == KFIFO_DONE) free(taken);
 */
-KFIFO_MUST_USE static inline kfifo_status kfifo_give_pointer_wait(kfifo_value_pass *pass, void *pointer,
+KFIFO_MUST_USE static inline kfifo_status kfifo_give_pointer_wait(kfifo_handle *handle, void *pointer,
                                                                   uint64_t nanoseconds) {
-    return kfifo_give_wait(pass, KFIFO_CAST_POINTER(uintptr_t, pointer), nanoseconds);
+    return kfifo_give_wait(handle, KFIFO_CAST_POINTER(uintptr_t, pointer), nanoseconds);
 }
 
-KFIFO_MUST_USE static inline kfifo_status kfifo_take_pointer_wait(kfifo_value_pass *pass, void **pointer,
+KFIFO_MUST_USE static inline kfifo_status kfifo_take_pointer_wait(kfifo_handle *handle, void **pointer,
                                                                   uint64_t nanoseconds) {
     uint64_t value;
     if (!pointer) return KFIFO_BAD_CALL;
-    kfifo_status status = kfifo_take_wait(pass, &value, nanoseconds);
+    kfifo_status status = kfifo_take_wait(handle, &value, nanoseconds);
     if (status == KFIFO_DONE) *pointer = KFIFO_CAST_POINTER(void *, KFIFO_CAST(uintptr_t, value));
     return status;
 }
 
-/* ---- Cells: the same. A call that waits never returns NO_TOKEN or FULL, and after any but DONE the cell that was
-   reserved still is ---- */
+/* ---- Cells: the same. After any but DONE the cell that was reserved still is ---- */
 
 /* Reserves a cell, and waits at most `nanoseconds` while there is none.
    Cost: as kfifo_reserve where it need not wait.
 
-       if (kfifo_reserve_wait(&passes[0], &cell, KFIFO_FOREVER) != KFIFO_DONE) return 1;
+       if (kfifo_reserve_wait(&handles[0], &cell, KFIFO_FOREVER) != KFIFO_DONE) return 1;
 */
-KFIFO_MUST_USE static inline kfifo_status kfifo_reserve_wait(kfifo_cell_pass *pass, uint64_t *cell,
-                                                             uint64_t nanoseconds) {
-    KFIFO_WAITING(pass, KFIFO_WAITS_GIVER, kfifo_reserve(pass, cell));
+KFIFO_MUST_USE static inline kfifo_status kfifo_reserve_wait(kfifo_handle *handle, void **cell, uint64_t nanoseconds) {
+    KFIFO_WAITING(handle, KFIFO_WAITS_GIVER, kfifo_reserve(handle, cell));
 }
 
 /* Puts the reserved cell into the queue, and waits at most `nanoseconds` while there is no room for it.
    Cost: as kfifo_publish where it need not wait.
 
-       if (kfifo_publish_wait(&passes[0], KFIFO_FOREVER) != KFIFO_DONE) return 1;
+       if (kfifo_publish_wait(&handles[0], KFIFO_FOREVER) != KFIFO_DONE) return 1;
 */
-KFIFO_MUST_USE static inline kfifo_status kfifo_publish_wait(kfifo_cell_pass *pass, uint64_t nanoseconds) {
-    KFIFO_WAITING(pass, KFIFO_WAITS_GIVER, kfifo_publish_once(pass));
+KFIFO_MUST_USE static inline kfifo_status kfifo_publish_wait(kfifo_handle *handle, uint64_t nanoseconds) {
+    KFIFO_WAITING(handle, KFIFO_WAITS_GIVER, kfifo_publish_once(handle));
 }
 
 /* Takes a cell, and waits at most `nanoseconds` while there is none. The call first releases the cell that the
    handle received before. FINISHED comes exactly where the queue was finished, and then found empty.
    Cost: as kfifo_receive where it need not wait.
 
-       if (kfifo_receive_wait(&passes[1], &cell, KFIFO_FOREVER) != KFIFO_DONE) return 1;
+       if (kfifo_receive_wait(&handles[1], &cell, KFIFO_FOREVER) != KFIFO_DONE) return 1;
 */
-KFIFO_MUST_USE static inline kfifo_status kfifo_receive_wait(kfifo_cell_pass *pass, uint64_t *cell,
-                                                             uint64_t nanoseconds) {
-    KFIFO_WAITING(pass, KFIFO_WAITS_TAKER, kfifo_receive_once(pass, cell));
+KFIFO_MUST_USE static inline kfifo_status kfifo_receive_wait(kfifo_handle *handle, void **cell, uint64_t nanoseconds) {
+    KFIFO_WAITING(handle, KFIFO_WAITS_TAKER, kfifo_receive_once(handle, cell));
 }
 
 /* ---- Items: the same ---- */
@@ -192,15 +190,15 @@ KFIFO_MUST_USE static inline kfifo_status kfifo_receive_wait(kfifo_cell_pass *pa
 /* Puts an item, and takes one, and waits at most `nanoseconds` while there is no room or no item.
    Cost: as kfifo_put and kfifo_get where they need not wait.
 
-       if (kfifo_put_wait(&passes[0], 7, KFIFO_FOREVER) != KFIFO_DONE) return 1;
-       if (kfifo_get_wait(&passes[1], &item, KFIFO_FOREVER) != KFIFO_DONE) return 1;
+       if (kfifo_put_wait(&handles[0], 7, KFIFO_FOREVER) != KFIFO_DONE) return 1;
+       if (kfifo_get_wait(&handles[1], &item, KFIFO_FOREVER) != KFIFO_DONE) return 1;
 */
-KFIFO_MUST_USE static inline kfifo_status kfifo_put_wait(kfifo_pass *pass, uint32_t item, uint64_t nanoseconds) {
-    KFIFO_WAITING(pass, KFIFO_WAITS_GIVER, kfifo_put_once(pass, item));
+KFIFO_MUST_USE static inline kfifo_status kfifo_put_wait(kfifo_handle *handle, uint32_t item, uint64_t nanoseconds) {
+    KFIFO_WAITING(handle, KFIFO_WAITS_GIVER, kfifo_put_once(handle, item));
 }
 
-KFIFO_MUST_USE static inline kfifo_status kfifo_get_wait(kfifo_pass *pass, uint32_t *item, uint64_t nanoseconds) {
-    KFIFO_WAITING(pass, KFIFO_WAITS_TAKER, kfifo_get_once(pass, item));
+KFIFO_MUST_USE static inline kfifo_status kfifo_get_wait(kfifo_handle *handle, uint32_t *item, uint64_t nanoseconds) {
+    KFIFO_WAITING(handle, KFIFO_WAITS_TAKER, kfifo_get_once(handle, item));
 }
 
 #ifdef __cplusplus

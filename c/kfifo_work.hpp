@@ -52,7 +52,9 @@ namespace kfifo::work {
 // How a run is made.
 struct Options {
     std::size_t threads = 0; // how many workers, 1 to 64, of which the calling thread is one; 0: as many as processors
-    std::uint32_t k = 16;    // one of the k oldest tasks is begun next, 1 to 64: 1 keeps the order, 64 is the fastest
+    // One of the k oldest tasks is begun next, 1 to 64: 1 keeps the order, 64 is the fastest. For more than 30 threads
+    // it is at least 2, and for more than 61 at least 3.
+    std::uint32_t k = 16;
 };
 
 // What one worker did.
@@ -92,25 +94,23 @@ constexpr std::size_t line = 64;
 
 constexpr std::size_t rounded_up(std::size_t size, std::size_t to) { return (size + to - 1) / to * to; }
 
-// The sizes of the queue of a run. A generation has this many slots, with a token for each: few generations are opened
-// for many tasks, and one is cheap enough for a run of few. A handle has 1,024 tokens at most, so the queue is opened
-// with more handles than workers where that makes room, and those that nobody needs are given back at once.
+// The sizes of the queue of a run. A generation has room for up to 16,384 tasks, less 32 for each worker: few
+// generations are opened for many tasks, and one is cheap enough for a run of few. With a k too small for so many
+// workers there is no queue: it is opened with the least that will do.
 struct Sizes {
-    static constexpr std::uint32_t slots = 16384;
+    static constexpr std::size_t room = 16384;
 
-    Sizes(std::uint32_t k, std::size_t threads) : segments(slots / k < 1024 ? slots / k : 1024) {
-        std::size_t room = std::size_t(k) * segments;
-        handles = (room + KFIFO_MAX_TOKENS - 1) / KFIFO_MAX_TOKENS;
-        if (handles < threads) handles = threads;
-        std::size_t most = KFIFO_MOST_TOKENS / handles - KFIFO_SPARE_TOKENS;
-        std::size_t each = (room + handles - 1) / handles;
-        tokens = static_cast<std::uint32_t>(each < most ? each : most);
-        generations = static_cast<std::uint32_t>(129 - 2 * handles);
+    Sizes(std::uint32_t least, std::size_t threads) : k(least) {
+        while (segments * k / threads <= kfifo::detail::spare_cells) k++;
+        std::size_t most = segments * k / threads, each = room / threads;
+        capacity = static_cast<std::uint32_t>(threads * ((most < each ? most : each) - kfifo::detail::spare_cells));
+        generations = static_cast<std::uint32_t>(129 - 2 * threads);
     }
 
-    std::uint32_t segments;
-    std::size_t handles;
-    std::uint32_t tokens, generations; // tokens a handle
+    std::uint32_t k, capacity, generations;
+
+  private:
+    static constexpr std::size_t segments = 1022;
 };
 
 // Words in their order: a queue for one thread.
@@ -395,7 +395,7 @@ template <typename Task> class alignas(2 * line) Worker {
     }
 
     // A task leaves the list only when it is in the queue: at each moment it is in one of the two.
-    void move_on_by(kfifo_value_pass *by, std::size_t most) {
+    void move_on_by(kfifo_handle *by, std::size_t most) {
         while (most-- > 0 && !list.is_empty() && kfifo_give(by, list.front()) == KFIFO_DONE) unlist_first();
     }
 
@@ -468,7 +468,7 @@ template <typename Task> class alignas(2 * line) Worker {
         return all_done == pool->sum(&Worker::given);
     }
 
-    kfifo_value_pass *pass = nullptr;
+    kfifo_handle *pass = nullptr;
     std::uint64_t kept = 0;
     bool is_kept = false;
     // The list. Only its owner adds to it, so where its owner finds 0 in `listed` it is empty.
@@ -494,7 +494,7 @@ template <typename Task> class Pool {
     ~Pool() {
         std::uint64_t word = 0;
         while (next_left(word)) workers[0].carrier.take(word, [](Task &&) {});
-        if (is_open) (void)kfifo_abandon_values(passes, workers.size());
+        if (is_open) (void)kfifo_abandon(passes, workers.size());
     }
 
     // Does all tasks, of which there are so many at first. Throws what a task threw first.
@@ -561,7 +561,7 @@ template <typename Task> class Pool {
     std::vector<Worker<Task>> workers;
     std::atomic<std::size_t> lists{0}; // how many workers have tasks in their lists
     bool is_open = false;              // set by the only worker, before it starts others
-    kfifo_value_pass passes[64] = {};
+    kfifo_handle passes[64] = {};
     Chains chains;
 
   private:
@@ -574,11 +574,9 @@ template <typename Task> class Pool {
     // Opens the queue, and moves the tasks of the only worker into it.
     bool open() {
         Sizes sizes(k, workers.size());
-        if (kfifo_open_growing_values(k, sizes.segments, sizes.tokens, sizes.generations, passes, sizes.handles) !=
-            KFIFO_DONE)
+        if (kfifo_open_values_with(sizes.k, sizes.capacity, KFIFO_LAST, KFIFO_RESERVE, sizes.generations, passes,
+                                   workers.size()) != KFIFO_DONE)
             return false;
-        if (sizes.handles > workers.size())
-            (void)kfifo_abandon_values(passes + workers.size(), sizes.handles - workers.size());
         is_open = true;
         workers[0].move_on(std::numeric_limits<std::size_t>::max());
         return true;
@@ -602,7 +600,7 @@ template <typename Task> class Pool {
         }
         KFIFO_CATCH {
             limit.store(which, std::memory_order_relaxed);
-            (void)kfifo_abandon_values(passes + which, workers.size() - which);
+            (void)kfifo_abandon(passes + which, workers.size() - which);
         }
     }
 

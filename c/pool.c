@@ -10,7 +10,7 @@ enum { WORKERS = 4, JOBS = 10000, K = 4, SEGMENTS = 256 };
 static uint64_t numbers[JOBS + 1]; /* the jobs; numbers[0] is never used */
 
 struct worker {
-    kfifo_pass *pass;
+    kfifo_handle *handle;
     uint64_t sum;
     uint32_t jobs;
     kfifo_status end; /* why the worker ended */
@@ -19,32 +19,32 @@ struct worker {
 static void *work(void *argument) {
     struct worker *self = argument;
     uint32_t item = 0;
-    while ((self->end = kfifo_get_wait(self->pass, &item, KFIFO_FOREVER)) == KFIFO_DONE) {
+    while ((self->end = kfifo_get_wait(self->handle, &item, KFIFO_FOREVER)) == KFIFO_DONE) {
         self->sum += numbers[item];
         self->jobs++;
     }
-    if (self->end != KFIFO_FINISHED && kfifo_finish(self->pass) != KFIFO_DONE) abort(); /* the others end too */
+    if (self->end != KFIFO_FINISHED && kfifo_finish(self->handle) != KFIFO_DONE) abort(); /* the others end too */
     return NULL;
 }
 
 int main(void) {
-    kfifo_pass passes[WORKERS + 1]; /* the last one is main's */
+    kfifo_handle handles[WORKERS + 1]; /* the last one is main's */
     struct worker workers[WORKERS];
     pthread_t threads[WORKERS];
-    kfifo_status status = kfifo_open(K, SEGMENTS, K, KFIFO_LAST, passes, WORKERS + 1);
+    kfifo_status status = kfifo_open(K, SEGMENTS, K, KFIFO_LAST, handles, WORKERS + 1);
     if (status != KFIFO_DONE) {
         fprintf(stderr, "no queue: %s\n", kfifo_status_text(status));
         return 1;
     }
     for (uint32_t i = 0; i < WORKERS; i++) {
-        workers[i] = (struct worker){.pass = &passes[i]};
+        workers[i] = (struct worker){.handle = &handles[i]};
         if (pthread_create(&threads[i], NULL, work, &workers[i])) return 1;
     }
     uint32_t put = 0;
     uint64_t sum = 0;
     for (uint32_t job = 1; job <= JOBS; job++) {
         numbers[job] = (uint64_t)job * job;
-        status = kfifo_put_wait(&passes[WORKERS], job, KFIFO_FOREVER);
+        status = kfifo_put_wait(&handles[WORKERS], job, KFIFO_FOREVER);
         if (status != KFIFO_DONE) {
             fprintf(stderr, "job %u was not put: %s\n", (unsigned)job, kfifo_status_text(status));
             break;
@@ -52,7 +52,7 @@ int main(void) {
         put++;
         sum += numbers[job];
     }
-    if (kfifo_finish(&passes[WORKERS]) != KFIFO_DONE) abort(); /* a worker ends when it then finds the queue empty */
+    if (kfifo_finish(&handles[WORKERS]) != KFIFO_DONE) abort(); /* a worker ends when it then finds the queue empty */
     uint32_t jobs = 0;
     uint64_t total = 0;
     for (uint32_t i = 0; i < WORKERS; i++) {
@@ -64,7 +64,7 @@ int main(void) {
     }
     static uint32_t left[K * SEGMENTS];
     size_t count = 1;
-    if (kfifo_close(passes, WORKERS + 1, left, K * SEGMENTS, &count) != KFIFO_DONE) return 1;
+    if (kfifo_close(handles, WORKERS + 1, left, K * SEGMENTS, &count) != KFIFO_DONE) return 1;
     printf("%u jobs were put and %u done, %zu are left\n", (unsigned)put, (unsigned)jobs, count);
     return put == JOBS && jobs == JOBS && sum == total && count == 0 ? 0 : 1;
 }

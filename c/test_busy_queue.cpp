@@ -38,14 +38,14 @@ extern "C" {
 #define WRAPPED(name, parameters, arguments)                                                                           \
     std::uint32_t __real_##name parameters;                                                                            \
     std::uint32_t __wrap_##name parameters { return is_busy() ? std::uint32_t(KFIFO_BUSY) : __real_##name arguments; }
-WRAPPED(kfifo_c_put, (kfifo_pass * pass, std::uint32_t item), (pass, item))
-WRAPPED(kfifo_c_get, (kfifo_pass * pass, std::uint32_t *item), (pass, item))
-WRAPPED(kfifo_c_put_many, (kfifo_pass * pass, const std::uint32_t *array, std::size_t count, std::size_t *put),
+WRAPPED(kfifo_c_put, (kfifo_handle * pass, std::uint32_t item), (pass, item))
+WRAPPED(kfifo_c_get, (kfifo_handle * pass, std::uint32_t *item), (pass, item))
+WRAPPED(kfifo_c_put_many, (kfifo_handle * pass, const std::uint32_t *array, std::size_t count, std::size_t *put),
         (pass, array, count, put))
-WRAPPED(kfifo_c_get_many, (kfifo_pass * pass, std::uint32_t *array, std::size_t most, std::size_t *got),
+WRAPPED(kfifo_c_get_many, (kfifo_handle * pass, std::uint32_t *array, std::size_t most, std::size_t *got),
         (pass, array, most, got))
-WRAPPED(kfifo_c_publish, (kfifo_cell_pass * pass), (pass))
-WRAPPED(kfifo_c_receive, (kfifo_cell_pass * pass, std::uint64_t *cell), (pass, cell))
+WRAPPED(kfifo_c_publish, (kfifo_handle * pass), (pass))
+WRAPPED(kfifo_c_receive, (kfifo_handle * pass, kfifo_cell_at *cell), (pass, cell))
 }
 
 namespace {

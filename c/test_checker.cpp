@@ -113,46 +113,47 @@ Used &used() {
     return shared;
 }
 
-// How many changes each check of such a queue has at least.
+// How many changes each check of such a queue has at least, and how many calls each thread makes in a round.
 constexpr double LEAST_CHANGES = 20;
-
-// The tokens of a handle: as many as the others may keep for themselves, and more than values are inside.
-constexpr std::uint32_t TOKENS = 256;
+constexpr unsigned CALLS = 2000;
 
 struct OfValues {
-    using Pass = kfifo_value_pass;
-    static constexpr auto open = kfifo_open_values_with;
-    static constexpr auto abandon = kfifo_abandon_values;
-    explicit OfValues(unsigned) {}
-    kfifo_status give(Pass *pass, std::uint32_t value) { return kfifo_give(pass, value); }
-    kfifo_status take(Pass *pass, std::uint64_t *value) { return kfifo_take(pass, value); }
+    static kfifo_status open(std::uint32_t k, std::uint32_t capacity, std::uint64_t last, std::uint64_t reserve,
+                             kfifo_handle *passes, unsigned threads) {
+        return kfifo_open_values_with(k, capacity, last, reserve, 1, passes, threads);
+    }
+    static kfifo_status give(kfifo_handle *pass, std::uint32_t value) { return kfifo_give(pass, value); }
+    static kfifo_status take(kfifo_handle *pass, std::uint64_t *value) { return kfifo_take(pass, value); }
 };
 
 struct OfCells {
-    using Pass = kfifo_cell_pass;
-    static constexpr auto open = kfifo_open_cells_with;
-    static constexpr auto abandon = kfifo_abandon_cells;
-    explicit OfCells(unsigned threads) : cells(threads * TOKENS) {}
+    static kfifo_status open(std::uint32_t k, std::uint32_t capacity, std::uint64_t last, std::uint64_t reserve,
+                             kfifo_handle *passes, unsigned threads) {
+        return kfifo_open_cells_with(k, capacity, sizeof(std::uint64_t), alignof(std::uint64_t), last, reserve, 1,
+                                     passes, threads);
+    }
 
-    kfifo_status give(Pass *pass, std::uint32_t value) {
-        std::uint64_t cell = 0;
-        kfifo_status status = kfifo_reserve(pass, &cell);
-        if (status != KFIFO_DONE) return status;
-        cells[cell] = value;
-        status = kfifo_publish(pass);
-        if (status != KFIFO_DONE) status = kfifo_cancel(pass) == KFIFO_DONE ? status : KFIFO_BAD_CALL;
+    // Where the generation of a cell takes no more, the value goes into a cell of the next one.
+    static kfifo_status give(kfifo_handle *pass, std::uint32_t value) {
+        kfifo_status status = KFIFO_WORN;
+        for (int tries = 0; tries < 2 && status == KFIFO_WORN; tries++) {
+            void *cell = nullptr;
+            status = kfifo_reserve(pass, &cell);
+            if (status != KFIFO_DONE) return status;
+            *static_cast<std::uint64_t *>(cell) = value;
+            status = kfifo_publish(pass);
+            if (status != KFIFO_DONE && kfifo_cancel(pass) != KFIFO_DONE) return KFIFO_BAD_CALL;
+        }
         return status;
     }
 
-    kfifo_status take(Pass *pass, std::uint64_t *value) {
-        std::uint64_t cell = 0;
+    static kfifo_status take(kfifo_handle *pass, std::uint64_t *value) {
+        void *cell = nullptr;
         const kfifo_status status = kfifo_receive(pass, &cell);
         if (status != KFIFO_DONE) return status;
-        *value = std::exchange(cells[cell], 0);
+        *value = std::exchange(*static_cast<std::uint64_t *>(cell), 0);
         return kfifo_release(pass) == KFIFO_DONE ? status : KFIFO_BAD_CALL;
     }
-
-    std::vector<std::uint64_t> cells;
 };
 
 // What a call answered. A check ends where it is neither done nor may do better later: such a queue does not wear out.
@@ -170,26 +171,26 @@ kfifo::Answer answer_of(kfifo_status status, kfifo::Answer done) {
 // empty a generation, and for what all threads do before they find the next one.
 template <class Kind> class Changing {
   public:
-    Changing(std::uint32_t k, std::uint32_t segments, unsigned threads) : kind(threads), passes(threads) {
-        const std::uint64_t reserve = 16 * threads + 4 * segments, last = 2 * reserve;
-        if (Kind::open(k, segments, TOKENS, last, reserve, passes.data(), threads) != KFIFO_DONE)
-            throw std::bad_alloc();
-        // Each value that goes in or out uses a version of a slot, and a generation has `last` of each.
-        share = 1 / (double(k) * segments * double(last));
+    Changing(std::uint32_t k, std::uint32_t capacity, unsigned threads) : passes(threads) {
+        const std::uint64_t reserve = (64 * threads + 4 * capacity) / k + 16 * threads, last = 2 * reserve;
+        if (Kind::open(k, capacity, last, reserve, passes.data(), threads) != KFIFO_DONE) throw std::bad_alloc();
+        // At most k values go in or out with each version of the ends.
+        share = 1 / (double(k) * double(last));
         used().queues++;
     }
     Changing(Changing &&) noexcept = default;
     ~Changing() {
-        if (!passes.empty() && Kind::abandon(passes.data(), passes.size()) != KFIFO_DONE) std::abort();
+        if (!passes.empty() && kfifo_abandon(passes.data(), passes.size()) != KFIFO_DONE) std::abort();
     }
 
     kfifo::Answer give(unsigned thread, std::uint32_t item) {
-        return counted(thread, answer_of(kind.give(&passes[thread], item), kfifo::Answer::done));
+        return counted(thread, answer_of(Kind::give(&passes[thread], item), kfifo::Answer::done));
     }
 
     kfifo::Got take(unsigned thread) {
         std::uint64_t value = 0;
-        const kfifo::Answer answer = counted(thread, answer_of(kind.take(&passes[thread], &value), kfifo::Answer::got));
+        const kfifo::Answer answer =
+            counted(thread, answer_of(Kind::take(&passes[thread], &value), kfifo::Answer::got));
         return {answer, value};
     }
 
@@ -199,8 +200,7 @@ template <class Kind> class Changing {
         return answer;
     }
 
-    Kind kind;
-    std::vector<typename Kind::Pass> passes;
+    std::vector<kfifo_handle> passes;
     double share = 0; // of the versions of a generation, for each value that goes in or out
 };
 
@@ -210,12 +210,14 @@ template <class Kind, std::uint32_t k, unsigned threads> CheckReport run_changin
     CheckOptions of_these = options;
     of_these.k = k + threads - 1;
     of_these.threads = threads;
+    // A generation has 32 tokens for each thread besides its capacity, and so some thousand calls before the next one.
+    of_these.calls = CALLS;
     of_these.capacities = {2, 4, 8, 16};
     of_these.undecided_fails = true;
     using Queue = Changing<Kind>;
     using Handle = std::pair<Queue *, unsigned>;
     return kfifo::run_check_with_handles(
-        [](std::size_t capacity) { return Queue(k, std::max(2U, std::uint32_t(capacity) / k), threads); },
+        [](std::size_t capacity) { return Queue(k, std::uint32_t(capacity), threads); },
         [](Queue &queue, unsigned thread) { return Handle(&queue, thread); },
         [](const Handle &handle, std::uint32_t item) { return handle.first->give(handle.second, item); },
         [](const Handle &handle) { return handle.first->take(handle.second); }, of_these);

@@ -13,17 +13,19 @@
 enum { THREADS = 2 };
 
 /* A queue of each kind, and copies of its handles. */
-static kfifo_pass items[THREADS], items_copy[THREADS];
-static kfifo_value_pass values[THREADS], values_copy[THREADS];
-static kfifo_cell_pass cells[THREADS], cells_copy[THREADS];
+static kfifo_handle items[THREADS], items_copy[THREADS];
+static kfifo_handle values[THREADS], values_copy[THREADS];
+static kfifo_handle cells[THREADS], cells_copy[THREADS];
 static uint32_t item, left_items[8];
-static uint64_t value, cell, word, left[16];
+static uint64_t value, word, left[256];
+static void *cell;
+static kfifo_left left_cells;
 static size_t count;
 
 static void open_all(void) {
     if (kfifo_open(1, 8, 1, KFIFO_LAST, items, THREADS) != KFIFO_DONE) exit(2);
-    if (kfifo_open_values(1, 8, 8, values, THREADS) != KFIFO_DONE) exit(2);
-    if (kfifo_open_cells(1, 8, 8, cells, THREADS) != KFIFO_DONE) exit(2);
+    if (kfifo_open_values(1, 8, values, THREADS) != KFIFO_DONE) exit(2);
+    if (kfifo_open_cells(1, 8, 8, 8, cells, THREADS) != KFIFO_DONE) exit(2);
     memcpy(items_copy, items, sizeof items);
     memcpy(values_copy, values, sizeof values);
     memcpy(cells_copy, cells, sizeof cells);
@@ -31,7 +33,7 @@ static void open_all(void) {
 
 /* A name of a call, and the call by the handles in these arrays. */
 #define CALL(name, ...)                                                                                                \
-    static void call_##name(kfifo_pass *i, kfifo_value_pass *v, kfifo_cell_pass *c) {                                  \
+    static void call_##name(kfifo_handle *i, kfifo_handle *v, kfifo_handle *c) {                                       \
         (void)i, (void)v, (void)c;                                                                                     \
         if (name(__VA_ARGS__)) return;                                                                                 \
     }
@@ -45,17 +47,15 @@ CALL(kfifo_abandon, i, THREADS)
 CALL(kfifo_give, v, 1)
 CALL(kfifo_take, v, &value)
 CALL(kfifo_values_room, v, THREADS)
-CALL(kfifo_close_values, v, THREADS, left, 8, &count)
-CALL(kfifo_abandon_values, v, THREADS)
+CALL(kfifo_close_values, v, THREADS, left, 256, &count)
 CALL(kfifo_reserve, c, &cell)
 CALL(kfifo_publish, c)
 CALL(kfifo_cancel, c)
 CALL(kfifo_receive, c, &cell)
 CALL(kfifo_release, c)
-CALL(kfifo_close_cells, c, THREADS, left, 16, &count)
-CALL(kfifo_abandon_cells, c, THREADS)
+CALL(kfifo_close_cells, c, THREADS, &left_cells)
 
-typedef void by_handles(kfifo_pass *, kfifo_value_pass *, kfifo_cell_pass *);
+typedef void by_handles(kfifo_handle *, kfifo_handle *, kfifo_handle *);
 static const struct {
     const char *name;
     by_handles *call;
@@ -63,36 +63,34 @@ static const struct {
 } calls[] = {
 #define ROW(name, kind)                                                                                                \
     { #name, call_##name, kind }
-    ROW(kfifo_put, 'i'),     ROW(kfifo_get, 'i'),         ROW(kfifo_enqueue, 'i'),       ROW(kfifo_dequeue, 'i'),
-    ROW(kfifo_word, 'i'),    ROW(kfifo_close, 'i'),       ROW(kfifo_abandon, 'i'),       ROW(kfifo_give, 'v'),
-    ROW(kfifo_take, 'v'),    ROW(kfifo_values_room, 'v'), ROW(kfifo_close_values, 'v'),  ROW(kfifo_abandon_values, 'v'),
-    ROW(kfifo_reserve, 'c'), ROW(kfifo_publish, 'c'),     ROW(kfifo_cancel, 'c'),        ROW(kfifo_receive, 'c'),
-    ROW(kfifo_release, 'c'), ROW(kfifo_close_cells, 'c'), ROW(kfifo_abandon_cells, 'c'),
+    ROW(kfifo_put, 'i'),         ROW(kfifo_get, 'i'),         ROW(kfifo_enqueue, 'i'),      ROW(kfifo_dequeue, 'i'),
+    ROW(kfifo_word, 'i'),        ROW(kfifo_close, 'i'),       ROW(kfifo_abandon, 'i'),      ROW(kfifo_give, 'v'),
+    ROW(kfifo_take, 'v'),        ROW(kfifo_values_room, 'v'), ROW(kfifo_close_values, 'v'), ROW(kfifo_reserve, 'c'),
+    ROW(kfifo_publish, 'c'),     ROW(kfifo_cancel, 'c'),      ROW(kfifo_receive, 'c'),      ROW(kfifo_release, 'c'),
+    ROW(kfifo_close_cells, 'c'),
 };
 enum { CALLS = sizeof calls / sizeof calls[0] };
 
-static void *wait_for_item(void *pass) {
-    return kfifo_get_wait(pass, &item, KFIFO_FOREVER) == KFIFO_DONE ? pass : NULL;
+static void *wait_for_item(void *handle) {
+    return kfifo_get_wait(handle, &item, KFIFO_FOREVER) == KFIFO_DONE ? handle : NULL;
 }
 
-static void *wait_for_value(void *pass) {
-    return kfifo_take_wait(pass, &value, KFIFO_FOREVER) == KFIFO_DONE ? pass : NULL;
+static void *wait_for_value(void *handle) {
+    return kfifo_take_wait(handle, &value, KFIFO_FOREVER) == KFIFO_DONE ? handle : NULL;
 }
 
-static void *wait_for_cell(void *pass) {
-    return kfifo_receive_wait(pass, &cell, KFIFO_FOREVER) == KFIFO_DONE ? pass : NULL;
+static void *wait_for_cell(void *handle) {
+    return kfifo_receive_wait(handle, &cell, KFIFO_FOREVER) == KFIFO_DONE ? handle : NULL;
 }
 
 /* The call by the second handle, while another thread sleeps in one by it. */
 static void call_at_the_same_time(size_t index) {
     pthread_t other;
     char kind = calls[index].kind;
-    void *pass = kind == 'i' ? (void *)&items[1] : kind == 'v' ? (void *)&values[1] : (void *)&cells[1];
+    kfifo_handle *handle = kind == 'i' ? &items[1] : kind == 'v' ? &values[1] : &cells[1];
     void *(*sleeps)(void *) = kind == 'i' ? wait_for_item : kind == 'v' ? wait_for_value : wait_for_cell;
-    if (pthread_create(&other, NULL, sleeps, pass)) exit(2);
-    kfifo_waits *waits = kind == 'i'   ? KFIFO_WAITS(&items[1])
-                         : kind == 'v' ? KFIFO_WAITS(&values[1])
-                                       : KFIFO_WAITS(&cells[1]);
+    if (pthread_create(&other, NULL, sleeps, handle)) exit(2);
+    kfifo_waits *waits = KFIFO_WAITS(handle);
     while (kfifo_waits_state(waits) < KFIFO_WAITS_TAKER) sched_yield();
     nanosleep(&(struct timespec){0, 20000000}, NULL); /* it has announced itself, looks once more, and then sleeps */
     /* Of an array the first handle is in no call. */
@@ -119,8 +117,8 @@ int main(void) {
         failed += !ends(call_at_the_same_time, i, "is in another call");
     }
     failed += kfifo_abandon(items, THREADS) != KFIFO_DONE;
-    failed += kfifo_abandon_values(values, THREADS) != KFIFO_DONE;
-    failed += kfifo_abandon_cells(cells, THREADS) != KFIFO_DONE;
+    failed += kfifo_abandon(values, THREADS) != KFIFO_DONE;
+    failed += kfifo_abandon(cells, THREADS) != KFIFO_DONE;
     /* A closed handle is no copy. */
     memcpy(items_copy, items, sizeof items);
     failed += kfifo_put(items_copy, 1) != KFIFO_BAD_CALL;

@@ -3,7 +3,7 @@
    closes in the middle of a change lose nothing. With --long it runs for some minutes, through more changes than a busy
    queue makes in a hundred years. */
 #define _GNU_SOURCE
-#include "kfifo.h"
+#include "test_queues.h"
 #include <errno.h>
 #include <poll.h>
 #include <pthread.h>
@@ -21,7 +21,7 @@ enum { VALUES = 4000, MANY = 10000, CLOSES = 30, STOPS = 10, CHANGES = 10 };
 #else
 enum { VALUES = 30000, MANY = 1000000, CLOSES = 300, STOPS = 40, CHANGES = 100 };
 #endif
-enum { MOST = 16, HANDLES = 64, TOKENS = 64, CELLS = MOST * TOKENS, WORDS = 4, OF_VALUES = 0, OF_CELLS = 1 };
+enum { MOST = 16, CAPACITY = 64 };
 
 static int failed;
 static uint64_t times = 1; /* how many times as much is done */
@@ -112,91 +112,45 @@ void __wrap_free(void *block) {
 
 /* ---- Values and cells by the same calls ---- */
 
-struct queue {
-    int kind; /* OF_VALUES or OF_CELLS */
-    uint32_t threads, tokens;
-    kfifo_value_pass values[HANDLES];
-    kfifo_cell_pass cells[HANDLES];
-};
-
-/* What a cell holds: each word is the value, so that one that is torn is seen. */
-static uint64_t contents[HANDLES * TOKENS][WORDS];
-
-static kfifo_status open_with(struct queue *queue, int kind, uint32_t k, uint32_t segments, uint32_t tokens,
-                              uint64_t last, uint32_t threads) {
-    queue->kind = kind;
-    queue->threads = threads;
-    queue->tokens = tokens;
-    return kind == OF_VALUES ? kfifo_open_values_with(k, segments, tokens, last, last / 2, queue->values, threads)
-                             : kfifo_open_cells_with(k, segments, tokens, last, last / 2, queue->cells, threads);
-}
-
-static kfifo_status open_queue(struct queue *queue, int kind, uint32_t k, uint32_t segments, uint64_t last,
+static kfifo_status open_queue(struct any_queue *queue, int kind, uint32_t k, uint32_t capacity, uint64_t last,
                                uint32_t threads) {
-    return open_with(queue, kind, k, segments, TOKENS, last, threads);
+    return any_open(queue, kind, k, capacity, last, last / 2, 1, threads);
 }
 
-static kfifo_status give_cell(struct queue *queue, uint32_t thread, uint64_t value) {
-    uint64_t cell = 0;
-    kfifo_status status = kfifo_reserve(&queue->cells[thread], &cell);
-    if (status != KFIFO_DONE) return status;
-    for (int i = 0; i < WORDS; i++) contents[cell][i] = value;
-    status = kfifo_publish(&queue->cells[thread]);
-    if (status != KFIFO_DONE) expect(kfifo_cancel(&queue->cells[thread]), KFIFO_DONE, "cancel");
-    return status;
-}
-
-static kfifo_status give(struct queue *queue, uint32_t thread, uint64_t value) {
+static kfifo_status give(struct any_queue *queue, uint32_t thread, uint64_t value) {
     is_in_call = 1;
-    kfifo_status status =
-        queue->kind == OF_VALUES ? kfifo_give(&queue->values[thread], value) : give_cell(queue, thread, value);
+    kfifo_status status = any_give(queue, thread, value);
     is_in_call = 0;
     return status;
 }
 
-static kfifo_status take_cell(struct queue *queue, uint32_t thread, uint64_t *value) {
-    uint64_t cell = 0;
-    kfifo_status status = kfifo_receive(&queue->cells[thread], &cell);
-    if (status != KFIFO_DONE) return status;
-    *value = contents[cell][0];
-    for (int i = 1; i < WORDS; i++)
-        if (contents[cell][i] != *value) *value = UINT64_MAX;
-    memset(contents[cell], 0xff, sizeof contents[cell]);
-    expect(kfifo_release(&queue->cells[thread]), KFIFO_DONE, "release");
-    return status;
-}
-
-static kfifo_status take(struct queue *queue, uint32_t thread, uint64_t *value) {
+static kfifo_status take(struct any_queue *queue, uint32_t thread, uint64_t *value) {
     is_in_call = 1;
-    kfifo_status status =
-        queue->kind == OF_VALUES ? kfifo_take(&queue->values[thread], value) : take_cell(queue, thread, value);
+    kfifo_status status = any_take(queue, thread, value);
     is_in_call = 0;
     return status;
 }
 
-static void abandon_from(struct queue *queue, uint32_t thread, uint32_t count) {
-    kfifo_status status = queue->kind == OF_VALUES ? kfifo_abandon_values(&queue->values[thread], count)
-                                                   : kfifo_abandon_cells(&queue->cells[thread], count);
-    expect(status, KFIFO_DONE, "abandon");
+static void abandon_from(struct any_queue *queue, uint32_t thread, uint32_t count) {
+    expect(kfifo_abandon(&queue->handles[thread], count), KFIFO_DONE, "abandon");
 }
 
-/* Closes a queue and returns what is left in it, in its order. The caller frees it. */
-static uint64_t *close_queue(struct queue *queue, size_t *count) {
-    size_t room = queue->kind == OF_VALUES ? kfifo_values_room(queue->values, queue->threads)
-                                           : (size_t)queue->threads * queue->tokens;
-    uint64_t *left = malloc(room * sizeof *left);
-    size_t before = *count = 77;
-    if (!left) abort();
+/* How many slots all generations of a queue of values have; 0 of a queue of cells. */
+static size_t room_of(struct any_queue *queue) {
+    return queue->kind == OF_VALUES ? kfifo_values_room(queue->handles, queue->threads) : 0;
+}
+
+/* Closes a queue and returns what is left in it, at most so many values, in its order. The caller frees it. */
+static uint64_t *close_queue(struct any_queue *queue, size_t most, size_t *count) {
+    kfifo_status status = KFIFO_DONE;
+    *count = 77;
     if (queue->kind == OF_VALUES) {
-        expect(kfifo_close_values(queue->values, queue->threads, left, room - 1, count), KFIFO_BAD_CALL, "less room");
-        expect(*count, before, "the count of a close with less room");
-        expect(kfifo_close_values(queue->values, queue->threads, left, room, count), KFIFO_DONE, "close");
-    } else {
-        expect(kfifo_close_cells(queue->cells, queue->threads, left, room - 1, count), KFIFO_BAD_CALL, "less room");
-        expect(*count, before, "the count of a close with less room");
-        expect(kfifo_close_cells(queue->cells, queue->threads, left, room, count), KFIFO_DONE, "close");
-        for (size_t i = 0; i < *count; i++) left[i] = contents[left[i]][0];
+        uint64_t one = 0;
+        expect(kfifo_close_values(queue->handles, queue->threads, &one, 1, count), KFIFO_BAD_CALL, "less room");
+        expect(*count, 77, "the count of a close with less room");
     }
+    uint64_t *left = any_left(queue, most, count, &status);
+    expect(status, KFIFO_DONE, "close");
     return left;
 }
 
@@ -205,7 +159,7 @@ static uint64_t *close_queue(struct queue *queue, size_t *count) {
 /* With k = 1 and one thread the queue is first in, first out, whatever the number of versions, and through hundreds of
    changes. */
 static void in_order(int kind) {
-    static struct queue queue;
+    static struct any_queue queue;
     for (uint64_t last = 8; last <= 64; last += last < 16 ? 1 : 16) {
         uint64_t next = 0, oldest = 0, value = 0;
         expect(open_queue(&queue, kind, 1, 4, last, 1), KFIFO_DONE, "open for an order");
@@ -223,7 +177,7 @@ static void in_order(int kind) {
         }
         expect(give(&queue, 0, 5), KFIFO_DONE, "a give before a close");
         size_t count = 0;
-        uint64_t *left = close_queue(&queue, &count);
+        uint64_t *left = close_queue(&queue, 2, &count);
         expect(count, 1, "values left");
         expect(left[0], 5, "the value left");
         free(left);
@@ -233,9 +187,10 @@ static void in_order(int kind) {
 /* One handle goes through many changes while another one stops: what that one gave comes out, it finds what came
    meanwhile, and the room of a close counts the generation that it kept. */
 static void one_stops(int kind) {
-    static struct queue queue;
+    static struct any_queue queue;
     uint64_t value = 0;
     expect(open_queue(&queue, kind, 1, 8, 32, 2), KFIFO_DONE, "open for one that stops");
+    size_t room = room_of(&queue);
     expect(give(&queue, 1, 1000), KFIFO_DONE, "a give by one that then stops");
     for (uint64_t i = 0; i < 2000; i++) {
         expect(give(&queue, 0, i), KFIFO_DONE, "a give while another one stops");
@@ -243,8 +198,7 @@ static void one_stops(int kind) {
         expect(value, i ? i - 1 : 1000, "the value that was given before");
     }
     expect(give(&queue, 0, 2000), KFIFO_DONE, "a give at the end");
-    if (kind == OF_VALUES)
-        expect(kfifo_values_room(queue.values, 2) > 8, 1, "the room with a generation that one kept");
+    if (kind == OF_VALUES) expect(room_of(&queue) > room, 1, "the room with a generation that one kept");
     expect(take(&queue, 1, &value), KFIFO_DONE, "a take by the one that stopped");
     expect(value, 1999, "the oldest value");
     expect(give(&queue, 1, 2001), KFIFO_DONE, "a give by the one that stopped");
@@ -258,71 +212,73 @@ static void one_stops(int kind) {
 /* Closes while generations change: each value that is inside comes back, those of the oldest generation first, which
    with k = 1 is the order in which one thread gave them. */
 static void closes(int kind) {
-    static struct queue queue;
-    size_t most = 0;
+    static struct any_queue queue;
+    size_t one = 0, most = 0;
     for (uint64_t before = 0; before < 60; before++) {
         uint64_t value = 0, next = 0;
         expect(open_queue(&queue, kind, 1, 16, 24, 3), KFIFO_DONE, "open to be closed");
+        one = room_of(&queue);
         for (; next < before; next++) {
             expect(give(&queue, (uint32_t)next % 3, next), KFIFO_DONE, "a give that is taken");
             expect(take(&queue, (uint32_t)next % 2, &value), KFIFO_DONE, "its take");
         }
         for (uint64_t i = 0; i < 14; i++) expect(give(&queue, 0, next + i), KFIFO_DONE, "a give that is left");
-        if (kind == OF_VALUES) {
-            size_t room = kfifo_values_room(queue.values, 3);
-            most = room > most ? room : most;
-        }
+        most = room_of(&queue) > most ? room_of(&queue) : most;
         size_t count = 0;
-        uint64_t *left = close_queue(&queue, &count);
+        uint64_t *left = close_queue(&queue, 20, &count);
         expect(count, 14, "values that a close gives back");
         for (uint64_t i = 0; i < count && i < 14; i++) expect(left[i], next + i, "a value that is left, in its order");
         expect(give(&queue, 0, 1), KFIFO_BAD_CALL, "a give after a close");
         free(left);
         if (failed) return;
     }
-    if (kind == OF_VALUES) expect(most > 16, 1, "closes of several generations");
+    if (kind == OF_VALUES) expect(most > one, 1, "closes of several generations");
 }
 
-/* Closes a queue of many handles, up to as many as there can be, each of which keeps a generation of its own. */
+/* Closes a queue of many handles, up to as many as there can be, each of which keeps a generation of its own. With k =
+   1 the values come out in their order. */
 static void closes_many(int kind) {
-    static const uint32_t threads[] = {31, 32, 33, HANDLES};
-    static struct queue queue;
+    static const uint32_t threads[] = {15, 16, 30, MOST_HANDLES};
+    static struct any_queue queue;
     for (size_t i = 0; i < sizeof threads / sizeof threads[0]; i++) {
-        uint64_t next = 0, oldest = 0, value = 0;
+        const uint32_t k = threads[i] > 30 ? 4 : 1;
+        uint64_t next = 0, oldest = 0, value = 0, in = 0, out = 0;
         size_t count = 0;
-        expect(open_queue(&queue, kind, 1, 4, 24, threads[i]), KFIFO_DONE, "open for many");
+        expect(open_queue(&queue, kind, k, 4, 24, threads[i]), KFIFO_DONE, "open for many");
+        size_t one = room_of(&queue);
         for (uint32_t thread = threads[i]; thread-- > 0;) {
+            in += next;
             expect(give(&queue, thread, next++), KFIFO_DONE, "a give by each of many");
-            for (int pair = 0; pair < 24; pair++) {
+            for (uint32_t pair = 0; pair < 24 * k; pair++) {
+                in += next;
                 expect(give(&queue, 0, next++), KFIFO_DONE, "a give by the first of many");
                 expect(take(&queue, 0, &value), KFIFO_DONE, "a take by the first of many");
-                expect(value, oldest++, "the oldest value of many");
+                if (k == 1) expect(value, oldest++, "the oldest value of many");
+                out += value;
             }
             expect(take(&queue, 0, &value), KFIFO_DONE, "one more take by the first of many");
-            expect(value, oldest++, "the last value of many");
+            if (k == 1) expect(value, oldest++, "the last value of many");
+            out += value;
         }
+        expect(out, in, "the values of many");
         for (int more = 0; more < 3; more++) expect(give(&queue, 0, next++), KFIFO_DONE, "a give that many leave");
-        if (kind == OF_VALUES)
-            expect(kfifo_values_room(queue.values, threads[i]) >= 4 * threads[i], 1, "room for each generation");
-        uint64_t *left = close_queue(&queue, &count);
+        if (kind == OF_VALUES) expect(room_of(&queue) >= one * threads[i], 1, "room for each generation");
+        uint64_t *left = close_queue(&queue, 8, &count);
         expect(count, 3, "values that many leave");
-        for (uint64_t more = 0; more < count && more < 3; more++) expect(left[more], oldest + more, "what many leave");
+        for (uint64_t more = 0; k == 1 && more < count && more < 3; more++)
+            expect(left[more], oldest + more, "what many leave");
         free(left);
     }
 }
 
 /* With reserve 0 a queue does not renew itself. What is left comes back. */
 static void does_not_renew(int kind) {
-    static struct queue queue;
+    static struct any_queue queue;
     uint64_t inside[64], value = 0, next = 0;
     size_t count = 0;
-    kfifo_status status = KFIFO_DONE;
-    queue.kind = kind;
-    queue.threads = 1;
-    queue.tokens = TOKENS;
-    status = kind == OF_VALUES ? kfifo_open_values_with(1, 8, TOKENS, 40, 0, queue.values, 1)
-                               : kfifo_open_cells_with(1, 8, TOKENS, 40, 0, queue.cells, 1);
+    kfifo_status status = any_open(&queue, kind, 1, 8, 40, 0, 1, 1);
     expect(status, KFIFO_DONE, "open of a queue that does not renew itself");
+    size_t room = room_of(&queue);
     while (next < 1000 && (status = give(&queue, 0, next)) != KFIFO_WORN) {
         if (status == KFIFO_DONE) inside[count++] = next++;
         if (count < 3) continue;
@@ -331,9 +287,9 @@ static void does_not_renew(int kind) {
         memmove(inside, inside + 1, --count * sizeof *inside);
     }
     expect(next < 60, 1, "a queue that does not renew itself wears out");
-    if (kind == OF_VALUES) expect(kfifo_values_room(queue.values, 1), 8, "its room");
+    expect(room_of(&queue), room, "its room");
     size_t rest = 0;
-    uint64_t *left = close_queue(&queue, &rest);
+    uint64_t *left = close_queue(&queue, 64, &rest);
     expect(rest, count, "how many values it had");
     for (size_t i = 0; i < rest && i < count; i++) expect(left[i], inside[i], "a value that it had");
     free(left);
@@ -343,7 +299,7 @@ static void does_not_renew(int kind) {
    through many more changes: each value comes out once, in the order in which they were given, also what the one that
    left had given. */
 static void one_leaves(int kind) {
-    static struct queue queue;
+    static struct any_queue queue;
     for (uint64_t before = 0; before < 150; before++) {
         uint32_t leaver = before % 3;
         uint64_t next = 0, oldest = 0, value = 0;
@@ -376,14 +332,14 @@ static void one_leaves(int kind) {
    has inside, and they come out in order. What is inside at the end comes back. */
 static void full_in_order(int kind) {
     enum { RING = 200 };
-    static struct queue queue;
+    static struct any_queue queue;
     uint64_t next = 0, oldest = 0, value = 0, refused = 0;
-    expect(open_with(&queue, kind, 1, RING, CELLS, 4 * RING, 1), KFIFO_DONE, "open to be full");
+    expect(open_queue(&queue, kind, 1, RING, 4 * RING, 1), KFIFO_DONE, "open to be full");
     for (uint64_t i = 0; i < 20000 * times && !failed; i++) {
         kfifo_status status = KFIFO_DONE;
         while (next - oldest < 3 * RING && (status = give(&queue, 0, next)) == KFIFO_DONE) next++;
         if (status != KFIFO_DONE) expect(status, KFIFO_FULL, "a give to a queue that is full");
-        if (status == KFIFO_FULL) expect(next - oldest >= RING, 1, "a queue that is full has all slots filled");
+        if (status == KFIFO_FULL) expect(next - oldest >= RING, 1, "a queue that is full has its capacity");
         refused += status == KFIFO_FULL;
         for (uint64_t j = 0; j <= i % 5; j++) {
             expect(take(&queue, 0, &value), KFIFO_DONE, "a take of a queue that is full");
@@ -393,7 +349,7 @@ static void full_in_order(int kind) {
     }
     expect(refused > 1000, 1, "gives to a queue that is full");
     size_t count = 0;
-    uint64_t *left = close_queue(&queue, &count);
+    uint64_t *left = close_queue(&queue, 4 * RING, &count);
     expect(count, next - oldest, "values that were in a queue that was full");
     for (size_t i = 0; i < count; i++) expect(left[i], oldest + i, "a value of a queue that was full");
     free(left);
@@ -412,7 +368,7 @@ struct crew {
 /* A run of many threads. */
 struct plan {
     int kind;
-    uint32_t k, segments, tokens;
+    uint32_t k, capacity;
     uint64_t last;
     const struct crew *crew;
     uint64_t each; /* how many values each that gives gives, unless that has no end */
@@ -440,8 +396,9 @@ struct side {
 };
 
 static struct plan plan;
-static struct queue queue;
+static struct any_queue queue;
 static struct side sides[MOST];
+static size_t room_of_one;          /* that of the first generation */
 static uint64_t bound;              /* how many younger values may overtake one */
 static atomic_uchar *out;           /* how often each value came out; where gives have no end, each that is `each` on */
 static struct stamps *stamps;       /* of each value, in the same order; NULL: they are not noted */
@@ -495,7 +452,7 @@ static void refused(struct side *self, kfifo_status status) {
 
 static void take_one(struct side *self) {
     uint64_t value = 0, ends = 0, begins = stamps ? atomic_load(&ended) : 0;
-    /* Not for ever: a handle that still gives may need a token that another one gets by a take. */
+    /* Not for ever: a handle that still gives may need room that another one makes by a take. */
     if (atomic_load(&inside) <= plan.least && atomic_load(&left_to_take) > plan.least && self->waited++ < 100) {
         sched_yield();
         return;
@@ -564,8 +521,8 @@ static void begin_run(const struct plan *of) {
     atomic_store(&left_to_take, plan.has_end ? plan.each * givers : UINT64_MAX);
     atomic_store(&most_inside, plan.most);
     atomic_store(&is_over, 0);
-    expect(open_with(&queue, plan.kind, plan.k, plan.segments, plan.tokens, plan.last, threads), KFIFO_DONE,
-           "open for threads");
+    expect(open_queue(&queue, plan.kind, plan.k, plan.capacity, plan.last, threads), KFIFO_DONE, "open for threads");
+    room_of_one = room_of(&queue);
 }
 
 /* The threads from `from` up to the one before `end` begin. */
@@ -596,7 +553,7 @@ static void wait_until_left(uint64_t count) {
 /* Closes the queue of a run whose threads have ended, and notes what was left. */
 static void close_run(void) {
     size_t count = 0;
-    uint64_t *left = close_queue(&queue, &count);
+    uint64_t *left = close_queue(&queue, atomic_load(&inside) + 1, &count);
     expect(count, atomic_load(&inside), "values left");
     for (size_t i = 0; i < count; i++) {
         uint64_t now = stamps ? atomic_fetch_add(&ended, 1) + 1 : 0;
@@ -717,8 +674,7 @@ static uint64_t givers_of(const struct crew *crew) {
 static struct plan plan_of(int kind, uint32_t k, const struct crew *crew, uint64_t values) {
     return (struct plan){.kind = kind,
                          .k = k,
-                         .segments = 8,
-                         .tokens = TOKENS,
+                         .capacity = CAPACITY,
                          .last = 32 * (uint64_t)crew->threads,
                          .crew = crew,
                          .each = values / givers_of(crew),
@@ -742,8 +698,7 @@ static void run_stamped(int kind, uint32_t k, const struct crew *crew) {
     uint64_t values = crew->threads * stamped.each;
     stamped.least = k + crew->threads;
     stamped.most = stamped.least + 2 * crew->threads;
-    stamped.segments = (uint32_t)stamped.most / k + 8;
-    stamped.tokens = CELLS / crew->threads;
+    stamped.capacity = (uint32_t)stamped.most;
     stamps = calloc(values, sizeof *stamps);
     if (!stamps) abort();
     atomic_store(&ended, 0);
@@ -758,8 +713,7 @@ static void run_stamped(int kind, uint32_t k, const struct crew *crew) {
    again, also while generations change. */
 static void run_full(int kind, uint32_t k) {
     struct plan full = plan_of(kind, k, &givers, 10 * VALUES * times);
-    full.segments = 240 / k; /* fewer slots than a handle has tokens */
-    full.tokens = CELLS / givers.threads;
+    full.capacity = 240;
     full.last = 1024;
     full.most = UINT64_MAX;
     full.least = 200;
@@ -779,7 +733,7 @@ static void run_full(int kind, uint32_t k) {
    queue answers WORN, the threads end, and a close gives back what is left. Returns whether that was so. */
 static int run_few(int kind, uint64_t last, const struct crew *crew) {
     struct plan few = plan_of(kind, 1 + last % 2, crew, VALUES / 20 * times);
-    few.segments = 2 + (uint32_t)last % 3;
+    few.capacity = 2 + (uint32_t)last % 3;
     few.last = last;
     few.may_wear_out = 1;
     begin_run(&few);
@@ -829,8 +783,7 @@ static void closes_in_changes(int kind) {
     for (uint64_t i = 0; i < CLOSES * times || (several == 0 && i < 40 * CLOSES); i++) {
         struct plan closed = plan_of(kind, i % 2 ? 4 : 1, i % 3 ? &mixed : &crews[2], 10000);
         closed.has_end = 0;
-        closed.segments = closed.k == 1 ? 96 : 32;
-        closed.tokens = 128;
+        closed.capacity = 96;
         closed.last = 512;
         closed.most = 70;
         closed.least = 50;
@@ -843,8 +796,7 @@ static void closes_in_changes(int kind) {
         join(0, queue.threads);
         several += atomic_load(&blocks) > blocks_of_one;
         if (kind == OF_VALUES && atomic_load(&blocks) <= blocks_of_one)
-            expect(kfifo_values_room(queue.values, queue.threads), plan.k * plan.segments,
-                   "the room of one generation");
+            expect(room_of(&queue), room_of_one, "the room of one generation");
         close_run();
         end_run();
         if (failed) return;

@@ -12,8 +12,8 @@ enum { HAND_OVERS = 2000 };
 enum { HAND_OVERS = 200000 };
 #endif
 
-/* Two queues, one for each direction, whose passes are of the first thread and the second. */
-static kfifo_value_pass there[2], back[2];
+/* Two queues, one for each direction, whose handles are of the first thread and the second. */
+static kfifo_handle there[2], back[2];
 
 /* A hand-over to a thread whose giver sleeps too: the ring of two slots is full. */
 static void *answer(void *argument) {
@@ -36,8 +36,7 @@ static void *drain(void *argument) {
 int main(void) {
     pthread_t other;
     uint64_t value = 0, drained = 0;
-    if (kfifo_open_values(1, 2, 3, there, 2) != KFIFO_DONE || kfifo_open_values(1, 2, 3, back, 2) != KFIFO_DONE)
-        return 1;
+    if (kfifo_open_values(1, 2, there, 2) != KFIFO_DONE || kfifo_open_values(1, 2, back, 2) != KFIFO_DONE) return 1;
     if (pthread_create(&other, NULL, answer, NULL)) return 1;
     for (int i = 0; i < HAND_OVERS / 2; i++) {
         if (kfifo_give_wait(&there[0], value, KFIFO_FOREVER) != KFIFO_DONE) return 1;
@@ -45,13 +44,13 @@ int main(void) {
     }
     pthread_join(other, NULL);
 
-    /* One way: the giver sleeps before a full ring, the taker before an empty one. */
+    /* One way: the giver sleeps before a full queue, the taker before an empty one. */
     if (pthread_create(&other, NULL, drain, &drained)) return 1;
     for (uint64_t i = 0; i < HAND_OVERS; i++)
         if (kfifo_give_wait(&there[0], i, KFIFO_FOREVER) != KFIFO_DONE) return 1;
-    if (kfifo_finish_values(&there[0]) != KFIFO_DONE) return 1;
+    if (kfifo_finish(&there[0]) != KFIFO_DONE) return 1;
     pthread_join(other, NULL);
-    if (kfifo_abandon_values(there, 2) != KFIFO_DONE || kfifo_abandon_values(back, 2) != KFIFO_DONE) return 1;
+    if (kfifo_abandon(there, 2) != KFIFO_DONE || kfifo_abandon(back, 2) != KFIFO_DONE) return 1;
     int right = value == HAND_OVERS / 2 && drained == HAND_OVERS;
     printf("%d hand-overs between two threads that both sleep%s\n", HAND_OVERS, right ? "" : " went wrong");
     return !right;

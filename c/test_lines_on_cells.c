@@ -15,25 +15,26 @@ static void show(const struct frame *frame) { shown += frame->width == 64; }
 
 /* clang-format off */
 static int run(void) {
-    static struct frame frames[2 * 8];            // threads * tokens
-    kfifo_cell_pass passes[2];                    // one for each thread
-    uint64_t cell;
-    if (kfifo_open_cells(1, 4, 8, passes, 2) != KFIFO_DONE) return 1;
+    struct frame *frame = NULL;
+    void *cell = NULL;
+    kfifo_handle handles[2]; // one for each thread
+    if (kfifo_open_cells(1, 8, sizeof *frame, _Alignof(struct frame), handles, 2) != KFIFO_DONE) return 1;
 
     for (int round = 0; round < ROUNDS; round++) {
-        if (kfifo_reserve(&passes[0], &cell) == KFIFO_DONE) {
+        if (kfifo_reserve(&handles[0], &cell) == KFIFO_DONE) {
+            frame = cell;
+            frame->width = 64; // the cell is this thread's alone
             kfifo_status status;
-            frames[cell].width = 64;                  // frames[cell] is this thread's alone
-            while (kfifo_may_retry(status = kfifo_publish(&passes[0]))) sched_yield();
-            if (status != KFIFO_DONE) return 1;       // worn
+            while (kfifo_may_retry(status = kfifo_publish(&handles[0]))) sched_yield();
+            if (status != KFIFO_DONE) return 1; // worn
         }
 
-        if (kfifo_receive(&passes[1], &cell) == KFIFO_DONE) {
-            show(&frames[cell]);                      // now it is this one's alone
-            if (kfifo_release(&passes[1]) != KFIFO_DONE) return 1;
+        if (kfifo_receive(&handles[1], &cell) == KFIFO_DONE) {
+            show(cell); // now it is this one's alone
+            if (kfifo_release(&handles[1]) != KFIFO_DONE) return 1;
         }
     }
-    return kfifo_abandon_cells(passes, 2) != KFIFO_DONE;
+    return kfifo_abandon(handles, 2) != KFIFO_DONE;
 }
 /* clang-format on */
 

@@ -9,21 +9,27 @@
 static bool many_at_once() {
     kfifo::ValueQueue<std::string> queue(1, 2, 2);
     auto giver = queue.handle(), taker = queue.handle();
-    std::vector<std::string> words{"one", "two", "three"}, read;
+    std::vector<std::string> words, read;
+    for (int i = 0; i < 100; i++) words.push_back(std::to_string(i));
+    const std::vector<std::string> all = words;
     bool is_over = false;
     auto gave = giver.give_all(kfifo::moving(words));
     if (gave.why != kfifo::Put::done) std::printf("%zu are given: %s\n", gave.given, kfifo::text(gave.why));
     words.erase(words.begin(), gave.rest.base()); // what is not given is still here
-    if (words != std::vector<std::string>{"three"}) return false;
+    if (gave.given < queue.capacity() || words.empty() || words[0] != all[gave.given]) return false;
     giver.finish();
     auto took = taker.take_up_to(64, read);
     if (took.why == kfifo::Miss::finished) is_over = true;
-    return is_over && took.taken == 2 && read == std::vector<std::string>{"one", "two"};
+    if (is_over || took.taken != 64) return false;
+    took = taker.take_up_to(64, read);
+    if (took.why == kfifo::Miss::finished) is_over = true;
+    read.insert(read.end(), words.begin(), words.end());
+    return is_over && read == all;
 }
 
 int main() {
     constexpr int rounds = 20000;
-    kfifo::ValueQueue<std::string> queue(1, 1024, 2); // k, segments, threads
+    kfifo::ValueQueue<std::string> queue(1, 512, 2); // k, capacity, threads
     auto giver = queue.handle(), taker = queue.handle();
     for (int round = 0; round < rounds; round++) {
         if (giver.give("first") != kfifo::Put::done) return 1;

@@ -32,19 +32,31 @@ int of_items() {
     std::vector<std::uint32_t> numbers{1, 2, 3, 4, 5, 6, 7};
     auto put = pass.enqueue_all(numbers);
     numbers.erase(numbers.begin(), put.rest); // what is not put is still here
+    std::size_t waiting = pass.len();
+    if (pass.is_empty()) std::puts("no item is there");
+    if (waiting != 8) return 1;
     std::uint64_t ends = pass.word(0);
     std::vector<std::uint32_t> left = queue.close();
     return numbers.size() != 1 || left.size() != 8 || left[0] != 8 || ends == 0;
 }
 
 int of_other_calls() {
-    kfifo::ValueQueue<std::string> queue(1, 1024, 2); // k, segments, threads
-    kfifo::ValueQueue<std::string> changing(1, 8, 2, 24, kfifo::Versions{64, 32}); // it changes all the time
+    kfifo::ValueQueue<std::string> queue(1, 512, 2); // k, capacity, threads
+    std::uint32_t capacity = queue.capacity();
+    kfifo::Options options;
+    options.grows = 100; // up to 51,200 values
+    kfifo::ValueQueue<std::string> growing(1, 512, 2, options);
+    if (capacity != growing.capacity()) return 1;
     auto giver = queue.handle(), taker = queue.handle();
+    int rests = 0;
+    auto rest = [&] { rests++; };
+    if (taker.is_empty()) rest();
     kfifo::TakenValue<std::string> none = taker.take();
     if (!none.value) std::puts(kfifo::text(none.why)); // the queue was empty
     auto gave = kfifo::Put::done;
     while (kfifo::may_retry(gave = giver.give("a word"))) std::this_thread::yield();
+    std::size_t backlog = taker.len();
+    if (rests != 1 || backlog != 1 || giver.len() != 1 || taker.is_empty()) return 1;
     const std::string copied("copied");
     if (giver.give(copied) != kfifo::Put::done) return 1;
     if (giver.emplace(3, 'x') != kfifo::Put::done) return 1;

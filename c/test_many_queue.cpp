@@ -88,23 +88,31 @@ std::vector<std::string> words(std::size_t count) {
     return all;
 }
 
+// How many cells a queue has: each thread has its part of the capacity, rounded up, and 32 more.
+constexpr std::size_t cells_of(std::size_t capacity, std::size_t threads) {
+    return threads * ((capacity + threads - 1) / threads + kfifo::detail::spare_cells);
+}
+
 void copies() {
     kfifo::ValueQueue<std::string> queue(1, 8, 2);
     auto giver = queue.handle(), taker = queue.handle();
-    const std::vector<std::string> none, some = words(12);
+    constexpr std::size_t cells = cells_of(8, 2);
+    const std::vector<std::string> none, some = words(cells + 4);
     auto gave = giver.give_all(none);
     expect(gave.given == 0 && gave.rest == none.end() && gave.why == kfifo::Put::done, "an empty range");
     gave = giver.give_all(some);
-    expect(gave.given == 8 && gave.rest == some.begin() + 8 && gave.why == kfifo::Put::full, "a range that is longer");
-    expect(some == words(12), "the values are copied");
+    expect(gave.given == cells && gave.rest == some.begin() + cells && gave.why == kfifo::Put::full,
+           "a range that is longer");
+    expect(some == words(cells + 4), "the values are copied");
     expect(giver.give_all(gave.rest, some.end()).given == 0, "a full queue");
 
     std::list<std::string> out{"before"};
     auto took = taker.take_up_to(3, out);
     expect(took.taken == 3 && !took.why && out.size() == 4 && out.back() == some[2], "a take of three");
-    took = taker.take_up_to(64, out);
-    expect(took.taken == 5 && took.why == kfifo::Miss::empty && out.size() == 9, "a take of what is left");
-    expect(std::equal(some.begin(), some.begin() + 8, std::next(out.begin())), "they come in their order");
+    took = taker.take_up_to(1000, out);
+    expect(took.taken == cells - 3 && took.why == kfifo::Miss::empty && out.size() == cells + 1,
+           "a take of what is left");
+    expect(std::equal(some.begin(), some.begin() + cells, std::next(out.begin())), "they come in their order");
     took = taker.take_up_to(0, out);
     expect(took.taken == 0 && !took.why && taker.take_up_to(64, out).why == kfifo::Miss::empty, "a take of none");
 
@@ -115,11 +123,12 @@ void copies() {
     values = taker.take_up_to(std::size_t(-1));
     expect(values.values.empty() && values.why == kfifo::Miss::empty, "as many as there are");
 
-    kfifo::ValueQueue<std::string> small(1, 4, 1, 2); // two tokens
+    kfifo::ValueQueue<std::string> small(1, 4, 1);
     auto handle = small.handle();
     for (int round = 0; round < 3; round++) {
-        expect(handle.give_all(some).given == 2, "as many as there are tokens");
-        expect(handle.take_up_to(2).values.size() == 2, "they come out, and their tokens are free again");
+        expect(handle.give_all(some).given == cells_of(4, 1), "as many as there are cells");
+        expect(handle.take_up_to(1000).values.size() == cells_of(4, 1),
+               "they come out, and their cells are free again");
     }
 }
 
@@ -128,19 +137,21 @@ void moves() {
     kfifo::ValueQueue<std::unique_ptr<int>> queue(1, 4, 2);
     auto giver = queue.handle(), taker = queue.handle();
     std::vector<std::unique_ptr<int>> numbers;
-    for (int i = 0; i < 6; i++) numbers.push_back(std::make_unique<int>(i));
+    constexpr int cells = cells_of(4, 2);
+    for (int i = 0; i < cells + 2; i++) numbers.push_back(std::make_unique<int>(i));
     auto gave = giver.give_all(kfifo::moving(numbers));
-    expect(gave.given == 4 && gave.rest.base() == numbers.begin() + 4 && gave.why == kfifo::Put::full,
-           "four are moved");
-    expect(!numbers[0] && !numbers[3] && numbers[4] && *numbers[4] == 4 && *numbers[5] == 5, "two are not");
-    auto taken = taker.take_up_to(64);
-    expect(taken.values.size() == 4 && *taken.values[3] == 3 && taken.why == kfifo::Miss::empty, "four come out");
+    expect(gave.given == cells && gave.rest.base() == numbers.begin() + cells && gave.why == kfifo::Put::full,
+           "as many are moved as there are cells");
+    expect(!numbers[0] && !numbers[3] && numbers[cells] && *numbers[cells] == cells && *numbers[cells + 1] == cells + 1,
+           "two are not");
+    auto taken = taker.take_up_to(100);
+    expect(taken.values.size() == cells && *taken.values[3] == 3, "those come out");
     expect(giver.give_all(gave.rest, std::make_move_iterator(numbers.end())).given == 2, "the rest");
     queue.finish();
     gave = giver.give_all(kfifo::moving(taken.values));
     expect(gave.given == 0 && gave.why == kfifo::Put::finished && *taken.values[0] == 0, "a give after the end");
     auto rest = taker.take_up_to(2, taken.values);
-    expect(rest.taken == 2 && !rest.why && *taken.values[5] == 5, "what was there before the end");
+    expect(rest.taken == 2 && !rest.why && *taken.values[cells + 1] == cells + 1, "what was there before the end");
     expect(taker.take_up_to(2).why == kfifo::Miss::finished, "a take after the end");
 
     auto moved = std::move(giver);
@@ -261,15 +272,16 @@ void ranges_that_wait() {
     expect(gave.given == 3 && gave.why == kfifo::Put::done, "each question was answered");
 
     // The values of one queue go to the next one, until that is full. The one that was taken last is not lost.
-    const auto some = words(4);
-    expect(giver.give_all(some).given == 4, "four words");
+    constexpr std::size_t cells = cells_of(2, 2);
+    const auto some = words(cells + 2);
+    expect(giver.give_all(some).given == cells + 2, "words");
     queue.finish();
     auto passed = passer.give_all(taker.values());
-    expect(passed.given == 2 && passed.why == kfifo::Put::full && *passed.rest == some[2], "two words go on");
-    expect(last.take_up_to(8).values.size() == 2, "they are there");
+    expect(passed.given == cells && passed.why == kfifo::Put::full && *passed.rest == some[cells], "most words go on");
+    expect(last.take_up_to(cells).values.size() == cells, "they are there");
     auto more = passer.give_all(std::move(passed.rest), taker.values().end());
     expect(more.given == 2 && more.why == kfifo::Put::done, "the rest, with the one that was taken");
-    expect(last.take_up_to(8).values == std::vector<std::string>(some.begin() + 2, some.end()), "all are there");
+    expect(last.take_up_to(8).values == std::vector<std::string>(some.begin() + cells, some.end()), "all are there");
 }
 
 // One call with a value for each thread that waits wakes them all, and so does one that makes room.
@@ -277,13 +289,14 @@ void one_call_wakes_all() {
     constexpr std::size_t threads = 6;
     kfifo::ValueQueue<std::size_t> queue(1, threads, threads + 1);
     auto first = queue.handle();
-    std::vector<std::size_t> values(threads), out;
+    constexpr std::size_t cells = cells_of(threads, threads + 1);
+    std::vector<std::size_t> values(threads), all_values(cells + 1), out;
     std::iota(values.begin(), values.end(), 1);
     for (int round = 0; round < ROUNDS; round++) {
         bool gives = round % 2;
         std::atomic<std::size_t> sum{0}, begun{0};
         std::vector<std::thread> all;
-        if (gives) expect(first.give_all(values).given == threads, "a queue that is full");
+        std::size_t filled = gives ? first.give_all(all_values).given : 0;
         for (std::size_t i = 0; i < threads; i++) {
             all.emplace_back([&, gives, i, handle = queue.handle()]() mutable {
                 begun++;
@@ -296,7 +309,7 @@ void one_call_wakes_all() {
         while (begun != threads) std::this_thread::yield();
         fall_asleep();
         if (gives)
-            expect(first.take_up_to(threads, out).taken == threads, "room for each that waits");
+            expect(first.take_up_to(filled, out).taken == filled, "room for each that waits");
         else
             expect(first.give_all(values).given == threads, "a value for each that waits");
         for (std::thread &thread : all) thread.join();
@@ -345,10 +358,11 @@ void openings() {
     expect(opened.status == KFIFO_DONE && opened.queue, "an opening");
     expect(opened.queue->handle().give("a") == kfifo::Put::done, "a queue that was opened so");
     expect(!Values::try_open(0, 8, 1).queue && Values::try_open(0, 8, 1).status == KFIFO_BAD_K, "k out of range");
+    expect(Values::try_open(1, 0, 1).status == KFIFO_BAD_CAPACITY, "no room");
     expect(Values::try_open(1, 8, 0).status == KFIFO_BAD_THREADS, "no threads");
     expect(Values::try_open(1, 8, 65).status == KFIFO_BAD_THREADS, "too many threads");
-    expect(Values::try_open(1, 8, 1, 0).status == KFIFO_BAD_TOKENS, "no tokens");
-    expect(Values::try_open(1, 8, 1, 9, {64, 64}).status == KFIFO_BAD_RESERVE, "a reserve out of range");
+    expect(Values::try_open(1, 8, 1, {64, 64, 1}).status == KFIFO_BAD_RESERVE, "a reserve out of range");
+    expect(Values::try_open(1, 8, 1, {64, 32, 0}).status == KFIFO_BAD_CALL, "no generation");
     auto items = kfifo::Queue::try_open(1, 8, 1);
     expect(items.queue && items.queue->pass(0).enqueue(7) == kfifo::Put::done, "a queue of items");
     expect(!kfifo::Queue::try_open(1, 1, 1).queue && kfifo::Queue::try_open(1, 1, 1).status == KFIFO_BAD_SEGMENTS &&

@@ -39,10 +39,21 @@ std::vector<std::size_t> numbers(std::size_t count) {
     return all;
 }
 
+// Gives values until the queue is full. Returns how many: one for each cell, where no other handle keeps some.
+template <typename Handle, typename Value> std::size_t fill(Handle &handle, const Value &value) {
+    std::size_t given = 0;
+    while (handle.give(value) == kfifo::Put::done) given++;
+    return given;
+}
+
 void what_gives_come_to() {
-    kfifo::ValueQueue<std::string> queue(1, 4, 2);
-    auto giver = queue.handle(), taker = queue.handle();
+    kfifo::ValueQueue<std::string> queue(1, 4, 1);
+    auto handle = queue.handle();
     const std::vector<std::string> none, six{"1", "2", "3", "4", "5", "6"};
+    // There is room for four more then.
+    const std::size_t before = fill(handle, "0") - 4;
+    expect(before >= 4 && handle.take_up_to(4).values.size() == 4, "a full queue");
+    auto &giver = handle, &taker = handle;
     auto gave = giver.give_all_wait(none);
     expect(gave.given == 0 && gave.rest == none.end() && gave.why == kfifo::Put::done, "an empty range");
     gave = giver.give_all_wait(six.begin(), six.begin() + 3);
@@ -53,10 +64,18 @@ void what_gives_come_to() {
     expect(gave.given == 0 && gave.why == kfifo::Put::timed_out, "no time");
     gave = giver.give_all_until(six, steady_clock::now() + milliseconds(2));
     expect(gave.given == 0 && gave.why == kfifo::Put::timed_out, "a moment that has come");
+    expect(taker.take_up_to(before).values.size() == before, "what was there");
+    for (std::size_t i = 0; i < before; i++) expect(giver.give("0") == kfifo::Put::done, "as many again");
+    expect(giver.give("0") == kfifo::Put::full, "a full queue again");
     expect(taker.take_up_to(2).values == std::vector<std::string>{"1", "2"}, "the first two");
     gave = giver.give_all_for(six.begin() + 4, six.end(), milliseconds(0));
     expect(gave.given == 2 && gave.why == kfifo::Put::done, "room for the last two");
-    expect(taker.take_up_to(4).values == std::vector<std::string>{"3", "1", "5", "6"}, "these came in their order");
+    auto order = taker.take_up_to(before + 4).values;
+    expect(order.size() == before + 4 && order[0] == "3" && order[1] == "1" && order[2] == "0" &&
+               order[before + 2] == "5" && order[before + 3] == "6",
+           "these came in their order");
+    const std::vector<std::string> zeros(before, "0");
+    expect(giver.give_all_for(zeros, milliseconds(0)).given == before, "room without time");
     gave = giver.give_all_until(six.begin(), six.begin() + 2, steady_clock::now());
     expect(gave.given == 2 && gave.why == kfifo::Put::done, "room without time");
 
@@ -98,8 +117,12 @@ void alone_and_refused() {
     queue.reset();
     std::vector<int> five{1, 2, 3, 4, 5}, out;
     auto gave = handle.give_all_wait(five);
-    expect(gave.given == 4 && gave.why == kfifo::Put::finished, "nobody makes room");
-    expect(handle.take_up_to_wait(4, out).taken == 4 && out.back() == 4, "what is there");
+    expect(gave.given == 5 && gave.why == kfifo::Put::done, "room for five");
+    five.resize(100);
+    gave = handle.give_all_wait(five);
+    expect(gave.given >= 4 && gave.given < 100 && gave.why == kfifo::Put::finished, "nobody makes room");
+    std::size_t there = 5 + gave.given;
+    expect(handle.take_up_to_wait(there, out).taken == there && out[4] == 5, "what is there");
     expect(handle.take_up_to_wait(4).why == kfifo::Miss::finished, "nobody gives");
     auto other = std::move(handle);
     int refused = 0;
@@ -156,7 +179,7 @@ void a_copy_that_throws_wakes() {
 // A thread that takes one by one sleeps, and so does one that takes many at once. One call gives a range that is longer
 // than the queue, so it has to wake them before it sleeps itself.
 void one_give_goes_through(bool in_time) {
-    constexpr std::size_t count = 60;
+    constexpr std::size_t count = 600;
     kfifo::ValueQueue<std::size_t> queue(1, 2, 3);
     auto giver = queue.handle();
     for (int round = 0; round < ROUNDS; round++) {
@@ -165,7 +188,7 @@ void one_give_goes_through(bool in_time) {
             while (left != 0) {
                 std::vector<std::size_t> out;
                 if (many)
-                    (void)handle.take_up_to_for(3, out, milliseconds(20));
+                    (void)handle.take_up_to_for(30, out, milliseconds(20));
                 else if (auto value = handle.take_for(milliseconds(20)).value)
                     out.push_back(*value);
                 for (std::size_t value : out) sum += value;
@@ -186,7 +209,7 @@ void one_give_goes_through(bool in_time) {
 
 // The same where those that take have no time, so that only a wake-up ends their sleep.
 void sleepers_are_woken() {
-    constexpr std::size_t threads = 4, each = 10;
+    constexpr std::size_t threads = 4, each = 100;
     kfifo::ValueQueue<std::size_t> queue(1, 2, threads + 1);
     auto first = queue.handle();
     for (int round = 0; round < ROUNDS; round++) {
@@ -215,23 +238,24 @@ void sleepers_are_woken() {
 
 // The values of one queue go to the next, which is shorter, by one call that waits for both.
 void from_queue_to_queue() {
+    constexpr std::size_t count = 300;
     for (int round = 0; round < ROUNDS; round++) {
         kfifo::ValueQueue<std::size_t> queue(1, 8, 2), next(1, 2, 2);
         auto giver = queue.handle();
         std::thread passes([&, taker = queue.handle(), passer = next.handle()]() mutable {
-            expect(passer.give_all_wait(taker.values()).given == 20, "all are passed on");
+            expect(passer.give_all_wait(taker.values()).given == count, "all are passed on");
             passer.finish();
         });
         std::size_t sum = 0;
         std::thread takes([&, last = next.handle()]() mutable {
             for (std::size_t value : last.values()) sum += value;
         });
-        auto all = numbers(20);
-        expect(giver.give_all_wait(all).given == 20, "all are given");
+        auto all = numbers(count);
+        expect(giver.give_all_wait(all).given == count, "all are given");
         queue.finish();
         passes.join();
         takes.join();
-        expect(sum == 210, "each came through");
+        expect(sum == count * (count + 1) / 2, "each came through");
     }
 }
 

@@ -1,11 +1,14 @@
-/* Each request of an open, of a close and of a change of generations for memory is refused once: it is answered,
-   nothing is half done, and nothing leaks. And generations go: through hundreds of changes the memory does not grow. */
-#include "kfifo.h"
+/* Each request of an open, of a close, of growth and of a change of generations for memory is refused once: it is
+   answered, nothing is half done, and nothing leaks. And generations go: through hundreds of changes the memory does
+   not grow. */
+#include "test_queues.h"
 #include <stdio.h>
 #include <stdlib.h>
 #include <string.h>
 
-enum { K = 4, SEGMENTS = 8, THREADS = 3, ROOM = K * SEGMENTS, TOKENS = 5, CELLS = THREADS * TOKENS };
+enum { K = 4, SEGMENTS = 8, THREADS = 3, ROOM = K * SEGMENTS, CAPACITY = 15 };
+/* More than a queue of them has slots, in all its generations. */
+enum { MOST = 1 << 13 };
 
 static int failed;
 /* Requests so far, the one that is refused (0: none), and whether all after it are too. */
@@ -77,28 +80,28 @@ static void refuse(long number) {
 }
 
 /* Opens a queue with the request of this number refused; whether it was opened. */
-static int opens(kfifo_pass *passes, long number) {
+static int opens(kfifo_handle *handles, long number) {
     refuse(number);
-    int status = kfifo_open(K, SEGMENTS, K, KFIFO_LAST, passes, THREADS);
+    int status = kfifo_open(K, SEGMENTS, K, KFIFO_LAST, handles, THREADS);
     refuse(0);
     if (status == KFIFO_DONE) return 1;
     expect(status, KFIFO_NO_MEMORY, "an open that is refused");
     for (int i = 0; i < THREADS; i++)
-        expect(kfifo_enqueue(&passes[i], 1, 0, 9), KFIFO_BAD_CALL, "a handle of a refused open");
+        expect(kfifo_enqueue(&handles[i], 1, 0, 9), KFIFO_BAD_CALL, "a handle of a refused open");
     expect(blocks, 0, "blocks left by a refused open");
     return 0;
 }
 
 /* Closes a queue with two items with the request of this number refused; whether it had them all. */
 static int closes(long number) {
-    kfifo_pass passes[THREADS];
+    kfifo_handle handles[THREADS];
     uint32_t items[ROOM], item = 0;
     size_t count = 77;
-    if (!opens(passes, 0)) return 1;
-    expect(kfifo_enqueue(&passes[0], 5, 0, 9), KFIFO_DONE, "the first item");
-    expect(kfifo_enqueue(&passes[1], 6, 1, 9), KFIFO_DONE, "the second item");
+    if (!opens(handles, 0)) return 1;
+    expect(kfifo_enqueue(&handles[0], 5, 0, 9), KFIFO_DONE, "the first item");
+    expect(kfifo_enqueue(&handles[1], 6, 1, 9), KFIFO_DONE, "the second item");
     refuse(number);
-    int status = kfifo_close(passes, THREADS, items, ROOM, &count);
+    int status = kfifo_close(handles, THREADS, items, ROOM, &count);
     int met = requests >= number;
     refuse(0);
     if (status != KFIFO_DONE) expect(met, 1, "a close that fails with no request refused");
@@ -106,13 +109,13 @@ static int closes(long number) {
         kept++;
         expect(lost, 0, "a close that does nothing after a request at which the items are lost");
         expect(count, 77, "the count of a close that did nothing");
-        expect(kfifo_dequeue(&passes[2], &item, 0, 9), KFIFO_DONE, "a call after a close that did nothing");
-        expect(kfifo_close(passes, THREADS, items, ROOM, &count), KFIFO_DONE, "the close once more");
+        expect(kfifo_dequeue(&handles[2], &item, 0, 9), KFIFO_DONE, "a call after a close that did nothing");
+        expect(kfifo_close(handles, THREADS, items, ROOM, &count), KFIFO_DONE, "the close once more");
         expect(count, 1, "items left");
     } else if (status == KFIFO_LOST) {
         lost++;
         expect(count, 77, "the count of a close that lost the items");
-        expect(kfifo_dequeue(&passes[2], &item, 0, 9), KFIFO_BAD_CALL, "a call after the items were lost");
+        expect(kfifo_dequeue(&handles[2], &item, 0, 9), KFIFO_BAD_CALL, "a call after the items were lost");
     } else {
         expect(status, KFIFO_DONE, "close");
         expect(count, 2, "items left");
@@ -124,44 +127,17 @@ static int closes(long number) {
 
 /* ---- Queues of values and of cells, by the same calls ---- */
 
-struct queue {
-    int of_cells;
-    kfifo_value_pass values[THREADS];
-    kfifo_cell_pass cells[THREADS];
-    uint64_t contents[CELLS];
-};
-
-static kfifo_status gives(struct queue *queue, uint64_t thread, uint64_t value) {
-    uint64_t cell = 0;
-    if (!queue->of_cells) return kfifo_give(&queue->values[thread], value);
-    kfifo_status status = kfifo_reserve(&queue->cells[thread], &cell);
-    if (status != KFIFO_DONE) return status;
-    queue->contents[cell] = value;
-    return kfifo_publish(&queue->cells[thread]); /* after a refusal the next reserve has the same cell */
+static kfifo_status gives(struct any_queue *queue, uint64_t thread, uint64_t value) {
+    return any_give(queue, (uint32_t)thread, value);
 }
 
-static kfifo_status takes(struct queue *queue, uint64_t thread, uint64_t *value) {
-    uint64_t cell = 0;
-    if (!queue->of_cells) return kfifo_take(&queue->values[thread], value);
-    kfifo_status status = kfifo_receive(&queue->cells[thread], &cell);
-    if (status != KFIFO_DONE) return status;
-    *value = queue->contents[cell];
-    expect(kfifo_release(&queue->cells[thread]), KFIFO_DONE, "release");
-    return status;
+static kfifo_status takes(struct any_queue *queue, uint64_t thread, uint64_t *value) {
+    return any_take(queue, (uint32_t)thread, value);
 }
 
-static kfifo_status close_into(struct queue *queue, uint64_t *left, size_t room, size_t *count) {
-    kfifo_status status = queue->of_cells ? kfifo_close_cells(queue->cells, THREADS, left, room, count)
-                                          : kfifo_close_values(queue->values, THREADS, left, room, count);
-    for (size_t i = 0; queue->of_cells && status == KFIFO_DONE && i < *count; i++) left[i] = queue->contents[left[i]];
-    return status;
-}
-
-static int opens_queue(struct queue *queue, int of_cells, long number) {
-    queue->of_cells = of_cells;
+static int opens_queue(struct any_queue *queue, int of_cells, long number) {
     refuse(number);
-    kfifo_status status = of_cells ? kfifo_open_cells(1, SEGMENTS, TOKENS, queue->cells, THREADS)
-                                   : kfifo_open_values(1, SEGMENTS, TOKENS, queue->values, THREADS);
+    kfifo_status status = any_open(queue, of_cells, 1, CAPACITY, KFIFO_LAST, KFIFO_RESERVE, 1, THREADS);
     refuse(0);
     if (status == KFIFO_DONE) return 1;
     expect(status, KFIFO_NO_MEMORY, "an open of values or cells that is refused");
@@ -174,11 +150,12 @@ static int opens_queue(struct queue *queue, int of_cells, long number) {
 /* Closes a queue with the values from `first` to the one before `end`, with the request of this number refused. Where
    that does nothing, a take still gets the oldest value, and a second close gives back the others. Whether no request
    was refused. */
-static int closes_queue(struct queue *queue, uint64_t first, uint64_t end, long number) {
-    uint64_t left[32 * SEGMENTS], value = 0;
+static int closes_queue(struct any_queue *queue, uint64_t first, uint64_t end, long number) {
+    static uint64_t left[MOST];
+    uint64_t value = 0;
     size_t count = 77;
     refuse(number);
-    kfifo_status status = close_into(queue, left, 32 * SEGMENTS, &count);
+    kfifo_status status = any_close(queue, left, MOST, &count);
     int met = requests >= number;
     refuse(0);
     expect(status != KFIFO_DONE, met, "whether a close of values or cells did not do all");
@@ -188,7 +165,7 @@ static int closes_queue(struct queue *queue, uint64_t first, uint64_t end, long 
         expect((long)count, 77, "the count of a close of values or cells that did nothing");
         expect(takes(queue, 2, &value), KFIFO_DONE, "a take after a close that did nothing");
         expect((long)value, (long)first++, "the oldest value after a close that did nothing");
-        status = close_into(queue, left, 32 * SEGMENTS, &count);
+        status = any_close(queue, left, MOST, &count);
     }
     if (status == KFIFO_LOST) {
         lost++;
@@ -204,7 +181,7 @@ static int closes_queue(struct queue *queue, uint64_t first, uint64_t end, long 
 }
 
 static int closes_new(int of_cells, long number) {
-    static struct queue queue;
+    static struct any_queue queue;
     if (!opens_queue(&queue, of_cells, 0)) return 1;
     for (uint64_t i = 0; i < THREADS; i++) expect(gives(&queue, i, 5 + i), KFIFO_DONE, "a value before a close");
     return closes_queue(&queue, 5, 5 + THREADS, number);
@@ -213,24 +190,24 @@ static int closes_new(int of_cells, long number) {
 /* Handles that are abandoned one by one, with items and values left, leave no block; and the queue stays until the
    last. */
 static void abandons(void) {
-    kfifo_value_pass passes[THREADS];
-    kfifo_pass items[THREADS];
+    kfifo_handle handles[THREADS];
+    kfifo_handle items[THREADS];
     uint64_t value = 0;
     uint32_t item = 0;
-    if (kfifo_open_values(K, SEGMENTS, TOKENS, passes, THREADS) != KFIFO_DONE || !opens(items, 0)) return;
+    if (kfifo_open_values(K, CAPACITY, handles, THREADS) != KFIFO_DONE || !opens(items, 0)) return;
     for (uint32_t i = 0; i < THREADS; i++) {
-        expect(kfifo_give(&passes[i], i), KFIFO_DONE, "a value that is left");
+        expect(kfifo_give(&handles[i], i), KFIFO_DONE, "a value that is left");
         expect(kfifo_put(&items[i], i + 1), KFIFO_DONE, "an item that is left");
     }
     for (int i = 0; i + 1 < THREADS; i++) {
         long before = blocks;
-        expect(kfifo_abandon_values(&passes[i], 1), KFIFO_DONE, "abandon");
+        expect(kfifo_abandon(&handles[i], 1), KFIFO_DONE, "abandon");
         expect(kfifo_abandon(&items[i], 1), KFIFO_DONE, "abandon");
         expect(blocks < before, 1, "an abandoned handle frees its block");
     }
-    expect(kfifo_take(&passes[THREADS - 1], &value), KFIFO_DONE, "a take by the last handle");
+    expect(kfifo_take(&handles[THREADS - 1], &value), KFIFO_DONE, "a take by the last handle");
     expect(kfifo_get(&items[THREADS - 1], &item), KFIFO_DONE, "a get by the last handle");
-    expect(kfifo_abandon_values(&passes[THREADS - 1], 1), KFIFO_DONE, "abandon");
+    expect(kfifo_abandon(&handles[THREADS - 1], 1), KFIFO_DONE, "abandon");
     expect(kfifo_abandon(&items[THREADS - 1], 1), KFIFO_DONE, "abandon");
     expect(blocks, 0, "blocks left by handles that were abandoned one by one");
     if (opens(items, 0)) expect(kfifo_put(&items[0], 7), KFIFO_DONE, "an item that is left");
@@ -240,30 +217,31 @@ static void abandons(void) {
 
 /* Gives and takes, and the calls of cells, ask for no memory. */
 static void calls(void) {
-    kfifo_value_pass passes[THREADS];
-    kfifo_cell_pass cells[THREADS];
-    kfifo_pass items[THREADS];
+    kfifo_handle handles[THREADS];
+    kfifo_handle cells[THREADS];
+    kfifo_handle items[THREADS];
     uint64_t value = 0;
     uint32_t item = 0;
-    if (kfifo_open_values(K, SEGMENTS, TOKENS, passes, THREADS) != KFIFO_DONE || !opens(items, 0)) return;
-    if (kfifo_open_cells(K, SEGMENTS, TOKENS, cells, THREADS) != KFIFO_DONE) return;
+    void *cell = NULL;
+    if (kfifo_open_values(K, CAPACITY, handles, THREADS) != KFIFO_DONE || !opens(items, 0)) return;
+    if (kfifo_open_cells(K, CAPACITY, 8, 8, cells, THREADS) != KFIFO_DONE) return;
     refuse(1);
     for (int i = 0; i < 1000; i++) {
-        expect(kfifo_give(&passes[0], 5), KFIFO_DONE, "a give without memory");
-        expect(kfifo_take(&passes[1], &value), KFIFO_DONE, "a take without memory");
+        expect(kfifo_give(&handles[0], 5), KFIFO_DONE, "a give without memory");
+        expect(kfifo_take(&handles[1], &value), KFIFO_DONE, "a take without memory");
         expect(kfifo_put(&items[0], 5), KFIFO_DONE, "a put without memory");
         expect(kfifo_get(&items[1], &item), KFIFO_DONE, "a get without memory");
     }
     for (int i = 0; i < 1000; i++) {
-        expect(kfifo_reserve(&cells[0], &value), KFIFO_DONE, "a reserve without memory");
+        expect(kfifo_reserve(&cells[0], &cell), KFIFO_DONE, "a reserve without memory");
         expect(kfifo_publish(&cells[0]), KFIFO_DONE, "a publish without memory");
-        expect(kfifo_receive(&cells[1], &value), KFIFO_DONE, "a receive without memory");
+        expect(kfifo_receive(&cells[1], &cell), KFIFO_DONE, "a receive without memory");
         expect(kfifo_release(&cells[1]), KFIFO_DONE, "a release without memory");
     }
     expect(requests, 0, "requests of calls for memory");
     refuse(0);
-    expect(kfifo_abandon_values(passes, THREADS), KFIFO_DONE, "abandon");
-    expect(kfifo_abandon_cells(cells, THREADS), KFIFO_DONE, "abandon");
+    expect(kfifo_abandon(handles, THREADS), KFIFO_DONE, "abandon");
+    expect(kfifo_abandon(cells, THREADS), KFIFO_DONE, "abandon");
     expect(kfifo_abandon(items, THREADS), KFIFO_DONE, "abandon");
     expect(blocks, 0, "blocks left by abandoned handles");
 }
@@ -272,35 +250,31 @@ static void calls(void) {
 
 enum { LAST = 128, RESERVE = 64, GIVES = 800 };
 
-static void opens_few(struct queue *queue, int of_cells) {
-    queue->of_cells = of_cells;
-    kfifo_status status = of_cells ? kfifo_open_cells_with(1, SEGMENTS, TOKENS, LAST, RESERVE, queue->cells, THREADS)
-                                   : kfifo_open_values_with(1, SEGMENTS, TOKENS, LAST, RESERVE, queue->values, THREADS);
-    expect(status, KFIFO_DONE, "an open for few versions");
+static void opens_few(struct any_queue *queue, int of_cells) {
+    expect(any_open(queue, of_cells, 1, CAPACITY, LAST, RESERVE, 1, THREADS), KFIFO_DONE, "an open for few versions");
 }
 
-/* The room that a close of a queue needs. The request of this number is refused where it is asked for first: `*met`
-   says whether there was one. */
-static size_t room_of(struct queue *queue, long number, int *met) {
+/* Whether the request of this number was refused where the room of a close is asked for. */
+static int asks_for_room(struct any_queue *queue, long number) {
     refuse(number);
-    size_t room = queue->of_cells ? CELLS : kfifo_values_room(queue->values, THREADS);
-    *met = number && requests >= number;
+    size_t room = queue->kind == OF_CELLS ? 1 : kfifo_values_room(queue->handles, THREADS);
+    int met = number && requests >= number;
     refuse(0);
-    if (room) return room;
-    expect(*met, 1, "whether a request was refused where no room is answered");
-    return kfifo_values_room(queue->values, THREADS);
+    if (room == 0) expect(met, 1, "whether a request was refused where no room is answered");
+    return met;
 }
 
 /* Closes a queue, and expects the values from `first` to the one before `end` in their order. The request of this
    number is refused where the room is asked for. Whether none was. */
-static int closes_few(struct queue *queue, uint64_t first, uint64_t end, long number) {
-    uint64_t left[32 * SEGMENTS];
-    int met = 0;
-    size_t count = 77, room = room_of(queue, number, &met);
-    expect(room >= SEGMENTS && room <= 32 * SEGMENTS, 1, "the room of a close");
-    expect(close_into(queue, left, room, &count), KFIFO_DONE, "a close of a queue with few versions");
+static int closes_few(struct any_queue *queue, uint64_t first, uint64_t end, long number) {
+    size_t count = 0;
+    kfifo_status status = KFIFO_DONE;
+    int met = asks_for_room(queue, number);
+    uint64_t *left = any_left(queue, MOST, &count, &status);
+    expect(status, KFIFO_DONE, "a close of a queue with few versions");
     expect((long)count, (long)(end - first), "values of all generations");
     for (size_t i = 0; i < count; i++) expect((long)left[i], (long)(first + i), "a value that is left");
+    free(left);
     expect(blocks, 0, "blocks left by a queue with few versions");
     return !met;
 }
@@ -308,7 +282,7 @@ static int closes_few(struct queue *queue, uint64_t first, uint64_t end, long nu
 /* Gives and takes through some dozen changes with the request of this number refused: the change is tried again while
    the reserve lasts, so each value goes in, and comes out in its order. Whether that request was made. */
 static int changes(int of_cells, long number) {
-    static struct queue queue;
+    static struct any_queue queue;
     uint64_t taken = 0, value = 0;
     opens_few(&queue, of_cells);
     refuse(number);
@@ -335,7 +309,7 @@ static int changes(int of_cells, long number) {
 /* From the request of this number on there is no memory. WORN comes when the reserve is used up, and not before. Then
    memory may come back, and a give goes to the next generation. The queue is closed: nothing is lost. */
 static void wears_out(int of_cells, long number, int comes_back) {
-    static struct queue queue;
+    static struct any_queue queue;
     uint64_t given = 0, taken = 0, value = 0, since = 0;
     kfifo_status status = KFIFO_DONE;
     opens_few(&queue, of_cells);
@@ -361,7 +335,7 @@ static void wears_out(int of_cells, long number, int comes_back) {
 }
 
 /* Gives and takes by the first `threads` handles, one value after the other. */
-static void goes_on(struct queue *queue, uint64_t threads, uint64_t count, uint64_t *next) {
+static void goes_on(struct any_queue *queue, uint64_t threads, uint64_t count, uint64_t *next) {
     for (uint64_t end = *next + count, value = 0; *next < end && !failed; (*next)++) {
         expect(gives(queue, *next % threads, *next), KFIFO_DONE, "a give through changes");
         expect(takes(queue, (*next + 1) % threads, &value), KFIFO_DONE, "a take through changes");
@@ -370,7 +344,7 @@ static void goes_on(struct queue *queue, uint64_t threads, uint64_t count, uint6
 }
 
 /* With nothing inside, each of these handles makes calls until it is in the newest generation alone. */
-static void comes_to_rest(struct queue *queue, uint64_t threads) {
+static void comes_to_rest(struct any_queue *queue, uint64_t threads) {
     uint64_t value = 0;
     for (uint64_t i = 0; i < 2 * threads; i++)
         expect(takes(queue, i % threads, &value), KFIFO_EMPTY, "a take of an empty queue");
@@ -380,7 +354,7 @@ static void comes_to_rest(struct queue *queue, uint64_t threads) {
    more near a change, with what its opening takes for a moment, and one more for a handle that makes no calls. Returns
    how many changes there were. */
 static long generations_go(int of_cells) {
-    static struct queue queue;
+    static struct any_queue queue;
     uint64_t next = 0;
     opens_few(&queue, of_cells);
     long opened = bytes;
@@ -412,7 +386,7 @@ static long generations_go(int of_cells) {
 
 /* Opens a queue, gives and takes that many values by two handles, and leaves six inside. The third handle is still in
    the first generation. Returns how many bytes more there are than after the opening. */
-static long opens_several(struct queue *queue, int of_cells, uint64_t before) {
+static long opens_several(struct any_queue *queue, int of_cells, uint64_t before) {
     uint64_t next = 0;
     opens_few(queue, of_cells);
     long opened = bytes;
@@ -425,7 +399,7 @@ static long opens_several(struct queue *queue, int of_cells, uint64_t before) {
 /* Closes queues with several generations, and asks for their room, with each request refused once. Returns how many
    of them had more than two generations. */
 static long closes_several(int of_cells) {
-    static struct queue queue;
+    static struct any_queue queue;
     long cases = 0, one = 0;
     for (uint64_t before = 0; before < 2 * RESERVE; before++) {
         long more = opens_several(&queue, of_cells, before);
@@ -444,12 +418,10 @@ static long closes_several(int of_cells) {
 
 /* Refuses each request of an open and of a close of values or of cells once. Writes how many of each there are. */
 static void each_request(int of_cells, long *of_open, long *of_close) {
-    static struct queue queue;
+    static struct any_queue queue;
     for (tried = 1; !opens_queue(&queue, of_cells, tried);) tried++;
     *of_open = tried - 1;
-    size_t count = 77;
-    uint64_t left[CELLS];
-    expect(close_into(&queue, left, CELLS, &count), KFIFO_DONE, "a close of an open where none was refused");
+    expect(any_end(&queue), KFIFO_DONE, "an end of an open where none was refused");
     expect(blocks, 0, "blocks left by that");
     kept = lost = 0;
     for (tried = 1; !closes_new(of_cells, tried);) tried++;
@@ -458,12 +430,43 @@ static void each_request(int of_cells, long *of_open, long *of_close) {
     expect(*of_open > 1 && *of_close > 1, 1, "an open and a close of values or cells ask for memory");
 }
 
+/* A queue grows with the request of this number refused: that give finds no room, and nothing is lost. Later ones grow
+   it after all. Whether that request was made. */
+static int grows(int of_cells, long number) {
+    static struct any_queue queue;
+    enum { GENERATIONS = 20 }; /* one of them has room for 15 to 111 */
+    uint64_t given = 0, taken = 0, value = 0, least = GENERATIONS * CAPACITY;
+    long full = 0;
+    kfifo_status status = any_open(&queue, of_cells, 1, CAPACITY, KFIFO_LAST, KFIFO_RESERVE, GENERATIONS, THREADS);
+    expect(status, KFIFO_DONE, "an open of a queue that grows");
+    refuse(number);
+    while (given < least && full < 10 && !failed) {
+        status = gives(&queue, 0, given);
+        if (status == KFIFO_DONE) given++;
+        if (status != KFIFO_DONE) expect(status, KFIFO_FULL, "a give that cannot grow");
+        full += status != KFIFO_DONE;
+    }
+    int met = requests >= number;
+    refuse(0);
+    expect((long)given, (long)least, "how many values a queue that grows has room for");
+    expect(full <= met, 1, "gives that found no room");
+    for (; taken < given && !failed; taken++) {
+        expect(takes(&queue, 1, &value), KFIFO_DONE, "a take of what has grown");
+        expect((long)value, (long)taken, "a value of what has grown");
+    }
+    expect(any_end(&queue), KFIFO_DONE, "an end of a queue that grew");
+    expect(blocks, 0, "blocks left by a queue that grew");
+    return !met || failed;
+}
+
 /* Queues of values or of cells. */
 static void renewing(int of_cells) {
     long of_open = 0, of_close = 0;
     each_request(of_cells, &of_open, &of_close);
     for (tried = 1; !changes(of_cells, tried);) tried++;
     long of_changes = tried - 1;
+    for (tried = 1; !grows(of_cells, tried);) tried++;
+    expect(tried > 5, 1, "growth asks for memory");
     for (tried = 1; tried < 30; tried++) wears_out(of_cells, tried, tried % 2);
     tried = 0;
     long made = generations_go(of_cells), cases = closes_several(of_cells);
@@ -476,10 +479,10 @@ static void renewing(int of_cells) {
 }
 
 int main(void) {
-    kfifo_pass passes[THREADS];
+    kfifo_handle handles[THREADS];
     long of_open = 1, of_close = 1;
-    for (tried = 1; !opens(passes, tried); tried++) of_open++;
-    expect(kfifo_abandon(passes, THREADS), KFIFO_DONE, "abandon");
+    for (tried = 1; !opens(handles, tried); tried++) of_open++;
+    expect(kfifo_abandon(handles, THREADS), KFIFO_DONE, "abandon");
     expect(blocks, 0, "blocks left by abandoned handles");
     for (tried = 1; !closes(tried); tried++) of_close++;
     /* A close reads its handles before it closes any: the refusal of either list that it makes for that does nothing.

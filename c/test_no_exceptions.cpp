@@ -13,7 +13,7 @@
 int main() {
     auto none = kfifo::ValueQueue<std::string>::try_open(0, 8, 2);
     if (none.queue || none.status != KFIFO_BAD_K) return 1;
-    auto opened = kfifo::ValueQueue<std::string>::try_open(1, 8, 2); // k, segments, threads
+    auto opened = kfifo::ValueQueue<std::string>::try_open(1, 512, 2); // k, capacity, threads
     if (!opened.queue) {
         std::fprintf(stderr, "no queue: %s\n", kfifo_status_text(opened.status));
         return 1;

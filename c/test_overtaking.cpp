@@ -93,7 +93,7 @@ constexpr bool CAN_STEP = false;
 void at_instruction(int, siginfo_t *, void *) {}
 #endif
 
-void make(Call &call, kfifo_value_pass *pass) {
+void make(Call &call, kfifo_handle *pass) {
     std::uint64_t before = requests;
     stepped = &call;
     call.begins = now++;
@@ -153,9 +153,9 @@ bool overtakes(const Value &one, const Value &other) {
 class Run {
   public:
     Run(std::uint32_t k, std::uint32_t handles) : passes(handles), values(1), last(64 * handles) {
-        expect(kfifo_open_values_with(k, 8, 64, last, last / 2, passes.data(), handles), KFIFO_DONE, "open");
+        expect(kfifo_open_values_with(k, 8, last, last / 2, 1, passes.data(), handles), KFIFO_DONE, "open");
     }
-    ~Run() { expect(kfifo_abandon_values(passes.data(), passes.size()), KFIFO_DONE, "abandon"); }
+    ~Run() { expect(kfifo_abandon(passes.data(), passes.size()), KFIFO_DONE, "abandon"); }
 
     // A call by this handle begins in a thread of its own, and stops after that many instructions, or ends before.
     std::unique_ptr<Call> begin(std::uint32_t handle, bool is_give, long steps) {
@@ -272,7 +272,7 @@ class Run {
         }
     }
 
-    std::vector<kfifo_value_pass> passes;
+    std::vector<kfifo_handle> passes;
     std::vector<Value> values; // by their numbers, from 1 on; 0 is that of those that are not followed
     std::vector<kfifo_judge_call> log;
     std::uint64_t last;

@@ -25,7 +25,7 @@ static void expect(int is, int wanted, const char *what) {
 }
 
 struct side {
-    kfifo_pass *pass;
+    kfifo_handle *handle;
     uint32_t k, first, done, got;
     uint16_t turns;
     unsigned char *out; /* how often each item came out to this thread */
@@ -34,8 +34,8 @@ struct side {
 /* Every second call chooses its start and turns itself. */
 static void take(struct side *self, uint32_t index) {
     uint32_t item = 0;
-    int status =
-        index % 4 < 2 ? kfifo_get(self->pass, &item) : kfifo_dequeue(self->pass, &item, index % self->k, self->turns);
+    int status = index % 4 < 2 ? kfifo_get(self->handle, &item)
+                               : kfifo_dequeue(self->handle, &item, index % self->k, self->turns);
     if (status == KFIFO_DONE) {
         self->out[item]++;
         self->got++;
@@ -43,8 +43,8 @@ static void take(struct side *self, uint32_t index) {
 }
 
 static int put(struct side *self, uint32_t index) {
-    if (index % 2) return kfifo_put(self->pass, self->first + index);
-    return kfifo_enqueue(self->pass, self->first + index, index % self->k, self->turns);
+    if (index % 2) return kfifo_put(self->handle, self->first + index);
+    return kfifo_enqueue(self->handle, self->first + index, index % self->k, self->turns);
 }
 
 static void *work(void *argument) {
@@ -64,14 +64,14 @@ static void *work(void *argument) {
 
 /* A queue of this shape, these many threads, and each item counted in and out. */
 static void run(uint32_t k, uint32_t segments, uint32_t probes, uint32_t threads) {
-    kfifo_pass passes[MOST];
+    kfifo_handle handles[MOST];
     struct side sides[MOST];
     pthread_t ids[MOST];
     uint32_t items = threads * EACH, in = 0, out = 0, item = 0;
     int status;
-    expect(kfifo_open(k, segments, probes, KFIFO_LAST, passes, threads), KFIFO_DONE, "open");
+    expect(kfifo_open(k, segments, probes, KFIFO_LAST, handles, threads), KFIFO_DONE, "open");
     for (uint32_t i = 0; i < threads; i++) {
-        sides[i] = (struct side){.pass = &passes[i],
+        sides[i] = (struct side){.handle = &handles[i],
                                  .k = k,
                                  .first = 1 + i * EACH,
                                  .turns = (uint16_t)(segments + 2),
@@ -79,7 +79,7 @@ static void run(uint32_t k, uint32_t segments, uint32_t probes, uint32_t threads
         if (!sides[i].out || pthread_create(&ids[i], NULL, work, &sides[i])) abort();
     }
     for (uint32_t i = 0; i < threads; i++) pthread_join(ids[i], NULL);
-    while ((status = kfifo_get(&passes[0], &item)) == KFIFO_DONE) {
+    while ((status = kfifo_get(&handles[0], &item)) == KFIFO_DONE) {
         sides[0].out[item]++;
         sides[0].got++;
     }
@@ -96,27 +96,27 @@ static void run(uint32_t k, uint32_t segments, uint32_t probes, uint32_t threads
         expect(times, 1, "how often an item came out");
     }
     for (uint32_t i = 0; i < threads; i++) free(sides[i].out);
-    expect(kfifo_enqueue(&passes[0], 1, 0, (uint16_t)(segments + 2)), KFIFO_DONE, "an item to be left");
-    expect(kfifo_enqueue(&passes[threads - 1], 2, 0, (uint16_t)(segments + 2)), KFIFO_DONE, "another");
+    expect(kfifo_enqueue(&handles[0], 1, 0, (uint16_t)(segments + 2)), KFIFO_DONE, "an item to be left");
+    expect(kfifo_enqueue(&handles[threads - 1], 2, 0, (uint16_t)(segments + 2)), KFIFO_DONE, "another");
     size_t count = 77;
-    expect(kfifo_close(passes, threads, left, k * segments - 1, &count), KFIFO_BAD_CALL, "too little room");
+    expect(kfifo_close(handles, threads, left, k * segments - 1, &count), KFIFO_BAD_CALL, "too little room");
     if (threads > 1)
-        expect(kfifo_close(passes, threads - 1, left, k * segments, &count), KFIFO_BAD_CALL, "a missing pass");
+        expect(kfifo_close(handles, threads - 1, left, k * segments, &count), KFIFO_BAD_CALL, "a missing handle");
     expect((int)count, 77, "the count of a close that did nothing");
-    expect(kfifo_close(passes, threads, left, k * segments, &count), KFIFO_DONE, "close");
+    expect(kfifo_close(handles, threads, left, k * segments, &count), KFIFO_DONE, "close");
     expect((int)count, 2, "items left");
     expect((int)(left[0] + left[1]), 3, "the items left");
-    expect(kfifo_enqueue(&passes[0], 1, 0, 1), KFIFO_BAD_CALL, "a closed handle");
-    expect(kfifo_put(&passes[0], 1), KFIFO_BAD_CALL, "a closed handle of a put");
-    expect(kfifo_get(&passes[0], &item), KFIFO_BAD_CALL, "a closed handle of a get");
-    expect(kfifo_close(passes, threads, left, k * segments, &count), KFIFO_BAD_CALL, "close again");
+    expect(kfifo_enqueue(&handles[0], 1, 0, 1), KFIFO_BAD_CALL, "a closed handle");
+    expect(kfifo_put(&handles[0], 1), KFIFO_BAD_CALL, "a closed handle of a put");
+    expect(kfifo_get(&handles[0], &item), KFIFO_BAD_CALL, "a closed handle of a get");
+    expect(kfifo_close(handles, threads, left, k * segments, &count), KFIFO_BAD_CALL, "close again");
 }
 
-/* Closes by handles of two queues. Both have two passes, so the numbers of a mixture are those of a whole queue. The
+/* Closes by handles of two queues. Both have two handles, so the numbers of a mixture are those of a whole queue. The
    handles of one come before those of the other in an array, and `mixed` are the last of the former and the first of
    the latter. */
 static void mixture(int turned) {
-    kfifo_pass all[4], *one = &all[2 * turned], *other = &all[2 - 2 * turned], *mixed = &all[1];
+    kfifo_handle all[4], *one = &all[2 * turned], *other = &all[2 - 2 * turned], *mixed = &all[1];
     uint32_t item = 0;
     size_t count = 77;
     expect(kfifo_open(1, 2, 1, KFIFO_LAST, one, 2), KFIFO_DONE, "open");
@@ -145,7 +145,7 @@ static void mixture(int turned) {
 /* Puts and gets of a handle begin one slot further at each call, from slot thread * k / threads on. */
 static void starts(void) {
     enum { K = 4 };
-    kfifo_pass two[2];
+    kfifo_handle two[2];
     uint32_t item = 0;
     uint64_t word = 0;
     size_t count = 0;
@@ -172,7 +172,7 @@ static void starts(void) {
 /* As many handles as a queue may have, and the greatest ring: each handle puts an item, and all but one get one. */
 static void most_handles(void) {
     enum { THREADS = 64 };
-    static kfifo_pass all[THREADS];
+    static kfifo_handle all[THREADS];
     uint32_t item = 0, sum = 0;
     size_t count = 0;
     expect(kfifo_open(64, 1024, 64, KFIFO_LAST, all, THREADS), KFIFO_DONE, "open for 64");
@@ -192,7 +192,7 @@ static void most_handles(void) {
 static void too_many_threads(void) {
     static const size_t counts[] = {65, 200, SIZE_MAX};
     enum { THREADS = 64 };
-    kfifo_pass *all = malloc(THREADS * sizeof *all);
+    kfifo_handle *all = malloc(THREADS * sizeof *all);
     uint32_t item = 0;
     size_t count = 77;
     if (!all) abort();
@@ -216,35 +216,35 @@ static void too_many_threads(void) {
 
 /* Each cause of BAD_CALL has a text of its own, which comes exactly where the call is refused. */
 static void texts_of_bad_calls(void) {
-    kfifo_pass pass, closed = {0};
+    kfifo_handle handle, closed = {0};
     uint32_t item = 0;
-    expect(kfifo_open(4, 2, 4, KFIFO_LAST, &pass, 1), KFIFO_DONE, "open for texts");
+    expect(kfifo_open(4, 2, 4, KFIFO_LAST, &handle, 1), KFIFO_DONE, "open for texts");
     const struct {
-        kfifo_pass *pass;
+        kfifo_handle *handle;
         uint32_t item, start;
         uint16_t turns;
         const char *text;
     } rows[] = {
-        {NULL, 1, 0, 1, "pointer"}, {&closed, 1, 0, 1, "closed"},
-        {&pass, 0, 0, 1, "item"},   {&pass, KFIFO_MAX_ITEM + 1, 0, 1, "item"},
-        {&pass, 1, 4, 1, "start"},  {&pass, 1, 0, 0, "turns"},
-        {&pass, 1, 3, 1, NULL},     {&pass, KFIFO_MAX_ITEM, 0, 65535, NULL},
+        {NULL, 1, 0, 1, "pointer"},  {&closed, 1, 0, 1, "closed"},
+        {&handle, 0, 0, 1, "item"},  {&handle, KFIFO_MAX_ITEM + 1, 0, 1, "item"},
+        {&handle, 1, 4, 1, "start"}, {&handle, 1, 0, 0, "turns"},
+        {&handle, 1, 3, 1, NULL},    {&handle, KFIFO_MAX_ITEM, 0, 65535, NULL},
     };
     for (size_t i = 0; i < sizeof rows / sizeof rows[0]; i++) {
-        const char *text = kfifo_bad_call_text(rows[i].pass, rows[i].item, rows[i].start, rows[i].turns);
-        int refused = kfifo_enqueue(rows[i].pass, rows[i].item, rows[i].start, rows[i].turns) == KFIFO_BAD_CALL;
+        const char *text = kfifo_bad_call_text(rows[i].handle, rows[i].item, rows[i].start, rows[i].turns);
+        int refused = kfifo_enqueue(rows[i].handle, rows[i].item, rows[i].start, rows[i].turns) == KFIFO_BAD_CALL;
         expect(text != NULL, rows[i].text != NULL, "whether a call may not be made, by its text");
         expect(refused, rows[i].text != NULL, "whether a call may not be made");
         expect(text && rows[i].text && !strstr(text, rows[i].text), 0, "the text names the cause");
-        if (!refused) expect(kfifo_get(&pass, &item), KFIFO_DONE, "the item of a call that was made");
+        if (!refused) expect(kfifo_get(&handle, &item), KFIFO_DONE, "the item of a call that was made");
     }
-    expect(kfifo_abandon(&pass, 1), KFIFO_DONE, "abandon");
+    expect(kfifo_abandon(&handle, 1), KFIFO_DONE, "abandon");
 }
 
 /* Fifty queues at once: all handles of one have one address, and no two have the same. */
 static void addresses(void) {
     enum { QUEUES = 50 };
-    static kfifo_pass all[QUEUES][3];
+    static kfifo_handle all[QUEUES][3];
     for (int i = 0; i < QUEUES; i++) {
         expect(kfifo_open(2, 4, 2, KFIFO_LAST, all[i], 3), KFIFO_DONE, "open one of fifty");
         expect(all[i][0].address == all[i][1].address && all[i][1].address == all[i][2].address, 1,
@@ -260,66 +260,66 @@ static void addresses(void) {
 }
 
 static void refusals(void) {
-    kfifo_pass pass, many[65];
+    kfifo_handle handle, many[65];
     uint32_t item = 77;
-    expect(kfifo_open(0, 2, 1, 9, &pass, 1), KFIFO_BAD_K, "k 0");
-    expect(kfifo_open(65, 2, 1, 9, &pass, 1), KFIFO_BAD_K, "k 65");
-    expect(kfifo_open(1, 1, 1, 9, &pass, 1), KFIFO_BAD_SEGMENTS, "segments 1");
-    expect(kfifo_open(1, 1025, 1, 9, &pass, 1), KFIFO_BAD_SEGMENTS, "segments 1025");
-    expect(kfifo_open(1, 2, 1, 1, &pass, 1), KFIFO_BAD_LAST, "last 1");
-    expect(kfifo_open(1, 2, 1, KFIFO_LAST + 1, &pass, 1), KFIFO_BAD_LAST, "last 2^40");
-    expect(kfifo_open(1, 2, 2, 9, &pass, 1), KFIFO_BAD_PROBES, "probes 2");
-    expect(kfifo_open(1, 2, 1, 9, &pass, 0), KFIFO_BAD_THREADS, "threads 0");
+    expect(kfifo_open(0, 2, 1, 9, &handle, 1), KFIFO_BAD_K, "k 0");
+    expect(kfifo_open(65, 2, 1, 9, &handle, 1), KFIFO_BAD_K, "k 65");
+    expect(kfifo_open(1, 1, 1, 9, &handle, 1), KFIFO_BAD_SEGMENTS, "segments 1");
+    expect(kfifo_open(1, 1025, 1, 9, &handle, 1), KFIFO_BAD_SEGMENTS, "segments 1025");
+    expect(kfifo_open(1, 2, 1, 1, &handle, 1), KFIFO_BAD_LAST, "last 1");
+    expect(kfifo_open(1, 2, 1, KFIFO_LAST + 1, &handle, 1), KFIFO_BAD_LAST, "last 2^40");
+    expect(kfifo_open(1, 2, 2, 9, &handle, 1), KFIFO_BAD_PROBES, "probes 2");
+    expect(kfifo_open(1, 2, 1, 9, &handle, 0), KFIFO_BAD_THREADS, "threads 0");
     expect(kfifo_open(1, 2, 1, 9, many, 65), KFIFO_BAD_THREADS, "threads 65");
-    expect(kfifo_open(1, 2, 1, 9, NULL, 1), KFIFO_BAD_CALL, "no passes");
-    expect(kfifo_open(1, 2, 1, KFIFO_LAST, &pass, 1), KFIFO_DONE, "open");
-    expect(kfifo_enqueue(NULL, 1, 0, 4), KFIFO_BAD_CALL, "no pass");
-    expect(kfifo_enqueue(&pass, 0, 0, 4), KFIFO_BAD_CALL, "item 0");
-    expect(kfifo_enqueue(&pass, KFIFO_MAX_ITEM + 1, 0, 4), KFIFO_BAD_CALL, "item 2^24");
-    expect(kfifo_enqueue(&pass, 1, 1, 4), KFIFO_BAD_CALL, "start 1");
-    expect(kfifo_enqueue(&pass, 1, 0, 0), KFIFO_BAD_CALL, "no turns");
-    expect(kfifo_put(NULL, 1), KFIFO_BAD_CALL, "no pass to put by");
-    expect(kfifo_put(&pass, 0), KFIFO_BAD_CALL, "item 0 of a put");
-    expect(kfifo_put(&pass, KFIFO_MAX_ITEM + 1), KFIFO_BAD_CALL, "item 2^24 of a put");
-    expect(kfifo_get(NULL, &item), KFIFO_BAD_CALL, "no pass to get by");
-    expect(kfifo_get(&pass, NULL), KFIFO_BAD_CALL, "no item to get");
-    expect(kfifo_get(&pass, &item), KFIFO_EMPTY, "an empty queue");
+    expect(kfifo_open(1, 2, 1, 9, NULL, 1), KFIFO_BAD_CALL, "no handles");
+    expect(kfifo_open(1, 2, 1, KFIFO_LAST, &handle, 1), KFIFO_DONE, "open");
+    expect(kfifo_enqueue(NULL, 1, 0, 4), KFIFO_BAD_CALL, "no handle");
+    expect(kfifo_enqueue(&handle, 0, 0, 4), KFIFO_BAD_CALL, "item 0");
+    expect(kfifo_enqueue(&handle, KFIFO_MAX_ITEM + 1, 0, 4), KFIFO_BAD_CALL, "item 2^24");
+    expect(kfifo_enqueue(&handle, 1, 1, 4), KFIFO_BAD_CALL, "start 1");
+    expect(kfifo_enqueue(&handle, 1, 0, 0), KFIFO_BAD_CALL, "no turns");
+    expect(kfifo_put(NULL, 1), KFIFO_BAD_CALL, "no handle to put by");
+    expect(kfifo_put(&handle, 0), KFIFO_BAD_CALL, "item 0 of a put");
+    expect(kfifo_put(&handle, KFIFO_MAX_ITEM + 1), KFIFO_BAD_CALL, "item 2^24 of a put");
+    expect(kfifo_get(NULL, &item), KFIFO_BAD_CALL, "no handle to get by");
+    expect(kfifo_get(&handle, NULL), KFIFO_BAD_CALL, "no item to get");
+    expect(kfifo_get(&handle, &item), KFIFO_EMPTY, "an empty queue");
     expect((int)item, 77, "the item of a get that got none");
-    expect(kfifo_dequeue(&pass, NULL, 0, 4), KFIFO_BAD_CALL, "no item");
-    expect(kfifo_dequeue(&pass, &item, 1, 4), KFIFO_BAD_CALL, "start 1 of a dequeue");
-    expect(kfifo_dequeue(&pass, &item, 0, 0), KFIFO_BAD_CALL, "no turns of a dequeue");
-    expect(kfifo_dequeue(&pass, &item, 0, 4), KFIFO_EMPTY, "empty");
+    expect(kfifo_dequeue(&handle, NULL, 0, 4), KFIFO_BAD_CALL, "no item");
+    expect(kfifo_dequeue(&handle, &item, 1, 4), KFIFO_BAD_CALL, "start 1 of a dequeue");
+    expect(kfifo_dequeue(&handle, &item, 0, 0), KFIFO_BAD_CALL, "no turns of a dequeue");
+    expect(kfifo_dequeue(&handle, &item, 0, 4), KFIFO_EMPTY, "empty");
     expect((int)item, 77, "the item of a dequeue that got none");
-    expect(kfifo_enqueue(&pass, KFIFO_MAX_ITEM, 0, 4), KFIFO_DONE, "the greatest item");
-    expect(kfifo_enqueue(&pass, 5, 0, 4), KFIFO_DONE, "item 5");
-    expect(kfifo_enqueue(&pass, 6, 0, 4), KFIFO_FULL, "full");
-    expect(kfifo_dequeue(&pass, &item, 0, 4), KFIFO_DONE, "got");
+    expect(kfifo_enqueue(&handle, KFIFO_MAX_ITEM, 0, 4), KFIFO_DONE, "the greatest item");
+    expect(kfifo_enqueue(&handle, 5, 0, 4), KFIFO_DONE, "item 5");
+    expect(kfifo_enqueue(&handle, 6, 0, 4), KFIFO_FULL, "full");
+    expect(kfifo_dequeue(&handle, &item, 0, 4), KFIFO_DONE, "got");
     expect((int)item, (int)KFIFO_MAX_ITEM, "the first item");
     uint64_t word = 77;
     size_t count = 77;
-    expect(kfifo_word(NULL, 0, &word), KFIFO_BAD_CALL, "no pass to read by");
-    expect(kfifo_word(&pass, 0, NULL), KFIFO_BAD_CALL, "no word");
-    expect(kfifo_word(&pass, 4, &word), KFIFO_BAD_CALL, "a word past the last");
+    expect(kfifo_word(NULL, 0, &word), KFIFO_BAD_CALL, "no handle to read by");
+    expect(kfifo_word(&handle, 0, NULL), KFIFO_BAD_CALL, "no word");
+    expect(kfifo_word(&handle, 4, &word), KFIFO_BAD_CALL, "a word past the last");
     expect(word == 77, 1, "the word of a read that did nothing");
-    expect(kfifo_word(&pass, 3, &word), KFIFO_DONE, "the clock");
+    expect(kfifo_word(&handle, 3, &word), KFIFO_DONE, "the clock");
     expect(word == 0, 1, "the clock of a plain queue");
-    expect(kfifo_word(&pass, 2, &word), KFIFO_DONE, "the second slot");
+    expect(kfifo_word(&handle, 2, &word), KFIFO_DONE, "the second slot");
     expect((int)(word & KFIFO_MAX_ITEM), 5, "the second slot's item");
-    expect(kfifo_close(NULL, 1, left, 2, &count), KFIFO_BAD_CALL, "no passes to close");
-    expect(kfifo_close(&pass, 1, NULL, 2, &count), KFIFO_BAD_CALL, "no items");
-    expect(kfifo_close(&pass, 1, left, 2, NULL), KFIFO_BAD_CALL, "no count");
-    expect(kfifo_close(&pass, 0, left, 2, &count), KFIFO_BAD_CALL, "a close by no handle");
-    expect(kfifo_abandon(NULL, 1), KFIFO_BAD_CALL, "no passes to abandon");
-    expect(kfifo_abandon(&pass, 1), KFIFO_DONE, "abandon");
-    expect(kfifo_abandon(&pass, 1), KFIFO_DONE, "abandon again");
-    expect(kfifo_dequeue(&pass, &item, 0, 4), KFIFO_BAD_CALL, "a closed handle");
-    expect(kfifo_open(1, 2, 1, 2, &pass, 1), KFIFO_DONE, "open for few versions");
+    expect(kfifo_close(NULL, 1, left, 2, &count), KFIFO_BAD_CALL, "no handles to close");
+    expect(kfifo_close(&handle, 1, NULL, 2, &count), KFIFO_BAD_CALL, "no items");
+    expect(kfifo_close(&handle, 1, left, 2, NULL), KFIFO_BAD_CALL, "no count");
+    expect(kfifo_close(&handle, 0, left, 2, &count), KFIFO_BAD_CALL, "a close by no handle");
+    expect(kfifo_abandon(NULL, 1), KFIFO_BAD_CALL, "no handles to abandon");
+    expect(kfifo_abandon(&handle, 1), KFIFO_DONE, "abandon");
+    expect(kfifo_abandon(&handle, 1), KFIFO_DONE, "abandon again");
+    expect(kfifo_dequeue(&handle, &item, 0, 4), KFIFO_BAD_CALL, "a closed handle");
+    expect(kfifo_open(1, 2, 1, 2, &handle, 1), KFIFO_DONE, "open for few versions");
     int status = KFIFO_DONE;
     for (int i = 0; i < 100 && status != KFIFO_WORN; i++)
-        status = i % 2 ? kfifo_dequeue(&pass, &item, 0, 4) : kfifo_enqueue(&pass, 1, 0, 4);
+        status = i % 2 ? kfifo_dequeue(&handle, &item, 0, 4) : kfifo_enqueue(&handle, 1, 0, 4);
     expect(status, KFIFO_WORN, "worn");
-    expect(kfifo_close(&pass, 1, left, 2, &count), KFIFO_DONE, "close a worn queue");
-    kfifo_pass two[2];
+    expect(kfifo_close(&handle, 1, left, 2, &count), KFIFO_DONE, "close a worn queue");
+    kfifo_handle two[2];
     expect(kfifo_open(1, 2, 1, 9, two, 2), KFIFO_DONE, "open for two");
     expect(kfifo_abandon(&two[1], 1), KFIFO_DONE, "abandon");
     expect(kfifo_close(two, 2, left, 2, &count), KFIFO_BAD_CALL, "a closed handle among those of a close");
@@ -337,7 +337,8 @@ int main(void) {
     texts_of_bad_calls();
     addresses();
     for (int status = KFIFO_DONE; status <= KFIFO_FINISHED; status++) {
-        if (status == 2) continue; /* what the exports return of a take that is done */
+        /* What the exports return of a take that is done, and two numbers that no status has. */
+        if (status == 2 || status == 10 || status == 15) continue;
         expect(strcmp(kfifo_status_text((kfifo_status)status), kfifo_status_text((kfifo_status)99)) != 0, 1,
                "the text of a status");
         expect(strncmp(kfifo_status_name((kfifo_status)status), "KFIFO_", 6), 0, "the name of a status");

@@ -48,13 +48,13 @@ using Parcels = kfifo::ValueQueue<Parcel>;
 
 // A queue whose generations have that many versions, and a reserve of half of them.
 Parcels few_versions(std::uint32_t k, std::uint32_t segments, std::size_t threads, std::uint64_t last) {
-    return Parcels(k, segments, threads, k * segments + 1, {last, last / 2});
+    return Parcels(k, k * segments, threads, {last, last / 2, 1});
 }
 
 // Whether an opening with these versions throws an Error with this status.
-bool refuses(kfifo_status status, kfifo::Versions versions) {
+bool refuses(kfifo_status status, kfifo::Options options) {
     try {
-        Parcels(1, 2, 1, 3, versions);
+        Parcels(1, 2, 1, options);
     } catch (const kfifo::Error &error) {
         return error.status() == status;
     }
@@ -62,9 +62,9 @@ bool refuses(kfifo_status status, kfifo::Versions versions) {
 }
 
 void refusals() {
-    expect(refuses(KFIFO_BAD_LAST, {1, 0}) && refuses(KFIFO_BAD_LAST, {KFIFO_LAST + 1, 0}),
+    expect(refuses(KFIFO_BAD_LAST, {1, 0, 1}) && refuses(KFIFO_BAD_LAST, {KFIFO_LAST + 1, 0, 1}),
            "the greatest version is not 2 to 2^40 - 1");
-    expect(refuses(KFIFO_BAD_RESERVE, {8, 8}) && refuses(KFIFO_BAD_RESERVE, {KFIFO_LAST, UINT64_MAX}),
+    expect(refuses(KFIFO_BAD_RESERVE, {8, 8, 1}) && refuses(KFIFO_BAD_RESERVE, {KFIFO_LAST, UINT64_MAX, 1}),
            "the reserve is not below the greatest version");
 }
 
@@ -100,7 +100,7 @@ void in_order() {
 
 // A queue that does not renew itself wears out, and a close gives back what is left.
 void does_not_renew() {
-    Parcels queue(1, 8, 1, 9, {40, 0});
+    Parcels queue(1, 8, 1, {40, 0, 1});
     std::uint64_t given = 0, taken = 0;
     {
         auto handle = queue.handle();
@@ -330,16 +330,17 @@ Story stopped_after(Parcels &queue, long calls_of_all) {
 }
 
 // The queue is closed, or goes, while it has values of several generations: what came out before and what a close gives
-// back is each value once. It had several generations where more was left than one has slots.
+// back is each value once. It had several generations where more was left than one has cells.
 void stops_anywhere(bool closes) {
-    constexpr std::uint32_t k = 2, segments = 8;
+    constexpr std::uint32_t k = 2, segments = 8, threads = 4,
+                            cells = k * segments + threads * kfifo::detail::spare_cells;
     constexpr long LEAST = 20, NUMBERS = 7980, ROUNDS = NUMBERS / STEP + 1;
     std::size_t most = 0;
     // Where threads take turns on few processors, values of several generations are seldom left. So it goes on until
     // some are, for forty times as many rounds at most.
-    for (long round = 0; round < ROUNDS || (most <= k * segments && round < 40 * ROUNDS); round++) {
+    for (long round = 0; round < ROUNDS || (most <= cells && round < 40 * ROUNDS); round++) {
         const long calls = LEAST + round * STEP % NUMBERS;
-        Parcels queue = few_versions(k, segments, 4, 32 * 4);
+        Parcels queue = few_versions(k, segments, threads, 4 * cells);
         Story story = stopped_after(queue, calls);
         const std::size_t inside = story.given.size() - story.taken.size();
         expect(std::size_t(Parcel::alive) == inside, "values that are left where threads stop");
@@ -350,7 +351,7 @@ void stops_anywhere(bool closes) {
         std::sort(story.taken.begin(), story.taken.end());
         expect(story.given == story.taken, "what came out and what is left is each value once");
     }
-    expect(most > k * segments, "values of several generations are left");
+    expect(most > cells, "values of several generations are left");
     expect(Parcel::alive == 0, "values of a queue that ends in the middle of a change are destroyed once");
 }
 

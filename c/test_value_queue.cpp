@@ -36,6 +36,11 @@ template <typename Call> bool refuses(kfifo_status status, Call call, const char
     return false;
 }
 
+// How many cells a queue has: each thread has its part of the capacity, rounded up, and 32 more.
+std::size_t cells_of(std::size_t capacity, std::size_t threads) {
+    return threads * ((capacity + threads - 1) / threads + kfifo::detail::spare_cells);
+}
+
 // Counts how many are alive. It can be moved and not copied.
 struct Parcel {
     static std::atomic<long> alive;
@@ -52,15 +57,26 @@ void refusals() {
     using Values = kfifo::ValueQueue<std::string>;
     expect(refuses(KFIFO_BAD_K, [] { Values(0, 2, 1); }) && refuses(KFIFO_BAD_K, [] { Values(65, 2, 1); }),
            "k out of range");
-    expect(refuses(KFIFO_BAD_SEGMENTS, [] { Values(1, 1, 1); }) &&
-               refuses(KFIFO_BAD_SEGMENTS, [] { Values(1, 1025, 1); }),
-           "segments out of range");
-    expect(refuses(KFIFO_BAD_THREADS, [] { Values(1, 2, 0); }) && refuses(KFIFO_BAD_THREADS, [] { Values(1, 2, 65); }),
+    expect(refuses(KFIFO_BAD_CAPACITY, [] { Values(1, 0, 1); }) &&
+               refuses(
+                   KFIFO_BAD_CAPACITY, [] { Values(1, 65536, 1); }, "grows") &&
+               refuses(KFIFO_BAD_CAPACITY, [] { Values(64, UINT32_MAX, 64); }),
+           "a capacity out of range");
+    expect(refuses(KFIFO_BAD_THREADS, [] { Values(1, 2, 0); }) &&
+               refuses(KFIFO_BAD_THREADS, [] { Values(1, 2, 65); }) &&
+               refuses(KFIFO_BAD_THREADS, [] { Values(1, 2, SIZE_MAX); }),
            "threads out of range");
-    expect(refuses(KFIFO_BAD_TOKENS, [] { Values(1, 2, 1, 0); }) &&
-               refuses(KFIFO_BAD_TOKENS, [] { Values(1, 2, 1, 1025); }),
-           "tokens out of range");
-    Values queue(1, 2, 2, 2);
+    kfifo::Options options;
+    for (std::uint32_t grows : {0U, 126U, UINT32_MAX}) {
+        options.grows = grows;
+        expect(refuses(
+                   KFIFO_BAD_CALL, [&] { Values(1, 2, 2, options); }, "grow"),
+               "generations out of range");
+    }
+    options.grows = 125;
+    expect(Values(1, 2, 2, options).capacity() == 2, "the most generations of two threads");
+    Values queue(1, 2, 2);
+    expect(queue.capacity() == 2, "the capacity");
     Values::Handle first = queue.handle();
     {
         Values::Handle second = queue.handle();
@@ -72,12 +88,15 @@ void refusals() {
     expect(first.give(std::move(word)) == kfifo::Put::done, "a first value");
     word = std::string(100, 'b');
     expect(first.give(word) == kfifo::Put::done && word == std::string(100, 'b'), "a copy is given");
-    expect(first.give(std::move(word)) == kfifo::Put::no_token && word == std::string(100, 'b'),
-           "without a token the value comes back");
+    std::size_t given = 2;
+    while (first.give(word) == kfifo::Put::done) given++;
+    expect(given == cells_of(2, 2), "a queue takes as many values as it has cells, where no handle keeps one");
+    expect(first.give(std::move(word)) == kfifo::Put::full && word == std::string(100, 'b'),
+           "without a cell the value comes back");
     Values::Handle second = queue.handle();
-    expect(second.give(std::move(word)) == kfifo::Put::full && word == std::string(100, 'b'),
-           "of a full ring the value comes back");
+    expect(second.give(std::move(word)) == kfifo::Put::full && word == std::string(100, 'b'), "to another handle too");
     expect(second.take().value == std::string(100, 'a'), "the oldest value");
+    while (given-- > 2) expect(second.take().value == std::string(100, 'b'), "the others");
     Values::Handle moved = std::move(second);
     expect(refuses(KFIFO_BAD_CALL, [&] { (void)second.take(); }), "a handle that was moved from");
     { Values::Handle one = std::move(first), other = std::move(moved); }
@@ -132,7 +151,7 @@ void ends() {
 // As many handles as threads, which return theirs and take another: each finds one, and no two have the same. They
 // begin together, so that more are runnable than there are processors.
 void handles_go_round(std::size_t of) {
-    kfifo::ValueQueue<int> queue(1, 2, of, 1);
+    kfifo::ValueQueue<int> queue(4, 2, of);
     std::atomic<std::size_t> ready{0};
     std::atomic<bool> stops{false};
     std::atomic<int> refused{0};
@@ -155,36 +174,65 @@ void handles_go_round(std::size_t of) {
     expect(refuses(KFIFO_BAD_CALL, [&] { (void)queue.handle(); }), "one handle more than there are");
     std::size_t given = 0;
     for (auto &handle : each) given += handle.give(1) == kfifo::Put::done;
-    expect(given == 2, "two slots take two values of as many handles");
+    expect(given == of, "each handle gives a value");
     each.clear();
-    expect(queue.close().size() == 2, "a close after each handle came back");
+    expect(queue.close().size() == of, "a close after each handle came back");
 }
 
-// Handles that take keep tokens of the one that gives, 15 each at most. With the tokens that a queue has where no
-// number is given, that one gives until the ring is full all the same, and one that waits does not wait for ever.
-void keeping() {
-    constexpr std::size_t of = 16;
-    kfifo::ValueQueue<int> queue(1, 256, of);
-    std::vector<kfifo::ValueQueue<int>::Handle> handles;
+// Handles that take keep the cells of the one that gives, two batches at most. One handle has room for as many values
+// as the queue was opened for all the same, and one that waits does not wait for ever.
+void keeping(std::uint32_t k, std::uint32_t capacity, std::size_t of) {
+    kfifo::ValueQueue<std::uint32_t> queue(k, capacity, of);
+    std::vector<kfifo::ValueQueue<std::uint32_t>::Handle> handles;
     for (std::size_t i = 0; i < of; i++) handles.push_back(queue.handle());
     auto giver = std::move(handles.back());
     handles.pop_back();
     bool all_came = true;
-    for (auto &taker : handles)
-        for (int i = 0; i < 15; i++)
-            all_came = all_came && giver.give(i) == kfifo::Put::done && taker.take().value.has_value();
+    for (std::uint32_t round = 0; round < 2; round++)
+        for (auto &taker : handles)
+            for (std::uint32_t i = 0; i < 40; i++)
+                all_came = all_came && giver.give(std::move(i)) == kfifo::Put::done && taker.take().value == i;
     expect(all_came, "what takers keep comes to them");
-    int given = 0;
+    std::uint32_t given = 0;
     kfifo::Put why = kfifo::Put::done;
-    while ((why = giver.give_for(int(given), std::chrono::milliseconds(1))) == kfifo::Put::done) given++;
-    expect(given == 256 && why == kfifo::Put::timed_out, "one handle fills the ring, whatever the others keep");
-    expect(giver.give(0) == kfifo::Put::full, "a full ring says so");
-    expect(kfifo_enough_tokens(1, 256, of) == 257 + 15 * 15 && kfifo_enough_tokens(64, 1024, 1) == KFIFO_MAX_TOKENS &&
-               kfifo_enough_tokens(1, 2, 64) == 3 + 15 * 63 && kfifo_enough_tokens(1, 2, 1) == 3,
-           "how many tokens are enough");
-    expect(refuses(KFIFO_BAD_THREADS, [] { kfifo::ValueQueue<int>(1, 14, 0); }) &&
-               refuses(KFIFO_BAD_THREADS, [] { kfifo::ValueQueue<int>(1, 2, SIZE_MAX); }),
-           "the number of tokens hides no other refusal");
+    while ((why = giver.give_for(std::uint32_t(given), std::chrono::milliseconds(1))) == kfifo::Put::done) given++;
+    expect(given >= capacity && given < cells_of(capacity, of) && why == kfifo::Put::timed_out,
+           "one handle fills the queue, whatever the others keep");
+    expect(giver.give(0) == kfifo::Put::full, "a full queue says so");
+    std::uint64_t sum = 0;
+    for (std::uint32_t i = 0; i < given; i++) {
+        auto value = handles[i % (of - 1)].take().value;
+        expect(value && (k > 1 || *value == i), "what is in a full queue comes out, and in its order");
+        sum += value.value_or(0);
+    }
+    expect(sum == std::uint64_t(given) * (given - 1) / 2, "each once");
+}
+
+// A producer puts jobs into a queue with room for some more, round after round, and workers take them. It waits for
+// room where it has to, and never hangs.
+void jobs(std::size_t workers, std::uint32_t capacity, std::uint32_t jobs_of_a_round) {
+    kfifo::ValueQueue<std::uint32_t> queue(4, capacity, workers + 1);
+    std::atomic<std::uint32_t> left{0};
+    std::atomic<std::uint64_t> sum{0};
+    std::vector<std::thread> all;
+    for (std::size_t i = 0; i < workers; i++)
+        all.emplace_back([&, handle = queue.handle()]() mutable {
+            for (std::uint32_t job : handle.values()) {
+                sum += job;
+                left--;
+            }
+        });
+    auto handle = queue.handle();
+    constexpr std::uint32_t rounds = EACH / 500;
+    for (std::uint32_t round = 0; round < rounds; round++) {
+        left = jobs_of_a_round;
+        for (std::uint32_t job = 1; job <= jobs_of_a_round; job++)
+            expect(handle.give_wait(std::uint32_t(job)) == kfifo::Put::done, "a job");
+        while (left != 0) std::this_thread::yield();
+    }
+    handle.finish();
+    for (std::thread &thread : all) thread.join();
+    expect(sum == std::uint64_t(rounds) * jobs_of_a_round * (jobs_of_a_round + 1) / 2, "each job was done once");
 }
 
 void threads(std::size_t pairs) {
@@ -236,7 +284,11 @@ int main() {
     sizes();
     ends();
     for (std::size_t of : {2, 8, 64}) handles_go_round(of);
-    keeping();
+    for (std::size_t of : {2, 8, 16}) keeping(1, 256, of);
+    keeping(16, 256, 64);
+    keeping(64, 60000, 2);
+    for (std::size_t workers : {7, 15, 63}) jobs(workers, 256, 100);
+    jobs(3, 8, 100);
     for (std::size_t pairs = 1; pairs <= 4; pairs *= 2) threads(pairs);
     std::puts(failures ? "the queue of values fails in C++"
                        : "1, 2 and 4 producers in C++: each value came out whole, and was destroyed once");

@@ -7,6 +7,7 @@
 #include <algorithm>
 #include <cstdio>
 #include <cstdlib>
+#include <functional>
 #include <string>
 #include <thread>
 
@@ -24,8 +25,9 @@ int failures = 0;
 // Requests for memory by C++ so far.
 std::atomic<long> requests{0};
 
-// What the closes of queues come to.
+// What the library's closes of queues come to, and what loses the cells that are left.
 kfifo_status closes = KFIFO_DONE;
+std::function<void(const kfifo_cell_at &)> loses;
 
 void expect(bool holds, const char *what) {
     if (!holds) {
@@ -62,14 +64,16 @@ __attribute__((noinline)) void operator delete(void *block, std::size_t, std::al
 
 // The linker hands the library's closes to this function.
 extern "C" {
-std::uint32_t __real_kfifo_c_close_cells(kfifo_cell_pass *passes, std::size_t threads, std::uint64_t *cells,
-                                         std::size_t room, std::size_t *count);
+std::uint32_t __real_kfifo_c_close_cells(kfifo_handle *passes, std::size_t threads, kfifo_left *left);
 
-std::uint32_t __wrap_kfifo_c_close_cells(kfifo_cell_pass *passes, std::size_t threads, std::uint64_t *cells,
-                                         std::size_t room, std::size_t *count) {
-    if (closes == KFIFO_LOST) kfifo_c_abandon_cells(passes, threads);
-    if (closes != KFIFO_DONE) return closes;
-    return __real_kfifo_c_close_cells(passes, threads, cells, room, count);
+std::uint32_t __wrap_kfifo_c_close_cells(kfifo_handle *passes, std::size_t threads, kfifo_left *left) {
+    if (closes == KFIFO_NO_MEMORY) return closes;
+    std::uint32_t status = __real_kfifo_c_close_cells(passes, threads, left);
+    if (closes == KFIFO_DONE) return status;
+    kfifo_cell_at cell{};
+    while (kfifo_c_next_left(left, &cell) == KFIFO_DONE) loses(cell);
+    kfifo_c_free_left(left);
+    return closes;
 }
 }
 
@@ -212,35 +216,45 @@ void balanced(const char *what) {
 
 // ---- Each kind ----
 
-// A queue of two slots gives back what it refuses, for each of its reasons, also by calls that wait.
+// Makes values with number 0 until the queue is full. Returns how many.
+template <typename Handle> int fill(Handle &handle) {
+    int given = 0;
+    while (handle.emplace(0) == kfifo::Put::done) given++;
+    return given;
+}
+
+// A full queue gives back what it refuses, also by calls that wait.
 template <typename T> void refused() {
     using namespace std::chrono_literals;
-    for (std::uint32_t tokens : {2, 3}) {
-        kfifo::Put why = tokens == 2 ? kfifo::Put::no_token : kfifo::Put::full;
-        kfifo::ValueQueue<T> queue(1, 2, 1, tokens);
+    {
+        kfifo::ValueQueue<T> queue(1, 2, 1);
         auto handle = queue.handle();
         expect(handle.give(T(1)) == kfifo::Put::done && handle.emplace(2) == kfifo::Put::done, "two values");
+        const int more = fill(handle);
         T third(3);
-        expect(handle.give(std::move(third)) == why && third.is(3), "a value that is refused");
+        expect(handle.give(std::move(third)) == kfifo::Put::full && third.is(3), "a value that is refused");
         expect(handle.give_for(std::move(third), 1ms) == kfifo::Put::timed_out && third.is(3),
                "a value that is refused after a time");
         expect(handle.give_until(std::move(third), std::chrono::steady_clock::now()) == kfifo::Put::timed_out &&
                    third.is(3),
                "a value that is refused at a time");
-        expect(handle.emplace(4) == why, "a value that was made in vain");
-        expect(Counted::alive == 3, "a value that was refused is nowhere else");
+        expect(handle.emplace(4) == kfifo::Put::full, "a value that was made in vain");
+        expect(Counted::alive == 3 + more, "a value that was refused is nowhere else");
         auto taken = handle.take();
         expect(taken.value && taken.value->is(1), "the first value");
         expect(handle.give(std::move(third)) == kfifo::Put::done, "a value that was refused before");
         taken.value.reset();
-        expect(Counted::alive == 3, "what was taken is not in the queue");
+        expect(Counted::alive == 3 + more, "what was taken is not in the queue");
         queue.finish();
         T late(5);
         expect(handle.give(std::move(late)) == kfifo::Put::finished && late.is(5), "a value after the end");
         expect(handle.give_wait(std::move(late)) == kfifo::Put::finished && late.is(5),
                "a value after the end that would wait");
-        auto second = handle.take_wait(), rest = handle.take_wait();
-        expect(second.value && second.value->is(2) && rest.value && rest.value->is(3), "values in their order");
+        auto second = handle.take_wait();
+        expect(second.value && second.value->is(2), "the second value");
+        for (int i = 0; i < more; i++) expect(handle.take_wait().value->is(0), "values in their order");
+        auto rest = handle.take_wait();
+        expect(rest.value && rest.value->is(3), "the last value");
         expect(handle.take_wait().why == kfifo::Miss::finished, "the end");
     }
     balanced("a queue that refuses");
@@ -270,7 +284,7 @@ template <typename T> void left() {
 // A queue whose versions are used up.
 template <typename T> void worn() {
     for (bool closed : {false, true}) {
-        kfifo::ValueQueue<T> queue(1, 2, 1, 3, {3, 0});
+        kfifo::ValueQueue<T> queue(1, 2, 1, {3, 0, 1});
         std::vector<int> inside;
         int next = 0;
         {
@@ -303,30 +317,32 @@ template <typename T> void worn() {
     balanced("a worn queue");
 }
 
-// A close that the library has no memory for loses no value: it does nothing, or gives them back in any order.
+// Of a queue that is worn out the library says what is left, which may need memory. What it has none for is still
+// there, and comes out of a further close. What it loses is gone, but for what came out before.
 template <typename T> void closed_without_memory() {
+    loses = [](const kfifo_cell_at &cell) { kfifo::detail::value_in<T>(cell).~T(); };
     for (kfifo_status status : {KFIFO_NO_MEMORY, KFIFO_LOST}) {
-        kfifo::ValueQueue<T> queue(2, 4, 2);
-        for (int i = 0; i < 5; i++) expect(queue.handle().emplace(i) == kfifo::Put::done, "a value before a close");
+        kfifo::ValueQueue<T> queue(1, 4, 1, {6, 0, 1});
+        int given = 0;
+        while (queue.handle().emplace(given) == kfifo::Put::done) given++;
         closes = status;
-        std::vector<T> rest;
-        bool failed = false;
-        try {
-            rest = queue.close();
-        } catch (const std::bad_alloc &) {
-            failed = true;
+        for (int i = 0; i < 3; i++) {
+            bool failed = false;
+            try {
+                (void)queue.close();
+            } catch (const std::bad_alloc &) {
+                failed = true;
+            }
+            expect(failed || (status == KFIFO_LOST && i > 0), "a close without memory");
+            expect(refuses([&] { (void)queue.handle(); }), "a handle after a close without memory");
+            if (!failed) break;
         }
         closes = KFIFO_DONE;
-        expect(failed == (status == KFIFO_NO_MEMORY), "a close without memory");
-        if (failed) {
-            expect(queue.handle().emplace(5) == kfifo::Put::done, "a give after a close that did nothing");
-            rest = queue.close();
-        }
-        std::vector<int> numbers;
-        for (T &value : rest) numbers.push_back(*value.number);
-        std::sort(numbers.begin(), numbers.end());
-        expect(numbers == (failed ? std::vector<int>{0, 1, 2, 3, 4, 5} : std::vector<int>{0, 1, 2, 3, 4}),
-               "what a close without memory gives back");
+        if (status == KFIFO_LOST) continue;
+        auto rest = queue.close();
+        bool in_order = given > 0 && rest.size() == std::size_t(given);
+        for (std::size_t i = 0; in_order && i < rest.size(); i++) in_order = rest[i].is(int(i));
+        expect(in_order, "what a close with memory gives back");
     }
     balanced("a close without memory");
 }
@@ -343,13 +359,14 @@ void fixed() {
         kfifo::ValueQueue<Fixed> queue(1, 2, 1);
         auto handle = queue.handle();
         expect(handle.emplace(1) == kfifo::Put::done && handle.emplace(2) == kfifo::Put::done, "values made in cells");
-        expect(handle.emplace(3) == kfifo::Put::full && Counted::alive == 2, "one that was made in vain");
+        const int more = fill(handle);
+        expect(handle.emplace(3) == kfifo::Put::full && Counted::alive == 2 + more, "one that was made in vain");
         auto taken = handle.take();
         expect(taken.value && taken.value->is(1) && taken.value->once == 1, "a value that cannot be assigned");
         handle.finish();
         int count = 0;
-        for (Fixed &&value : handle.values()) count += value.once;
-        expect(count == 2, "a range of values that cannot be assigned");
+        for (Fixed &&value : handle.values()) count += value.once ? value.once : 1;
+        expect(count == 2 + more, "a range of values that cannot be assigned");
     }
     balanced("a type that cannot be assigned");
 }
@@ -358,7 +375,7 @@ void fixed() {
 
 // A constructor and a copy that throw leave the queue, and what was to be given, as they were.
 template <typename T> void throws_as_given() {
-    kfifo::ValueQueue<T> queue(1, 2, 1, 3);
+    kfifo::ValueQueue<T> queue(1, 2, 1);
     auto handle = queue.handle();
     T value(1);
     const T &same = value;
@@ -372,9 +389,10 @@ template <typename T> void throws_as_given() {
         expect(!handle.take().value, "nothing was given that waits");
     }
     for (int i = 0; i < 2; i++) expect(handle.give(same) == kfifo::Put::done, "a copy");
-    expect(handle.give(same) == kfifo::Put::full && value.is(1) && Counted::alive == 3, "a copy that is refused");
-    expect(throws(0, [&] { (void)handle.give(same); }) && value.is(1) && Counted::alive == 3,
-           "a copy in vain that throws");
+    const int more = fill(handle);
+    expect(handle.give(same) == kfifo::Put::full && value.is(1) && Counted::alive == 3 + more,
+           "a copy that is refused");
+    expect(!throws(0, [&] { (void)handle.give(same); }), "a full queue copies nothing");
 }
 
 // A take whose copy throws takes nothing: the value is the next one of its handle, or what is left of the queue.
@@ -431,97 +449,110 @@ void kept() {
 
 // Where moves throw and there are no copies, a value is where its type leaves it.
 void throws_as_moved() {
-    kfifo::ValueQueue<MovedThrowing> queue(1, 2, 1, 3);
+    kfifo::ValueQueue<MovedThrowing> queue(1, 2, 1);
     auto handle = queue.handle();
     MovedThrowing value(1);
     expect(throws(0, [&] { (void)handle.give(std::move(value)); }) && value.is(1), "a move that throws");
     expect(!handle.take().value && Counted::alive == 1, "nothing was given");
     expect(handle.give(std::move(value)) == kfifo::Put::done && handle.emplace(2) == kfifo::Put::done, "two values");
+    const int more = fill(handle);
     MovedThrowing third(3);
-    expect(handle.give(std::move(third)) == kfifo::Put::full && third.is(3), "a value that was moved back");
-    expect(throws(1, [&] { (void)handle.give(std::move(third)); }) && Counted::alive == 4, "a move back that throws");
+    expect(handle.give(std::move(third)) == kfifo::Put::full && third.is(3), "a value that was not moved");
+    expect(Counted::alive == 4 + more, "nothing was moved");
     expect(throws(0, [&] { (void)handle.take(); }), "a move out that throws");
     auto taken = handle.take();
     expect(taken.value && taken.value->is(1), "the value that could not be moved out");
 }
 
-// A giver that waits for room, or for a token, is woken by a take that throws, or by the next one.
+// On the way from a generation that takes no more values to the next one, a value is made twice more. Where that
+// throws, nothing was given, and the next give goes on as if nothing had been. A value of which copies were made is as
+// it was.
+template <typename T> void throws_on_the_way() {
+    constexpr bool is_copied = std::is_copy_constructible_v<T>;
+    for (long after = 0; after < 4; after++) {
+        kfifo::ValueQueue<T> queue(1, 2, 1, {6, 0, 1});
+        auto handle = queue.handle();
+        while (handle.emplace(7) == kfifo::Put::done) continue;
+        const long inside = Counted::alive;
+        T value(3);
+        bool has_thrown = throws(after, [&] { (void)handle.give(std::move(value)); });
+        expect(has_thrown == (after < (is_copied ? 3 : 4)), "a value that throws on its way");
+        expect(Counted::alive == inside + 1, "no other value is lost, and no cell has it");
+        if (is_copied || after == 0) expect(value.is(3), "the value that could not go on");
+        T other(4);
+        expect(handle.give(std::move(other)) == kfifo::Put::worn && other.is(4), "a give after that");
+        expect(throws(after == 0 ? 0 : 2, [&] { (void)handle.emplace(5); }), "a value that is made and throws");
+        expect(Counted::alive == inside + 2, "that one is gone");
+    }
+    balanced("a value that throws on its way");
+}
+
+// A giver that waits for room is woken by takes, also where one threw before. The taker keeps some of the cells that
+// it frees before it lays a batch of them into the pool.
 void woken() {
-    for (std::uint32_t tokens : {1, 3}) {
-        kfifo::ValueQueue<Throwing> queue(1, 2, 2, tokens);
+    {
+        kfifo::ValueQueue<Throwing> queue(1, 2, 2);
         auto giver = queue.handle(), taker = queue.handle();
-        for (std::uint32_t i = 0; i < std::min(tokens, 2U); i++)
-            expect(giver.emplace(int(i)) == kfifo::Put::done, "a value");
+        const int more = fill(giver);
         expect(throws(0, [&] { (void)taker.take(); }), "a take that throws");
         std::thread waits([&] {
             Throwing value(9);
             expect(giver.give_wait(std::move(value)) == kfifo::Put::done, "a giver that waits");
         });
         std::this_thread::sleep_for(std::chrono::milliseconds(5));
-        expect(taker.take_wait().value->is(0), "the value of a take that threw");
+        for (int i = 0; i < more; i++)
+            expect(taker.take().value->is(0), "the values, from that of the take that threw");
         waits.join();
+        expect(taker.take_wait().value->is(9), "what was given late");
     }
-    // A giver that wants a token is woken once the cell is released, after the value that was in it is destroyed.
-    kfifo::ValueQueue<Slow> queue(1, 2, 2, 1);
+    // A cell is released after the value that was in it is destroyed, and wakes the giver then.
+    kfifo::ValueQueue<Slow> queue(1, 2, 2);
     auto giver = queue.handle(), taker = queue.handle();
-    expect(giver.emplace(1) == kfifo::Put::done, "a value whose end takes long");
-    std::thread waits([&] { expect(giver.give_wait(Slow(2)) == kfifo::Put::done, "a giver that waits for a token"); });
+    const int more = fill(giver);
+    std::thread waits([&] { expect(giver.give_wait(Slow(2)) == kfifo::Put::done, "a giver that waits for a cell"); });
     std::this_thread::sleep_for(std::chrono::milliseconds(5));
-    expect(taker.take().value->is(1), "a take that ends late");
+    for (int i = 0; i < more; i++) expect(taker.take().value->is(0), "a take that ends late");
     waits.join();
     expect(taker.take().value->is(2), "what was given late");
 }
 
 // ---- Where the cells are ----
 
-template <typename T> void places(std::size_t threads, std::size_t tokens) {
-    kfifo::detail::Cells<T> cells(threads, tokens);
-    auto address = [&](std::size_t number) { return reinterpret_cast<std::uintptr_t>(&cells[number]); };
-    bool right = true;
-    for (std::size_t number = 0; number < threads * tokens; number++) {
-        right = right && address(number) % alignof(T) == 0;
-        if (number % tokens == 0)
-            right = right && address(number) % 64 == 0 &&
-                    (number == 0 || address(number) >= address(number - 1) + sizeof(T));
-        else
-            right = right && address(number) == address(number - 1) + sizeof(T);
-    }
-    expect(right, "each cell has a place of its own, and each thread begins on a line");
-}
-
-struct alignas(128) Wide {
-    char bytes[130];
+// A value that notes where it is made.
+template <std::size_t size, std::size_t alignment> struct Placed {
+    static std::vector<std::uintptr_t> all;
+    Placed() { all.push_back(reinterpret_cast<std::uintptr_t>(this)); }
+    Placed(Placed &&) noexcept {}
+    alignas(alignment) char bytes[size];
 };
 
-void all_places() {
-#ifdef FEWER
-    constexpr std::size_t step = 101;
-#else
-    constexpr std::size_t step = 1;
-#endif
-    for (std::size_t tokens = 1; tokens <= KFIFO_MAX_TOKENS; tokens += step) places<char>(64, tokens);
-    places<char>(64, KFIFO_MAX_TOKENS);
-    for (std::size_t tokens : {1, 2, 3, 7, 63, 1024}) {
-        places<std::string>(3, tokens);
-        places<Wide>(5, tokens);
+template <std::size_t size, std::size_t alignment> std::vector<std::uintptr_t> Placed<size, alignment>::all;
+
+// Each cell has a place of its own, at a multiple of the alignment, and they lie side by side.
+template <std::size_t size, std::size_t alignment> void places() {
+    using Value = Placed<size, alignment>;
+    {
+        kfifo::ValueQueue<Value> queue(16, 300, 3);
+        auto handle = queue.handle();
+        while (handle.emplace() == kfifo::Put::done) continue;
     }
+    std::sort(Value::all.begin(), Value::all.end());
+    bool is_right = Value::all.size() == 3 * (100 + kfifo::detail::spare_cells);
+    for (std::size_t i = 0; i < Value::all.size(); i++)
+        is_right = is_right && Value::all[i] % alignment == 0 && Value::all[i] == Value::all[0] + i * sizeof(Value);
+    expect(is_right, "each cell has a place of its own");
 }
 
-// A cell has a value from when a handle makes one there until any handle destroys it, and then anew.
-void values_of_cells() {
-    kfifo::detail::Cells<std::string> cells(3, 700);
-    std::vector<std::uint64_t> all{0, 63, 64, 511, 512, 700, 2099};
-    for (int round = 0; round < 5; round++) {
-        for (std::uint64_t number : all) cells.make(cells.bits_of(std::size_t(number + round) % 3), number, 40, 'x');
-        expect(cells.with_values() == all, "the cells with a value");
-        for (std::uint64_t number : all) cells.destroy(cells.bits_of(std::size_t(number + 2 * round) % 3), number);
-        expect(cells.with_values().empty(), "cells without a value");
-    }
-    // What is left is destroyed with the cells.
-    cells.make(cells.bits_of(1), 2099, 40, 'y');
-    cells.make(cells.bits_of(2), 1, 40, 'z');
-    expect(cells.with_values() == std::vector<std::uint64_t>{1, 2099}, "two cells with a value");
-    expect(cells[2099] == std::string(40, 'y'), "the value of a cell");
+void all_places() {
+    places<1, 1>();
+    places<3, 1>();
+    places<12, 4>();
+    places<16, 8>();
+    places<48, 16>();
+    places<32, 32>();
+    places<130, 64>();
+    places<1, 128>();
+    places<5000, 4096>();
 }
 
 // ---- Memory ----
@@ -532,7 +563,7 @@ struct Small {
 
 // What a caller does first.
 int first_calls() {
-    kfifo::ValueQueue<std::string> queue(1, 1024, 2); // k, segments, threads
+    kfifo::ValueQueue<std::string> queue(1, 512, 2); // k, capacity, threads
     auto giver = queue.handle(), taker = queue.handle();
     if (giver.give("first") != kfifo::Put::done) return 1;
     if (giver.emplace(3, 'x') != kfifo::Put::done) return 1;
@@ -577,7 +608,7 @@ std::uint64_t number_of(const Record &value) {
 std::uint64_t number_of(const Counted &value) { return std::uint64_t(*value.number); }
 
 template <typename T> void threads(std::size_t pairs) {
-    kfifo::ValueQueue<T> queue(4, 16, 2 * pairs, 9);
+    kfifo::ValueQueue<T> queue(4, 16, 2 * pairs);
     std::vector<std::atomic<unsigned char>> seen(pairs * EACH);
     std::atomic<std::size_t> still_giving{pairs};
     std::vector<std::thread> all;
@@ -630,8 +661,9 @@ int main() {
     balanced("what throws as it is moved");
     woken();
     balanced("threads that wait");
+    throws_on_the_way<Throwing>();
+    throws_on_the_way<MovedThrowing>();
     all_places();
-    values_of_cells();
     expect(first_calls() == 0, "the first calls");
     no_requests();
     for (std::size_t pairs = 1; pairs <= 4; pairs *= 2) {

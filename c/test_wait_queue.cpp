@@ -41,9 +41,16 @@ std::atomic<long> Parcel::alive{0};
 
 using Parcels = kfifo::ValueQueue<Parcel>;
 
-// That many givers and takers over a ring of four slots, where both sides sleep often.
+// Gives values until the queue is full. Returns how many: one for each cell, where no other handle keeps some.
+template <typename Handle, typename Value> std::size_t fill(Handle &handle, const Value &value) {
+    std::size_t given = 0;
+    while (handle.give(value) == kfifo::Put::done) given++;
+    return given;
+}
+
+// That many givers and takers over a small queue, where both sides sleep often.
 void run(std::size_t givers, std::size_t takers) {
-    Parcels queue(2, 2, givers + takers, 2);
+    Parcels queue(2, 1, givers + takers);
     std::vector<std::atomic<unsigned char>> seen(VALUES);
     std::atomic<std::size_t> still_giving{givers}, taken{0};
     std::vector<std::thread> threads;
@@ -89,11 +96,12 @@ void times() {
            "a take until a time of day");
     expect(handle.give("first") == kfifo::Put::done && handle.give_for("second", 0s) == kfifo::Put::done,
            "gives that find room");
+    std::size_t more = fill(handle, "more");
     std::string third(100, 'c');
     for (auto time : {-1.0, 0.0, 0.02})
         expect(handle.give_for(std::move(third), std::chrono::duration<double>(time)) == kfifo::Put::timed_out &&
                    third == std::string(100, 'c'),
-               "a give to a full ring gives its value back");
+               "a give to a full queue gives its value back");
     expect(handle.give_until(std::move(third), Clock::now() + 1ms) == kfifo::Put::timed_out &&
                third == std::string(100, 'c'),
            "a give until a time gives its value back");
@@ -103,10 +111,11 @@ void times() {
         expect(other.give_for(std::move(third), far) == kfifo::Put::done, "a long give");
     });
     std::this_thread::sleep_for(5ms);
-    expect(handle.take().value == "first", "a take that makes room");
+    // The handle keeps some of the cells that it frees, and lays the others into the pool.
+    expect(handle.take().value == "first" && handle.take_wait().value == "second", "takes that make room");
+    for (; more; more--) expect(handle.take().value == "more", "further takes that make room");
     giver.join();
-    expect(handle.take_wait().value == "second" && handle.take_wait().value == std::string(100, 'c'),
-           "values in their order");
+    expect(handle.take_wait().value == std::string(100, 'c'), "values in their order");
     std::thread taker([&, other = queue.handle()]() mutable {
         expect(other.take_for(std::chrono::duration<double>(1e300)).value == "last", "a long take");
         expect(other.take_until(Clock::time_point::max()).why == kfifo::Miss::finished, "a take until the end of time");
@@ -125,11 +134,12 @@ void made_in_place() {
     const std::string first(100, 'a');
     expect(handle.give_wait(first) == kfifo::Put::done && first == std::string(100, 'a'), "a copy");
     expect(handle.emplace_for(1s, 100, 'b') == kfifo::Put::done, "a value that is made within a time");
+    std::size_t more = fill(handle, std::string(100, 'm'));
     expect(handle.emplace_for(1ms, 100, 'c') == kfifo::Put::timed_out, "a value that no room is for in time");
     std::thread waits(
         [&] { expect(handle.emplace_wait(100, 'd') == kfifo::Put::done, "a value that waits for room"); });
     std::this_thread::sleep_for(5ms);
-    for (char letter : {'a', 'b', 'd'})
+    for (char letter : "ab" + std::string(more, 'm') + 'd')
         expect(other.take_wait().value == std::string(100, letter), "the values in their order");
     waits.join();
     queue.finish();
@@ -206,7 +216,7 @@ void ends_by_itself() {
     expect(!has_ended, "a take waits while another handle is left");
     other.reset();
     waits.join();
-    for (int i = 0; i < 2; i++) expect(last.give("word") == kfifo::Put::done, "a give by the last handle");
+    expect(fill(last, "word") >= 2, "gives by the last handle");
     expect(last.give_wait("word") == kfifo::Put::finished, "a give that would wait for nobody");
     expect(last.give("word") == kfifo::Put::full, "a give that does not wait");
 }

@@ -63,7 +63,7 @@ void one_thread() {
     expect(refuses([&] { (void)pass.word(0); }, "closed"), "a word of a closed queue");
     expect(kfifo::may_retry(kfifo::Put::full) && !kfifo::may_retry(kfifo::Put::worn), "which puts are tried again");
     expect(kfifo::may_retry(kfifo::Miss::busy) && !kfifo::may_retry(kfifo::Miss::worn), "which takes are tried again");
-    expect(std::string(kfifo::text(kfifo::Put::full)) == "the ring was full", "the text of an answer");
+    expect(std::string(kfifo::text(kfifo::Put::full)) == "the queue was full", "the text of an answer");
 }
 
 // A pass whose queue is gone says so, and touches nothing of it.

@@ -11,6 +11,7 @@
 
 /* rust/src/ffi.rs has these types too. */
 _Static_assert(sizeof(kfifo_waits) == 320 && sizeof(kfifo_waiter) == 48, "the types of kfifo_wait.h");
+_Static_assert(sizeof(kfifo_handle) == 40 && sizeof(kfifo_left) == 24, "the types of kfifo.h");
 
 /* How long a thread looks before it sleeps. A wake-up costs about as much, so that it loses at most half of its time by
    looking. */
@@ -37,19 +38,7 @@ static void wake(uint32_t *word, int most) {
     syscall(SYS_futex, word, FUTEX_WAKE_PRIVATE, most, NULL, NULL, 0);
 }
 
-/* One giver is enough where it only needs room. Any of those that had no token may have one now: all are woken then. */
-static void wake_giver(kfifo_waits *waits) {
-    __atomic_fetch_add(&waits->emptied, 1, __ATOMIC_SEQ_CST);
-    int most = __atomic_load_n(&waits->tokenless, __ATOMIC_SEQ_CST) == 0 ? 1 : INT_MAX;
-    syscall(SYS_futex, &waits->emptied, FUTEX_WAKE_PRIVATE, most, NULL, NULL, 0);
-}
-
-static void wake_one(kfifo_waits *waits, uint32_t kind) {
-    if (kind == KFIFO_WAITS_TAKER)
-        wake(&waits->filled, 1);
-    else
-        wake_giver(waits);
-}
+static void wake_one(kfifo_waits *waits, uint32_t kind) { wake(word_of(waits, kind), 1); }
 
 /* After a give, where threads wait. A give that was done wakes a taker. It wakes a giver too: one take may make room
    for several, as when it empties the last slot of a segment, and wakes one alone, which hands on what it was told. A
@@ -57,13 +46,13 @@ static void wake_one(kfifo_waits *waits, uint32_t kind) {
 kfifo_status kfifo_wait_given(kfifo_waits *waits, kfifo_status status) {
     uint32_t state = kfifo_waits_state(waits);
     if (status == KFIFO_DONE && (state & KFIFO_WAITS_TAKERS)) wake(&waits->filled, 1);
-    if ((status == KFIFO_DONE || status == KFIFO_BUSY) && (state & KFIFO_WAITS_GIVERS)) wake_giver(waits);
+    if ((status == KFIFO_DONE || status == KFIFO_BUSY) && (state & KFIFO_WAITS_GIVERS)) wake(&waits->emptied, 1);
     return status;
 }
 
 /* After a take, where givers wait. One that took nothing may still have laid a token down. */
 kfifo_status kfifo_wait_taken(kfifo_waits *waits, kfifo_status status) {
-    wake_giver(waits);
+    wake(&waits->emptied, 1);
     return status;
 }
 
@@ -146,10 +135,7 @@ int kfifo_wait_again(kfifo_waiter *waiter, kfifo_status *status) {
         announce(waiter);
         return 1; /* the second look: what came before the announcement woke nobody */
     }
-    int is_tokenless = *status == KFIFO_NO_TOKEN;
-    if (is_tokenless) __atomic_fetch_add(&waiter->waits->tokenless, 1, __ATOMIC_SEQ_CST);
     sleep_on(waiter);
-    if (is_tokenless) __atomic_fetch_sub(&waiter->waits->tokenless, 1, __ATOMIC_SEQ_CST);
     retract(waiter);
     return 1;
 }
