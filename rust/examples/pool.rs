@@ -5,7 +5,7 @@ use std::process::ExitCode;
 use std::thread;
 
 const WORKERS: usize = 4;
-const JOBS: u64 = 10_000;
+const JOBS: u64 = 20_000;
 
 struct Job {
     number: u64,
@@ -37,7 +37,7 @@ fn put_all(handle: &Handle<Job>) -> bool {
 }
 
 fn main() -> Result<ExitCode, OpenError> {
-    let queue = Queue::new(4, 64, WORKERS + 1)?; // k, segments, handles
+    let queue = Queue::new(4, 128, WORKERS + 1)?; // k, capacity, threads
     let (all_put, ends) = thread::scope(|scope| {
         let workers: Vec<_> = (0..WORKERS)
             .map(|_| {

@@ -14,16 +14,20 @@ use std::fmt::{self, Debug, Display, Formatter};
 pub enum OpenError {
     /// k is not 1 to 64.
     KOutOfRange,
-    /// The number of segments is not 2 to 1,024.
-    SegmentsOutOfRange,
-    /// The number of handles is not 1 to 64.
+    /// The capacity is 0, or greater than a generation has room for with this k and so many threads
+    /// ([`Queue::new`](crate::Queue::new)). A queue that grows has several generations
+    /// ([`Options::grows`](crate::Options::grows)).
+    CapacityOutOfRange,
+    /// The number of threads is not 1 to 64.
     ThreadsOutOfRange,
-    /// The number of tokens a handle is not 1 to 1,024, or all handles have too many.
-    TokensOutOfRange,
+    /// A value has 4 GiB or more, or is aligned to more than 4,096 bytes.
+    LayoutOutOfRange,
     /// The greatest version is not 2 to 2^40 - 1.
     LastOutOfRange,
     /// The reserve is not below the greatest version.
     ReserveOutOfRange,
+    /// The number of generations is not 1 to 129 - 2 * threads.
+    GrowsOutOfRange,
     /// An allocation failed: of the queue itself, or of the cells for its values.
     OutOfMemory,
 }
@@ -32,13 +36,16 @@ impl Display for OpenError {
     fn fmt(&self, f: &mut Formatter<'_>) -> fmt::Result {
         f.write_str(match self {
             OpenError::KOutOfRange => "k is not 1 to 64",
-            OpenError::SegmentsOutOfRange => "the number of segments is not 2 to 1,024",
-            OpenError::ThreadsOutOfRange => "the number of handles is not 1 to 64",
-            OpenError::TokensOutOfRange => {
-                "the number of tokens a handle is not 1 to 1,024, or all handles have too many"
+            OpenError::CapacityOutOfRange => {
+                "the capacity is 0 or too great: a queue that grows takes more"
+            }
+            OpenError::ThreadsOutOfRange => "the number of threads is not 1 to 64",
+            OpenError::LayoutOutOfRange => {
+                "a value has 4 GiB or more, or is aligned to more than 4,096 bytes"
             }
             OpenError::LastOutOfRange => "the greatest version is not 2 to 2^40 - 1",
             OpenError::ReserveOutOfRange => "the reserve is not below the greatest version",
+            OpenError::GrowsOutOfRange => "the queue may not grow to so many generations",
             OpenError::OutOfMemory => "an allocation failed",
         })
     }
@@ -51,16 +58,23 @@ impl Error for OpenError {}
 /// ```
 /// use kfifo::{PushError, Queue};
 ///
-/// let queue = Queue::new(1, 2, 1)?;
+/// let queue = Queue::new(1, 2, 1)?; // k, capacity, threads
 /// let handle = queue.handle().expect("a handle is free");
-/// handle.push("first").expect("there is room");
-/// handle.push("second").expect("there is room");
-/// assert_eq!(handle.push("third"), Err(PushError::Full("third")));
+/// let mut number = 0;
+/// let refused = loop {
+///     match handle.push(number) {
+///         Ok(()) => number += 1,
+///         Err(refused) => break refused,
+///     }
+/// };
+/// assert_eq!(refused, PushError::Full(number));
+/// assert!(number >= 2); // as many as the queue was opened for, or a few more
 /// # Ok::<(), kfifo::OpenError>(())
 /// ```
 #[derive(Clone, Copy, PartialEq, Eq)]
 pub enum PushError<T> {
-    /// The ring was seen full.
+    /// As many values as the queue was opened for, or more, are in it or in the hands of calls. Of a queue that grows:
+    /// it has as many generations as it may have, or there was no memory for the next one.
     Full(T),
     /// Of [`Handle::push_once`](crate::Handle::push_once) alone: the call used up its 65,535 rounds, and another thread
     /// changed the queue in each of them. This is rare.
@@ -68,10 +82,6 @@ pub enum PushError<T> {
     /// The versions of the queue's words are used up, and there was no memory for its next generation. Have what is
     /// left by [`Queue::into_values`](crate::Queue::into_values), and open another queue.
     Worn(T),
-    /// The handle has no token, and found none in the pool: they are with values in the queue, or the other handles
-    /// keep them, up to 15 each. With the tokens of [`Queue::new`](crate::Queue::new) it comes only where these would
-    /// have been more than [`MAX_TOKENS`](crate::MAX_TOKENS), or for a moment while others push and pop.
-    NoToken(T),
     /// The time of a call that waits was up.
     TimedOut(T),
     /// [`Queue::finish`](crate::Queue::finish) was called before.
@@ -92,7 +102,6 @@ impl<T> PushError<T> {
             PushError::Full(value)
             | PushError::Busy(value)
             | PushError::Worn(value)
-            | PushError::NoToken(value)
             | PushError::TimedOut(value)
             | PushError::Finished(value) => value,
         }
@@ -111,7 +120,7 @@ impl<T> PushError<T> {
     #[must_use]
     pub fn may_retry(&self) -> bool {
         match self {
-            PushError::Full(_) | PushError::Busy(_) | PushError::NoToken(_) => true,
+            PushError::Full(_) | PushError::Busy(_) => true,
             PushError::Worn(_) | PushError::TimedOut(_) | PushError::Finished(_) => false,
         }
     }
@@ -121,7 +130,6 @@ impl<T> PushError<T> {
             PushError::Full(_) => "the queue was full",
             PushError::Busy(_) => "the call used up its rounds",
             PushError::Worn(_) => "the versions of the queue are used up",
-            PushError::NoToken(_) => "the handle has no token",
             PushError::TimedOut(_) => "the time was up",
             PushError::Finished(_) => "the queue is finished",
         }
@@ -135,7 +143,6 @@ impl<T> Debug for PushError<T> {
             PushError::Full(_) => "Full(..)",
             PushError::Busy(_) => "Busy(..)",
             PushError::Worn(_) => "Worn(..)",
-            PushError::NoToken(_) => "NoToken(..)",
             PushError::TimedOut(_) => "TimedOut(..)",
             PushError::Finished(_) => "Finished(..)",
         })

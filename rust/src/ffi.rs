@@ -9,17 +9,17 @@ pub(crate) const GOT: u32 = 2;
 pub(crate) const EMPTY: u32 = 3;
 pub(crate) const BUSY: u32 = 4;
 pub(crate) const WORN: u32 = 5;
+pub(crate) const BAD_CALL: u32 = 6;
 pub(crate) const NO_MEMORY: u32 = 7;
 pub(crate) const BAD_THREADS: u32 = 8;
-pub(crate) const NO_TOKEN: u32 = 10;
+pub(crate) const LOST: u32 = 9;
 pub(crate) const BAD_K: u32 = 11;
-pub(crate) const BAD_SEGMENTS: u32 = 12;
 pub(crate) const BAD_LAST: u32 = 13;
-pub(crate) const BAD_PROBES: u32 = 14;
-pub(crate) const BAD_TOKENS: u32 = 15;
 pub(crate) const TIMED_OUT: u32 = 16;
 pub(crate) const FINISHED: u32 = 17;
 pub(crate) const BAD_RESERVE: u32 = 18;
+pub(crate) const BAD_CAPACITY: u32 = 19;
+pub(crate) const BAD_LAYOUT: u32 = 20;
 
 /// A time that never ends, in nanoseconds.
 pub(crate) const FOREVER: u64 = u64::MAX;
@@ -37,8 +37,7 @@ pub(crate) struct Waits {
     between: [u8; 124],
     filled: AtomicU32,
     emptied: AtomicU32,
-    tokenless: AtomicU32,
-    after: [u8; 116],
+    after: [u8; 120],
 }
 
 // As in `c/wait.c`.
@@ -52,8 +51,7 @@ impl Waits {
             between: [0; 124],
             filled: AtomicU32::new(0),
             emptied: AtomicU32::new(0),
-            tokenless: AtomicU32::new(0),
-            after: [0; 116],
+            after: [0; 120],
         }
     }
 }
@@ -98,13 +96,19 @@ impl Waiter {
     }
 }
 
-/// A handle of a queue of cells, or of values. All bytes 0 is a closed one.
+/// A handle of a queue of cells, or of values: `kfifo_handle`. All bytes 0 is a closed one.
 #[repr(C)]
 pub(crate) struct Pass {
     inside: *mut c_void,
     address: *mut c_void,
     starts: u32,
+    kind: u32,
+    mark: u32,
+    size: u32,
+    alignment: u32,
 }
+
+const _: () = assert!(size_of::<Pass>() == 40);
 
 impl Pass {
     pub(crate) const fn closed() -> Pass {
@@ -112,6 +116,44 @@ impl Pass {
             inside: std::ptr::null_mut(),
             address: std::ptr::null_mut(),
             starts: 0,
+            kind: 0,
+            mark: 0,
+            size: 0,
+            alignment: 0,
+        }
+    }
+}
+
+/// Where a cell is: `index` cells after the first multiple of their alignment in the block.
+#[repr(C)]
+#[derive(Clone, Copy, PartialEq, Eq)]
+pub(crate) struct CellAt {
+    pub(crate) block: *mut u8,
+    pub(crate) index: u32,
+}
+
+impl CellAt {
+    /// No cell: a call writes one here.
+    pub(crate) const fn none() -> CellAt {
+        CellAt {
+            block: std::ptr::null_mut(),
+            index: 0,
+        }
+    }
+}
+
+/// The cells that were left in a queue when it was closed, with their memory. All bytes 0 is none.
+#[repr(C)]
+pub(crate) struct LeftCells {
+    inside: *mut c_void,
+    holds: u32,
+}
+
+impl LeftCells {
+    pub(crate) const fn none() -> LeftCells {
+        LeftCells {
+            inside: std::ptr::null_mut(),
+            holds: 0,
         }
     }
 }
@@ -122,20 +164,26 @@ pub(crate) type Value = MaybeUninit<u64>;
 
 // Of the calls by a pass of cells the library promises, and has proved:
 //
-// - `reserve`: DONE writes the number of a cell, below the number of all tokens, that is this pass's alone until
-//   `publish` puts it into the queue. It writes the same number until then.
+// - `open_cells`: DONE opens the passes, of a queue with room for `capacity` values. A cell has `size` bytes. It
+//   begins at a multiple of `alignment`, as `CellAt` says, in a block that is there while somebody has a cell of it, or
+//   one of its cells is in the queue.
+// - `reserve`: DONE writes where a cell is that is this pass's alone until `publish` puts it into the queue,
+//   or `cancel` gives it back. It writes the same cell until then.
 // - `publish`: DONE puts the reserved cell into the queue. After anything else it is still reserved.
-// - `cancel`: the reserved cell may be reserved again, by any pass.
-// - `receive`: GOT writes the number of a cell that was in the queue, once for each time that it was published. The
+// - `cancel`: the reserved cell may be reserved again, by any pass, or its block is freed.
+// - `receive`: GOT writes where a cell is that was in the queue, once for each time that it was published. The
 //   cell is this pass's alone until its next `receive` or `release`.
-// - `release`: the cell that was received may be reserved again, by any pass.
-// - Between these calls they order what threads do: what comes before a `publish` of a cell comes before what follows
-//   its `receive`, and what comes before its `release` comes before what follows its next `reserve`.
-// - `close_cells`: DONE writes the numbers of the cells that are in the queue, in the order of the queue. There is room
-//   for each cell, else it does nothing.
+// - `release`: the cell that was received may be reserved again, by any pass, or its block is freed.
+// - Between these calls they order what threads do: what comes before a `publish` of a cell comes before what
+//   follows its `receive`, and what comes before its `release` comes before what follows its next
+//   `reserve`.
+// - `close_cells`: DONE closes the passes, and `next_left` then writes where each cell is that is in the queue, in
+//   its order, until it returns EMPTY. They are there until `free_left`. NO_MEMORY does nothing. LOST closes the
+//   passes, and the cells are gone.
 //
-// Of those by a pass of values, which has a type of its own in C with the same fields:
+// Of those by a pass of values:
 //
+// - `open_values`: DONE opens the passes, of a queue with room for `capacity` values.
 // - `give`: DONE puts the value into the queue. After anything else it is not there.
 // - `take`: GOT writes a value that was in the queue, once for each time that it was given.
 // - What comes before a `give` comes before what follows the `take` of its value.
@@ -146,33 +194,33 @@ pub(crate) type Value = MaybeUninit<u64>;
 unsafe extern "C" {
     pub(crate) fn kfifo_c_open_cells(
         k: u32,
-        segments: u32,
-        probes: u32,
+        capacity: u32,
+        size: u32,
+        alignment: u32,
         last: u64,
-        tokens: u32,
         reserve: u64,
+        generations: u32,
         passes: *mut Pass,
         threads: usize,
     ) -> u32;
-    pub(crate) fn kfifo_c_reserve(pass: *mut Pass, cell: *mut u64) -> u32;
+    pub(crate) fn kfifo_c_reserve(pass: *mut Pass, cell: *mut CellAt) -> u32;
     pub(crate) fn kfifo_c_publish(pass: *mut Pass) -> u32;
     pub(crate) fn kfifo_c_cancel(pass: *mut Pass) -> u32;
-    pub(crate) fn kfifo_c_receive(pass: *mut Pass, cell: *mut u64) -> u32;
+    pub(crate) fn kfifo_c_receive(pass: *mut Pass, cell: *mut CellAt) -> u32;
     pub(crate) fn kfifo_c_release(pass: *mut Pass) -> u32;
+    pub(crate) fn kfifo_c_cells_len(pass: *mut Pass) -> usize;
     pub(crate) fn kfifo_c_close_cells(
         passes: *mut Pass,
         threads: usize,
-        cells: *mut u64,
-        room: usize,
-        count: *mut usize,
+        left: *mut LeftCells,
     ) -> u32;
+    pub(crate) fn kfifo_c_next_left(left: *mut LeftCells, cell: *mut CellAt) -> u32;
+    pub(crate) fn kfifo_c_free_left(left: *mut LeftCells);
     pub(crate) fn kfifo_c_abandon_cells(passes: *mut Pass, threads: usize);
     pub(crate) fn kfifo_c_open_values(
         k: u32,
-        segments: u32,
-        probes: u32,
+        capacity: u32,
         last: u64,
-        tokens: u32,
         reserve: u64,
         generations: u32,
         passes: *mut Pass,

@@ -2,7 +2,8 @@
 //!
 //! A value lies in a *cell*, which a handle has alone while it moves the value in or out. The cells are made with the
 //! queue. A queue does not wear out: before the versions of its words are used up, it goes on in its next *generation*,
-//! once in some 2^40 calls. Only a push that opens it allocates, and the calls of a handle free memory there alone.
+//! with cells of its own, once in some 2^40 calls. One that grows has several at a time, while they are needed. Only a
+//! push that opens a generation allocates, and the calls of a handle free memory where they leave one.
 //!
 //! [`work`] is a pool of threads over such a queue, for tasks that give more tasks.
 //!
@@ -13,7 +14,7 @@
 //! use kfifo::{PopError, Queue};
 //! use std::thread;
 //!
-//! let queue = Queue::new(4, 64, 2)?; // k, segments, handles
+//! let queue = Queue::new(4, 256, 2)?; // k, capacity, threads
 //! let producer = queue.handle().expect("a handle is free");
 //! let consumer = queue.handle().expect("a handle is free");
 //! let mut sum = 0;
@@ -56,29 +57,21 @@ pub use error::{OpenError, PopError, PushError};
 pub use many::PushAllError;
 pub use values::{IntoValues, TryValues, Values};
 
-use shared::{Looks, Shared, User};
+use shared::{Looks, NoMemory, Shared, User};
 use std::cell::Cell;
 use std::fmt::{self, Debug, Formatter};
 use std::marker::PhantomData;
 use std::sync::Arc;
 use std::time::Duration;
 
-/// The greatest number of tokens a handle.
+/// What a queue is opened with besides: [`Queue::with_options`].
 ///
 /// ```
-/// let queue = kfifo::Queue::<u8>::with_tokens(4, 16, 2, kfifo::MAX_TOKENS)?;
-/// # Ok::<(), kfifo::OpenError>(())
-/// ```
-pub const MAX_TOKENS: u32 = 1024;
-
-/// How long the versions of a queue's words last: [`Queue::with_versions`].
-///
-/// ```
-/// use kfifo::{Queue, Versions};
+/// use kfifo::{Options, Queue};
 ///
 /// // Generations change all the time, for a test.
-/// let versions = Versions { last: 64, reserve: 32 };
-/// let queue = Queue::with_versions(1, 8, 1, 9, versions)?;
+/// let options = Options { last: 64, reserve: 32, ..Options::default() };
+/// let queue = Queue::with_options(1, 8, 1, options)?;
 /// let handle = queue.handle().expect("a handle is free");
 /// for number in 0..10_000 {
 ///     handle.push(number).expect("the queue does not wear out");
@@ -87,20 +80,24 @@ pub const MAX_TOKENS: u32 = 1024;
 /// # Ok::<(), kfifo::OpenError>(())
 /// ```
 #[derive(Clone, Copy, Debug, PartialEq, Eq)]
-pub struct Versions {
+pub struct Options {
     /// The greatest version of a word, 2 to 2^40 - 1.
     pub last: u64,
     /// With fewer versions left, the queue goes on in its next generation. It is below `last`. With 0 the queue does
     /// not, and wears out.
     pub reserve: u64,
+    /// How many generations the queue may have at a time, 1 to 129 - 2 * threads. With more than 1 a push that finds no
+    /// room opens the next one, so the queue has room for as many times its capacity.
+    pub grows: u32,
 }
 
-impl Default for Versions {
-    /// 2^40 - 1, and a reserve of 2^32.
-    fn default() -> Versions {
-        Versions {
+impl Default for Options {
+    /// 2^40 - 1 versions, a reserve of 2^32, and a queue that does not grow.
+    fn default() -> Options {
+        Options {
             last: (1 << 40) - 1,
             reserve: 1 << 32,
+            grows: 1,
         }
     }
 }
@@ -110,8 +107,8 @@ impl Default for Versions {
 /// Each thread makes its calls by a [`Handle`] of its own. The queue goes with the last of the `Queue` and its handles,
 /// and the values that are left in it are dropped then.
 ///
-/// It has a cell for each token of each handle, with room for a `T`. So a queue of large values takes less
-/// memory with fewer tokens ([`Queue::with_tokens`]), or as a `Queue<Box<T>>`.
+/// It has a cell for each value that it is to hold, and 32 more for each thread, each with room for a `T`. So a queue
+/// of large values takes less memory as a `Queue<Box<T>>`.
 ///
 /// ```
 /// use kfifo::{OpenError, PushError, Queue};
@@ -122,20 +119,22 @@ impl Default for Versions {
 /// }
 ///
 /// fn main() -> Result<(), OpenError> {
-///     let queue = Queue::new(1, 2, 2)?; // k, segments, handles
+///     let queue = Queue::new(1, 100, 2)?; // k, capacity, threads
 ///     let handle = queue.handle().expect("a handle is free");
-///     for number in 1..=2 {
+///     for number in 1.. {
 ///         let text = format!("order {number}");
-///         handle.push(Order { number, text }).expect("there is room");
-///     }
-///     let third = Order { number: 3, text: String::from("order 3") };
-///     match handle.push(third) {
-///         Err(PushError::Full(order)) => assert_eq!(order.text, "order 3"), // it comes back
-///         _ => unreachable!("two slots are full"),
+///         match handle.push(Order { number, text }) {
+///             Ok(()) => {}
+///             Err(PushError::Full(order)) => {
+///                 assert!(order.number > 100); // it comes back
+///                 break;
+///             }
+///             Err(refused) => unreachable!("{refused}"),
+///         }
 ///     }
 ///     let order = handle.pop().expect("an order is there");
 ///     assert_eq!((order.number, order.text.as_str()), (1, "order 1"));
-///     Ok(()) // the second order is dropped with the queue
+///     Ok(()) // the others are dropped with the queue
 /// }
 /// ```
 #[must_use]
@@ -144,63 +143,40 @@ pub struct Queue<T> {
 }
 
 impl<T> Queue<T> {
-    /// Opens a queue of `segments` segments, 2 to 1,024, of k slots, 1 to 64, with `handles` handles, 1 to 64.
+    /// Opens a queue with room for `capacity` values or more, for `threads` threads, 1 to 64: a pop takes one of the k
+    /// oldest, 1 to 64. There is that much room whatever the handles keep for themselves between their calls. With k of
+    /// 8 to 64 threads seldom meet; with k of 1 values come out in their order.
     ///
-    /// Each handle has a token for each slot, one more, and 15 for each other handle, which may keep 15 between its
-    /// calls: so a push finds one until the queue is full. Where that would be more than [`MAX_TOKENS`], each handle
-    /// has 1,024, and a push may be refused as [`PushError::NoToken`] with `1,024 - 15 * (handles - 1)` values of its
-    /// handle in the queue.
+    /// The greatest capacity is `threads * (1022 * k / threads - 32)`, divided downwards: for one thread, 990 with k of 1
+    /// and 65,376 with k of 64. With k of 1, at most 30 threads have one. A queue that grows has room for more.
     ///
-    /// Cost: it asks for all memory of the queue, also for its values, and writes to each word.
+    /// Cost: it asks for all memory of a generation here, about `(capacity + 32 * threads) * (size_of::<T>() + 30)`
+    /// bytes, and `640 * threads * threads` more. The words of the queue are written.
     ///
     /// ```
-    /// let queue = kfifo::Queue::<u64>::new(4, 256, 8)?;
+    /// let queue = kfifo::Queue::<u64>::new(4, 1024, 8)?; // k, capacity, threads
     /// # Ok::<(), kfifo::OpenError>(())
     /// ```
-    pub fn new(k: u32, segments: u32, handles: usize) -> Result<Queue<T>, OpenError> {
-        Queue::with_tokens(k, segments, handles, enough_tokens(k, segments, handles))
+    pub fn new(k: u32, capacity: usize, threads: usize) -> Result<Queue<T>, OpenError> {
+        Queue::with_options(k, capacity, threads, Options::default())
     }
 
-    /// As [`Queue::new`], with a number of tokens a handle, 1 to 1,024. For 63 handles the most are 1,008, and for 64
-    /// handles 992.
+    /// As [`Queue::new`], with options of one's own. A queue that grows has room for as many times `capacity` values as
+    /// it may have generations, while there is memory, and gives the memory of those back that are empty.
     ///
-    /// A value in the queue has a token. The handle that takes the value gets the token. Where it then has 16 more than
-    /// it began with (or `tokens / handles`, if that is less), it returns these to the pool, where others find them.
-    /// So a handle can always have `tokens - 15 * (handles - 1)` values in the queue, and may be refused as
-    /// [`PushError::NoToken`] with more.
-    ///
-    /// The queue takes memory for `handles * tokens` values when it is opened.
-    ///
-    /// Cost: as [`Queue::new`].
+    /// Cost: as [`Queue::new`]. A push that opens a generation asks for as much again.
     ///
     /// ```
-    /// use kfifo::{PushError, Queue};
+    /// use kfifo::{Options, Queue};
     ///
-    /// let queue = Queue::with_tokens(4, 64, 2, 1)?;
+    /// let options = Options { grows: 100, ..Options::default() };
+    /// let queue = Queue::with_options(1, 8, 1, options)?; // room for 800 values
     /// let handle = queue.handle().expect("a handle is free");
-    /// handle.push(1).expect("the handle has a token");
-    /// assert_eq!(handle.push(2), Err(PushError::NoToken(2)));
-    /// # Ok::<(), kfifo::OpenError>(())
-    /// ```
-    pub fn with_tokens(
-        k: u32,
-        segments: u32,
-        handles: usize,
-        tokens: u32,
-    ) -> Result<Queue<T>, OpenError> {
-        Queue::with_versions(k, segments, handles, tokens, Versions::default())
-    }
-
-    /// As [`Queue::with_tokens`], with versions of one's own.
-    ///
-    /// Cost: as [`Queue::new`].
-    ///
-    /// ```
-    /// use kfifo::{Queue, Versions};
+    /// assert_eq!(handle.push_all(0..800).expect("there is room"), 800);
     ///
     /// // A queue that wears out.
-    /// let versions = Versions { last: 64, reserve: 0 };
-    /// let queue = Queue::with_versions(1, 8, 1, 9, versions)?;
+    /// let options = Options { last: 64, reserve: 0, ..Options::default() };
+    /// let queue = Queue::with_options(1, 8, 1, options)?;
     /// let handle = queue.handle().expect("a handle is free");
     /// let end = loop {
     ///     if let Err(refused) = handle.push(7) {
@@ -213,21 +189,35 @@ impl<T> Queue<T> {
     /// assert_eq!(end, "the versions of the queue are used up");
     /// # Ok::<(), kfifo::OpenError>(())
     /// ```
-    pub fn with_versions(
+    pub fn with_options(
         k: u32,
-        segments: u32,
-        handles: usize,
-        tokens: u32,
-        versions: Versions,
+        capacity: usize,
+        threads: usize,
+        options: Options,
     ) -> Result<Queue<T>, OpenError> {
-        let shared = Shared::open(k, segments, handles, tokens, versions)?;
+        let shared = Shared::open(k, capacity, threads, options)?;
         Ok(Queue {
             shared: User::new(Arc::new(shared)),
         })
     }
 
+    /// How many values the queue has room for at least, as it was opened: one that grows has so many in each
+    /// generation.
+    ///
+    /// Cost: a read.
+    ///
+    /// ```
+    /// let queue = kfifo::Queue::<u64>::new(4, 1024, 8)?;
+    /// assert_eq!(queue.capacity(), 1024);
+    /// # Ok::<(), kfifo::OpenError>(())
+    /// ```
+    #[must_use]
+    pub fn capacity(&self) -> usize {
+        self.shared.capacity()
+    }
+
     /// A handle that nobody has; none where each was in use at one moment. A handle that is dropped can be had again.
-    /// So a thread always finds one where there are as many handles as threads and no thread has two.
+    /// So a thread always finds one where there are as many threads as the queue was opened for and no thread has two.
     ///
     /// Cost: a few atomic steps, and as many when it is dropped.
     ///
@@ -276,8 +266,9 @@ impl<T> Queue<T> {
     /// Closes the queue and gives back the values that are left, in its order: those of the oldest generation first.
     /// The queue comes back where a handle is still in use.
     ///
-    /// Where the versions of the queue are used up and there is no memory to close it, the values come in another
-    /// order.
+    /// Where the versions of the queue are used up, the library asks for memory to find what is left. Where it gets
+    /// none, the queue comes back too. Mostly a further call goes on, but where the library got a part of that memory,
+    /// what is left is lost, and is not dropped. The further call then gives back what had come out before.
     ///
     /// Cost: a pop for each value, and memory for the vector.
     ///
@@ -291,10 +282,10 @@ impl<T> Queue<T> {
     /// assert_eq!(queue.into_values().expect("no handle is in use"), [1, 2]);
     /// # Ok::<(), kfifo::OpenError>(())
     /// ```
-    pub fn into_values(self) -> Result<Vec<T>, Queue<T>> {
-        match self.shared.into_shared() {
-            Ok(shared) => Ok(shared.into_values()),
-            Err(shared) => Err(Queue { shared }),
+    pub fn into_values(mut self) -> Result<Vec<T>, Queue<T>> {
+        match self.shared.alone().map(Shared::take_left) {
+            Some(Ok(values)) => Ok(values),
+            Some(Err(NoMemory)) | None => Err(self),
         }
     }
 }
@@ -403,7 +394,7 @@ impl<T> Handle<T> {
     /// Cost: as [`Handle::push`] where it need not sleep, and a copy of the value more for each further look.
     ///
     /// ```
-    /// let queue = kfifo::Queue::new(1, 2, 2)?;
+    /// let queue = kfifo::Queue::new(1, 8, 2)?;
     /// let producer = queue.handle().expect("a handle is free");
     /// let consumer = queue.handle().expect("a handle is free");
     /// std::thread::scope(|scope| {
@@ -438,11 +429,10 @@ impl<T> Handle<T> {
     /// use kfifo::PushError;
     /// use std::time::Duration;
     ///
-    /// let queue = kfifo::Queue::new(1, 2, 1)?;
+    /// let queue = kfifo::Queue::new(1, 8, 1)?;
     /// let handle = queue.handle().expect("a handle is free");
-    /// handle.push('a').expect("there is room");
-    /// handle.push('b').expect("there is room");
-    /// assert_eq!(handle.push_timeout('c', Duration::from_millis(1)), Err(PushError::TimedOut('c')));
+    /// while handle.push('a').is_ok() {}
+    /// assert_eq!(handle.push_timeout('b', Duration::from_millis(1)), Err(PushError::TimedOut('b')));
     /// # Ok::<(), kfifo::OpenError>(())
     /// ```
     pub fn push_timeout(&self, value: T, time: Duration) -> Result<(), PushError<T>> {
@@ -468,6 +458,37 @@ impl<T> Handle<T> {
     pub fn pop(&self) -> Result<T, PopError> {
         // SAFETY: as in `push`.
         unsafe { self.shared.pop(self.number, Looks::UnlessBusy) }
+    }
+
+    /// About how many values are in the queue. Calls that run meanwhile are counted or not.
+    ///
+    /// Cost: 2k + 1 loads at most, for each generation, of which there is mostly one.
+    ///
+    /// ```
+    /// let queue = kfifo::Queue::new(4, 64, 1)?;
+    /// let handle = queue.handle().expect("a handle is free");
+    /// handle.push('a').expect("there is room");
+    /// assert_eq!(handle.len(), 1);
+    /// # Ok::<(), kfifo::OpenError>(())
+    /// ```
+    #[must_use]
+    pub fn len(&self) -> usize {
+        // SAFETY: as in `push`.
+        unsafe { self.shared.len(self.number) }
+    }
+
+    /// Whether [`Handle::len`] is 0.
+    ///
+    /// Cost: as [`Handle::len`].
+    ///
+    /// ```
+    /// let queue = kfifo::Queue::<u64>::new(4, 64, 1)?;
+    /// assert!(queue.handle().expect("a handle is free").is_empty());
+    /// # Ok::<(), kfifo::OpenError>(())
+    /// ```
+    #[must_use]
+    pub fn is_empty(&self) -> bool {
+        self.len() == 0
     }
 
     /// As [`Handle::pop`], but bounded, as [`Handle::push_once`] is: also [`PopError::Busy`].
@@ -574,16 +595,6 @@ impl<T> Drop for FinishOnDrop<'_, T> {
     fn drop(&mut self) {
         self.handle.finish();
     }
-}
-
-/// Tokens a handle with which a push finds one until the queue is full, or else as many as there can be.
-fn enough_tokens(k: u32, segments: u32, handles: usize) -> u32 {
-    // Each other handle keeps up to 15 more than it began with. More than 64 handles are refused.
-    let handles = handles.clamp(1, 65) as u64;
-    let enough = u64::from(k) * u64::from(segments) + 1 + 15 * (handles - 1);
-    // A queue has 65,536 at most, with 32 more for each handle.
-    let most = (65_536 / handles - 32).min(u64::from(MAX_TOKENS));
-    enough.min(most) as u32
 }
 
 /// A time in nanoseconds. One beyond the clock, some 584 years, is for ever.

@@ -12,11 +12,12 @@ use std::time::{Duration, Instant};
 /// ```
 /// use kfifo::{PushError, Queue};
 ///
-/// let queue = Queue::new(1, 2, 1)?;
+/// let queue = Queue::new(1, 8, 1)?;
 /// let handle = queue.handle().expect("a handle is free");
-/// let stopped = handle.push_all(["a", "b", "c", "d"]).expect_err("there are two slots");
-/// assert_eq!((stopped.pushed, stopped.refused), (2, PushError::Full("c")));
-/// assert_eq!(stopped.rest.collect::<Vec<_>>(), ["d"]);
+/// let mut stopped = handle.push_all(0..1000).expect_err("there is not so much room");
+/// assert!(stopped.pushed >= 8);
+/// assert_eq!(stopped.refused, PushError::Full(stopped.pushed));
+/// assert_eq!(stopped.rest.next(), Some(stopped.pushed + 1));
 /// # Ok::<(), kfifo::OpenError>(())
 /// ```
 pub struct PushAllError<I: Iterator> {
@@ -24,20 +25,21 @@ pub struct PushAllError<I: Iterator> {
     pub pushed: usize,
     /// The value that was refused, and why.
     pub refused: PushError<I::Item>,
-    /// The iterator, with the values behind that one.
+    /// The iterator, with the values after that one.
     pub rest: I,
 }
 
 impl<I: Iterator> PushAllError<I> {
-    /// The values that were not put: the one that was refused, and those behind it.
+    /// The values that were not put: the one that was refused, and those after it.
     ///
     /// Cost: a move of the iterator.
     ///
     /// ```
-    /// let queue = kfifo::Queue::new(1, 2, 1)?;
+    /// let queue = kfifo::Queue::new(1, 8, 1)?;
     /// let handle = queue.handle().expect("a handle is free");
-    /// let stopped = handle.push_all(1..=4).expect_err("there are two slots");
-    /// assert!(stopped.into_rest().eq([3, 4]));
+    /// let stopped = handle.push_all(0..1000).expect_err("there is not so much room");
+    /// let pushed = stopped.pushed;
+    /// assert!(stopped.into_rest().eq(pushed..1000));
     /// # Ok::<(), kfifo::OpenError>(())
     /// ```
     pub fn into_rest(self) -> Chain<Once<I::Item>, I> {
@@ -142,12 +144,12 @@ impl<T> Handle<T> {
     /// use kfifo::PushError;
     /// use std::time::Duration;
     ///
-    /// let queue = kfifo::Queue::new(1, 2, 2)?;
+    /// let queue = kfifo::Queue::new(1, 8, 2)?;
     /// let handle = queue.handle().expect("a handle is free");
     /// let stopped = handle
-    ///     .push_all_timeout(1..=4, Duration::from_millis(1))
-    ///     .expect_err("there are two slots");
-    /// assert_eq!((stopped.pushed, stopped.refused), (2, PushError::TimedOut(3)));
+    ///     .push_all_timeout(0..1000, Duration::from_millis(1))
+    ///     .expect_err("there is not so much room");
+    /// assert_eq!(stopped.refused, PushError::TimedOut(stopped.pushed));
     /// # Ok::<(), kfifo::OpenError>(())
     /// ```
     pub fn push_all_timeout<I>(

@@ -1,12 +1,16 @@
-//! What a queue and its handles share: the passes of the C library, which of them are in use, and the cells.
+//! What a queue and its handles share: the passes of the C library, and which of them are in use.
+mod left;
 mod many;
 
-use crate::Versions;
-use crate::cells::Cells;
+use crate::Options;
+use crate::cells::layout_of;
 use crate::error::{OpenError, PopError, PushError};
-use crate::ffi;
+use crate::ffi::{self, CellAt};
+use left::Left;
+pub(crate) use left::NoMemory;
 use std::cell::UnsafeCell;
 use std::hint::spin_loop;
+use std::marker::PhantomData;
 use std::mem::ManuallyDrop;
 use std::ops::Deref;
 use std::process::abort;
@@ -18,37 +22,44 @@ use std::sync::atomic::{AtomicU64, AtomicUsize, Ordering};
 struct Passes(Box<[UnsafeCell<ffi::Pass>]>);
 
 impl Passes {
+    /// The passes of a queue whose cells have this size and alignment.
     fn open(
         k: u32,
-        segments: u32,
-        handles: usize,
-        tokens: u32,
-        versions: Versions,
+        capacity: usize,
+        threads: usize,
+        options: Options,
+        (size, alignment): (u32, u32),
     ) -> Result<Passes, OpenError> {
-        // More than 64 handles are refused as 65 are, without memory for them.
-        let threads = handles.min(65);
-        let mut passes: Vec<ffi::Pass> = (0..threads).map(|_| ffi::Pass::closed()).collect();
+        // More than 64 threads are refused as 65 are, without memory for them.
+        let threads = threads.min(65);
+        let mut passes = Vec::new();
+        let room = passes.try_reserve_exact(threads);
+        room.map_err(|_| OpenError::OutOfMemory)?;
+        passes.resize_with(threads, ffi::Pass::closed);
         // SAFETY: the array has as many passes as is said, and each is closed.
         let status = unsafe {
             ffi::kfifo_c_open_cells(
                 k,
-                segments,
-                k,
-                versions.last,
-                tokens,
-                versions.reserve,
+                u32::try_from(capacity).unwrap_or(u32::MAX),
+                size,
+                alignment,
+                options.last,
+                options.reserve,
+                options.grows,
                 passes.as_mut_ptr(),
                 threads,
             )
         };
         match status {
             ffi::DONE => Ok(Passes(passes.into_iter().map(UnsafeCell::new).collect())),
-            ffi::BAD_K | ffi::BAD_PROBES => Err(OpenError::KOutOfRange),
-            ffi::BAD_SEGMENTS => Err(OpenError::SegmentsOutOfRange),
+            ffi::BAD_K => Err(OpenError::KOutOfRange),
+            ffi::BAD_CAPACITY => Err(OpenError::CapacityOutOfRange),
+            ffi::BAD_THREADS => Err(OpenError::ThreadsOutOfRange),
+            ffi::BAD_LAYOUT => Err(OpenError::LayoutOutOfRange),
             ffi::BAD_LAST => Err(OpenError::LastOutOfRange),
             ffi::BAD_RESERVE => Err(OpenError::ReserveOutOfRange),
-            ffi::BAD_THREADS => Err(OpenError::ThreadsOutOfRange),
-            ffi::BAD_TOKENS => Err(OpenError::TokensOutOfRange),
+            // The passes are there, so this is the one argument that is left.
+            ffi::BAD_CALL => Err(OpenError::GrowsOutOfRange),
             status => {
                 debug_assert_eq!(status, ffi::NO_MEMORY);
                 Err(OpenError::OutOfMemory)
@@ -79,12 +90,8 @@ impl<T> User<T> {
     }
 
     /// What all users share, where this is the only one.
-    pub(crate) fn into_shared(self) -> Result<Shared<T>, User<T>> {
-        // It is not dropped: where that left one user, its calls that wait would end.
-        let this = ManuallyDrop::new(self);
-        // SAFETY: what is read stands in a `ManuallyDrop` that goes at the end of this call.
-        let shared = unsafe { ptr::read(&this.0) };
-        Arc::try_unwrap(shared).map_err(User)
+    pub(crate) fn alone(&mut self) -> Option<&mut Shared<T>> {
+        Arc::get_mut(&mut self.0)
     }
 }
 
@@ -155,48 +162,56 @@ fn misused(number: usize, call: &str, what: &str) -> ! {
     abort()
 }
 
-/// When it is dropped, the values that are left are dropped with their cells, and the queue is closed with its passes.
+/// When it is dropped, the values that are left are dropped, and the queue is closed with its passes.
+///
+/// A value goes in by one handle and comes out by another, so `T` may not vary: else a reference of a short life that
+/// one handle puts could come out of another as one of a long life. `UnsafeCell` sees to that.
 pub(crate) struct Shared<T> {
     passes: Passes,
     /// A bit for each pass that nobody has.
     free: AtomicU64,
     /// A bit for each pass that is in a call, in a debug build.
     in_call: AtomicU64,
-    cells: Cells<T>,
-    /// How many cells there are.
-    count: usize,
+    capacity: usize,
     waits: ffi::Waits,
     /// The queue object and the handles that somebody has.
     users: AtomicUsize,
+    left: Left<T>,
+    values: PhantomData<UnsafeCell<T>>,
 }
 
 // SAFETY: `T` may go to another thread, and so may the passes: the library ties none to a thread.
 unsafe impl<T: Send> Send for Shared<T> {}
 // SAFETY: a pass is reached by `push` and `pop` alone, whose callers see to it that one thread at a time uses it, and
-// by those that have the queue alone. A cell is reached by whoever the library says has it, one thread at a time, and
-// the library orders one after the other. So values go from thread to thread, which `T: Send` allows. A reference gives
-// no `&T`, so `T: Sync` is not asked for.
+// by those that have the queue alone, who alone reach what is left too. A cell is reached by whoever the library says
+// has it, one thread at a time, and the library orders one after the other. So values go from thread to thread, which
+// `T: Send` allows. A reference gives no `&T`, so `T: Sync` is not asked for.
 unsafe impl<T: Send> Sync for Shared<T> {}
 
 impl<T> Shared<T> {
     pub(crate) fn open(
         k: u32,
-        segments: u32,
-        handles: usize,
-        tokens: u32,
-        versions: Versions,
+        capacity: usize,
+        threads: usize,
+        options: Options,
     ) -> Result<Shared<T>, OpenError> {
-        let passes = Passes::open(k, segments, handles, tokens, versions)?;
-        // The library has looked at the numbers, so that the sizes below are in bounds.
+        let passes = Passes::open(k, capacity, threads, options, layout_of::<T>())?;
+        // The library has looked at the number of threads: it is 1 to 64.
         Ok(Shared {
             passes,
-            free: AtomicU64::new(u64::MAX >> (64 - handles)),
+            free: AtomicU64::new(u64::MAX >> (64 - threads)),
             in_call: AtomicU64::new(0),
-            cells: Cells::new(handles, tokens).ok_or(OpenError::OutOfMemory)?,
-            count: handles * tokens as usize,
+            capacity,
             waits: ffi::Waits::open(),
             users: AtomicUsize::new(0),
+            left: Left::none(),
+            values: PhantomData,
         })
+    }
+
+    /// How many values the queue was opened for.
+    pub(crate) fn capacity(&self) -> usize {
+        self.capacity
     }
 
     /// The number of a pass that nobody has, which is then in use; none where each was in use at one moment.
@@ -257,7 +272,7 @@ impl<T> Shared<T> {
 
     /// Whether a call that came to this cannot do better, since its handle is alone.
     fn is_over(&self, status: u32) -> bool {
-        matches!(status, ffi::FULL | ffi::EMPTY | ffi::NO_TOKEN) && self.is_alone()
+        matches!(status, ffi::FULL | ffi::EMPTY) && self.is_alone()
     }
 
     fn is_finished(&self) -> bool {
@@ -286,28 +301,67 @@ impl<T> Shared<T> {
 
     /// Copies a value into a cell, and puts the cell into the queue.
     ///
+    /// The generation of a cell may be over once the value is there. Then it goes on to a cell of the next one. WORN
+    /// comes where there is no next one.
+    ///
     /// # Safety
     ///
     /// As of `give`.
+    #[inline]
     unsafe fn publish(&self, number: usize, value: &T) -> u32 {
+        // SAFETY: as the caller says.
+        unsafe { self.publish_by(number, value, || {}) }
+    }
+
+    /// The same, with something that a test does whenever the value is in a cell that is not yet put into the queue.
+    ///
+    /// # Safety
+    ///
+    /// As of `give`.
+    #[inline]
+    unsafe fn publish_by(&self, number: usize, value: &T, mut between: impl FnMut()) -> u32 {
+        let mut worn = ptr::null_mut();
+        loop {
+            let mut cell = CellAt::none();
+            // SAFETY: as the caller says.
+            let status = unsafe { self.publish_once(number, value, &mut cell, &mut between) };
+            if status != ffi::WORN || cell.block == worn {
+                return status;
+            }
+            worn = cell.block;
+        }
+    }
+
+    /// The same, in one generation, and says which cell it was.
+    ///
+    /// # Safety
+    ///
+    /// As of `give`.
+    #[inline]
+    unsafe fn publish_once(
+        &self,
+        number: usize,
+        value: &T,
+        cell: &mut CellAt,
+        between: &mut impl FnMut(),
+    ) -> u32 {
         let pass = self.passes.at(number);
-        let mut cell = 0;
         // SAFETY: the pass is of an open queue, and the caller says that nobody else uses it.
-        let status = unsafe { ffi::kfifo_c_reserve(pass, &mut cell) };
+        let status = unsafe { ffi::kfifo_c_reserve(pass, cell) };
         if status != ffi::DONE {
             return status;
         }
-        // SAFETY: `reserve` promises that the cell is this pass's alone until it is published, and had been released
-        // before. The caller gives up the value, or `forget` comes below.
-        unsafe { self.cells.copy_in(number, cell, value) };
-        // SAFETY: as of `reserve`.
+        // SAFETY: `reserve_cell` promises that the cell is this pass's alone until it is published. The caller gives up
+        // the value where that comes to DONE, and else nobody looks at what is in the cell.
+        unsafe { cell.copy_in(value) };
+        between();
+        // SAFETY: as of `reserve_cell`.
         let status = unsafe { ffi::kfifo_c_publish(pass) };
         if status != ffi::DONE {
-            // SAFETY: `publish` promises that a refused cell is still reserved, and so this pass's alone.
-            unsafe { self.cells.forget(number, cell) };
             // A cell that stayed reserved would be one that no other handle can have.
-            // SAFETY: as of `reserve`.
+            // SAFETY: as of `reserve_cell`.
             unsafe { ffi::kfifo_c_cancel(pass) };
+            self.wake_for_room(ffi::GOT);
         }
         status
     }
@@ -317,8 +371,8 @@ impl<T> Shared<T> {
     /// # Safety
     ///
     /// As of `pop`. After GOT the value of the cell is moved out next.
-    unsafe fn look(&self, number: usize, cell: &mut u64) -> u32 {
-        // SAFETY: as of `reserve` in `publish`.
+    unsafe fn look(&self, number: usize, cell: &mut CellAt) -> u32 {
+        // SAFETY: as of `reserve_cell` in `publish_once`.
         let status = unsafe { ffi::kfifo_c_receive(self.passes.at(number), cell) };
         if status != ffi::GOT {
             self.wake_for_room(status);
@@ -339,7 +393,7 @@ impl<T> Shared<T> {
     /// # Safety
     ///
     /// As of `look`.
-    unsafe fn receive(&self, number: usize, cell: &mut u64) -> u32 {
+    unsafe fn receive(&self, number: usize, cell: &mut CellAt) -> u32 {
         // SAFETY: as the caller says.
         let status = unsafe { self.look(number, cell) };
         if status != ffi::EMPTY || !self.is_finished() {
@@ -353,20 +407,29 @@ impl<T> Shared<T> {
         }
     }
 
+    /// About how many values are in the queue.
+    ///
+    /// # Safety
+    ///
+    /// As of `pop`.
+    pub(crate) unsafe fn len(&self, number: usize) -> usize {
+        // SAFETY: as of `receive_cell` in `look`.
+        unsafe { ffi::kfifo_c_cells_len(self.passes.at(number)) }
+    }
+
     /// Moves the value out of a cell that was received, and releases the cell.
     ///
     /// # Safety
     ///
     /// As of `pop`, and `look` has just received the cell by this pass.
-    unsafe fn move_out(&self, number: usize, cell: u64) -> T {
-        let pass = self.passes.at(number);
-        // SAFETY: `receive` promises that the cell is this pass's alone until it is released, and that it came out once
-        // for each time that it was published. `publish` above puts a value into it each time.
-        let value = unsafe { self.cells.move_out(number, cell) };
-        // SAFETY: as of `receive` in `look`.
-        let status = unsafe { ffi::kfifo_c_release(pass) };
+    unsafe fn move_out(&self, number: usize, cell: CellAt) -> T {
+        // SAFETY: `receive_cell` promises that the cell is this pass's alone until it is released, and that it came out
+        // once for each time that it was published. `publish` above puts a value into it each time.
+        let value = unsafe { cell.move_out() };
+        // SAFETY: as of `receive_cell` in `look`.
+        let status = unsafe { ffi::kfifo_c_release(self.passes.at(number)) };
         debug_assert_eq!(status, ffi::DONE);
-        // A giver may wait for the room, or for the token that is free only now.
+        // A giver may wait for the cell that is free only now.
         self.wake_for_room(ffi::GOT);
         value
     }
@@ -438,7 +501,6 @@ impl<T> Shared<T> {
         Err(match status {
             ffi::FULL => PushError::Full(value),
             ffi::BUSY => PushError::Busy(value),
-            ffi::NO_TOKEN => PushError::NoToken(value),
             ffi::TIMED_OUT => PushError::TimedOut(value),
             ffi::FINISHED => PushError::Finished(value),
             status => {
@@ -467,8 +529,8 @@ impl<T> Shared<T> {
     /// # Safety
     ///
     /// As of `pop`. The cell is this pass's until its next receive or release.
-    unsafe fn receive_by(&self, number: usize, looks: Looks) -> Result<u64, PopError> {
-        let mut cell = 0;
+    unsafe fn receive_by(&self, number: usize, looks: Looks) -> Result<CellAt, PopError> {
+        let mut cell = CellAt::none();
         // SAFETY: as in `push`. GOT ends the calls.
         let mut receive = || unsafe { self.receive(number, &mut cell) };
         let mut status = receive();
@@ -487,51 +549,6 @@ impl<T> Shared<T> {
             }
         }
     }
-
-    /// Moves all values out that are left, in the order of the queue.
-    pub(crate) fn into_values(mut self) -> Vec<T> {
-        let mut values = Vec::new();
-        let end = loop {
-            // SAFETY: `self` is no reference: nobody else makes a call.
-            match unsafe { self.pop(0, Looks::UnlessBusy) } {
-                Ok(value) => values.push(value),
-                Err(end) => break end,
-            }
-        };
-        if !matches!(end, PopError::Empty | PopError::Finished) {
-            for cell in self.close() {
-                values.extend(self.cells.take(cell));
-            }
-        }
-        // Where there was no memory for the close, the order of the values is lost, but none of them.
-        values.extend(self.cells.take_all());
-        values
-    }
-
-    /// Closes a queue whose versions are used up, and returns the cells that are in it, in its order; none where there
-    /// is no memory for that.
-    fn close(&mut self) -> Vec<u64> {
-        let passes = &mut self.passes.0;
-        let mut cells = Vec::new();
-        if cells.try_reserve_exact(self.count).is_err() {
-            return cells;
-        }
-        cells.resize(self.count, 0);
-        let mut count = 0;
-        // SAFETY: these are all passes of the queue, `&mut self` says that nobody else uses one, and there is room for
-        // each cell.
-        let status = unsafe {
-            ffi::kfifo_c_close_cells(
-                passes.as_mut_ptr().cast(),
-                passes.len(),
-                cells.as_mut_ptr(),
-                cells.len(),
-                &mut count,
-            )
-        };
-        cells.truncate(if status == ffi::DONE { count } else { 0 });
-        cells
-    }
 }
 
 #[cfg(test)]
@@ -541,6 +558,10 @@ mod busy;
 #[cfg(all(test, debug_assertions))]
 #[path = "../tests/unit/misuse.rs"]
 mod misuse;
+
+#[cfg(test)]
+#[path = "../tests/unit/slow.rs"]
+mod slow;
 
 #[cfg(test)]
 #[path = "../tests/unit/worn.rs"]

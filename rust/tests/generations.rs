@@ -1,7 +1,7 @@
 //! Queues whose generations change all the time, since they have few versions: each value comes out once and is dropped
 //! once, those of a producer in order up to the bound, also where handles change threads, and where the queue is closed
 //! or dropped in the middle of a change.
-use kfifo::{Handle, OpenError, PopError, PushError, Queue, Versions};
+use kfifo::{Handle, OpenError, Options, PopError, PushError, Queue};
 use std::collections::VecDeque;
 use std::sync::Arc;
 use std::sync::atomic::{AtomicBool, AtomicI64, AtomicU8, AtomicU64, Ordering};
@@ -24,13 +24,18 @@ impl Parcel {
 }
 
 /// A queue whose generations have that many versions, and a reserve of half of them.
-fn few_versions(k: u32, segments: u32, handles: usize, last: u64) -> Queue<Parcel> {
-    let versions = Versions {
+fn few_versions(k: u32, capacity: usize, threads: usize, last: u64) -> Queue<Parcel> {
+    let options = Options {
         last,
         reserve: last / 2,
+        grows: 1,
     };
-    Queue::with_versions(k, segments, handles, k * segments + 1, versions)
-        .expect("the sizes are in range")
+    Queue::with_options(k, capacity, threads, options).expect("the sizes are in range")
+}
+
+/// How many cells a generation has: each thread has its part of the capacity, rounded up, and 32 more.
+fn cells_of(capacity: usize, threads: usize) -> usize {
+    threads * (capacity.div_ceil(threads) + 32)
 }
 
 fn handle_of(queue: &Queue<Parcel>) -> Handle<Parcel> {
@@ -38,10 +43,14 @@ fn handle_of(queue: &Queue<Parcel>) -> Handle<Parcel> {
 }
 
 #[test]
-fn versions_out_of_range_are_refused() {
+fn options_out_of_range_are_refused() {
+    let open_with = |options| Queue::<u64>::with_options(1, 2, 2, options).err();
     let open = |last, reserve| {
-        let versions = Versions { last, reserve };
-        Queue::<u64>::with_versions(1, 2, 1, 3, versions).err()
+        open_with(Options {
+            last,
+            reserve,
+            grows: 1,
+        })
     };
     assert_eq!(open(1, 0), Some(OpenError::LastOutOfRange));
     assert_eq!(open(1 << 40, 0), Some(OpenError::LastOutOfRange));
@@ -49,6 +58,16 @@ fn versions_out_of_range_are_refused() {
     assert_eq!(open(8, u64::MAX), Some(OpenError::ReserveOutOfRange));
     assert_eq!(open(8, 7), None);
     assert_eq!(open((1 << 40) - 1, 1 << 32), None);
+    let grows = |grows| {
+        open_with(Options {
+            grows,
+            ..Options::default()
+        })
+    };
+    assert_eq!(grows(0), Some(OpenError::GrowsOutOfRange));
+    assert_eq!(grows(126), Some(OpenError::GrowsOutOfRange));
+    assert_eq!(grows(u32::MAX), Some(OpenError::GrowsOutOfRange));
+    assert_eq!(grows(125), None);
 }
 
 /// With k = 1 and one thread values come out in order, through some hundred changes, and so does what is left.
@@ -81,11 +100,12 @@ fn values_come_out_in_order() {
 
 #[test]
 fn a_queue_that_does_not_renew_itself_wears_out() {
-    let versions = Versions {
+    let options = Options {
         last: 40,
         reserve: 0,
+        grows: 1,
     };
-    let queue = Queue::with_versions(1, 8, 1, 9, versions).expect("the sizes are in range");
+    let queue = Queue::with_options(1, 8, 1, options).expect("the sizes are in range");
     let handle = queue.handle().expect("a handle is free");
     let mut inside = VecDeque::new();
     for number in 0..1_000 {
@@ -207,6 +227,8 @@ struct Run {
     seen: Vec<AtomicU8>,
     left: AtomicU64,
     inside: AtomicU64,
+    /// How many values may be inside at a time. With few versions the places of generations would run out.
+    most_inside: u64,
     sleeps: bool,
     has_failed: AtomicBool,
 }
@@ -229,10 +251,31 @@ const K: u32 = 4;
 impl Run {
     /// The reserve is 16 versions for each thread: more than those inside, and what is under way, need.
     fn new(roles: Roles, sleeps: bool) -> Run {
+        let queue = few_versions(K, 32, roles.threads() as usize, 32 * roles.threads());
+        Run::over(queue, 16, roles, sleeps)
+    }
+
+    /// Over a queue that grows when its producers are ahead, and is small again when its consumers have caught up.
+    fn growing(roles: Roles, sleeps: bool) -> Run {
+        let options = Options {
+            grows: 8,
+            ..Options::default()
+        };
+        let queue = Queue::with_options(K, 1, roles.threads() as usize, options);
+        Run::over(
+            queue.expect("the sizes are in range"),
+            u64::MAX,
+            roles,
+            sleeps,
+        )
+    }
+
+    fn over(queue: Queue<Parcel>, most_inside: u64, roles: Roles, sleeps: bool) -> Run {
         let values = roles.producers() * EACH;
         Run {
             roles,
-            queue: few_versions(K, 8, roles.threads() as usize, 32 * roles.threads()),
+            queue,
+            most_inside,
             alive: Arc::new(()),
             seen: (0..values).map(|_| AtomicU8::new(0)).collect(),
             left: AtomicU64::new(values),
@@ -246,10 +289,9 @@ impl Run {
         self.left.load(Ordering::SeqCst) == 0
     }
 
-    /// Puts a value, unless there are many inside: with few versions the places of generations would run out. Returns
-    /// whether it is in the queue.
+    /// Puts a value, unless there are many inside. Returns whether it is in the queue.
     fn put(&self, handle: &Handle<Parcel>, number: u64) -> bool {
-        if self.inside.fetch_add(1, Ordering::SeqCst) < 16 {
+        if self.inside.fetch_add(1, Ordering::SeqCst) < self.most_inside {
             let parcel = Parcel::new(number, &self.alive);
             let put = if self.sleeps {
                 handle.push_wait(parcel)
@@ -317,20 +359,12 @@ impl Run {
     }
 }
 
-#[test]
-fn each_value_comes_out_once_and_in_order_up_to_the_bound() {
-    let all_roles = [
-        (1, 1, 0),
-        (2, 2, 0),
-        (0, 0, 4),
-        (1, 1, 2),
-        (8, 8, 0),
-        (4, 4, 8),
-    ];
-    for (push, pop, do_both) in all_roles {
+/// Runs of this kind: each value comes out once, and in order up to the bound.
+fn run_all(all_roles: &[(u64, u64, u64)], new: fn(Roles, bool) -> Run) {
+    for &(push, pop, do_both) in all_roles {
         for sleeps in [false, true] {
             let roles = Roles { push, pop, do_both };
-            let run = Run::new(roles, sleeps);
+            let run = new(roles, sleeps);
             thread::scope(|scope| {
                 for number in 0..roles.threads() {
                     let run = &run;
@@ -343,6 +377,24 @@ fn each_value_comes_out_once_and_in_order_up_to_the_bound() {
             assert!(left.is_empty());
         }
     }
+}
+
+#[test]
+fn each_value_comes_out_once_and_in_order_up_to_the_bound() {
+    let all_roles = [
+        (1, 1, 0),
+        (2, 2, 0),
+        (0, 0, 4),
+        (1, 1, 2),
+        (8, 8, 0),
+        (4, 4, 8),
+    ];
+    run_all(&all_roles, Run::new);
+}
+
+#[test]
+fn so_it_does_from_a_queue_that_grows() {
+    run_all(&[(1, 1, 0), (3, 1, 0), (2, 2, 2), (8, 8, 0)], Run::growing);
 }
 
 /// Pushes while there is room, and then pops some, so that there are many values inside, also when generations change.
@@ -391,21 +443,21 @@ fn stopped_after(queue: &Queue<Parcel>, alive: &Arc<()>, calls: i64) -> [Vec<u64
 }
 
 /// The queue gives back what is left, or is dropped, while it has values of several generations: what came out before
-/// and what is left is each value once. It had several generations where more was left than one has slots.
+/// and what is left is each value once. It had several generations where more was left than one has cells.
 fn stops_anywhere(gives_back: bool) {
-    let (k, segments) = (2, 8);
+    let (k, capacity) = (2, 16);
     let alive = Arc::new(());
-    let slots = (k * segments) as usize;
+    let cells = cells_of(capacity, 4);
     let mut most = 0;
     let numbers = (20..8_000).step_by(40);
     let rounds = numbers.clone().count();
     // Where threads take turns on few processors, values of several generations are seldom left. So it goes on until
     // some are, for forty times as many rounds at most.
     for (round, calls) in numbers.cycle().take(40 * rounds).enumerate() {
-        if round >= rounds && most > slots {
+        if round >= rounds && most > cells {
             break;
         }
-        let queue = few_versions(k, segments, 4, 32 * 4);
+        let queue = few_versions(k, capacity, 4, 4 * cells as u64);
         let [mut pushed, mut popped] = stopped_after(&queue, &alive, calls);
         let inside = pushed.len() - popped.len();
         assert_eq!(Arc::strong_count(&alive) - 1, inside);
@@ -421,7 +473,7 @@ fn stops_anywhere(gives_back: bool) {
         }
         assert_eq!(Arc::strong_count(&alive), 1);
     }
-    assert!(most > slots, "{most}");
+    assert!(most > cells, "{most}");
 }
 
 #[test]

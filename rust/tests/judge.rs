@@ -333,9 +333,7 @@ fn the_queue_of_this_crate_passes_for_its_k() {
     for k in [1, 4] {
         let check = |options| {
             run_check_handles(
-                move |capacity| {
-                    kfifo::Queue::new(k, capacity.max(2) as u32, 8).expect("the sizes are in range")
-                },
+                move |capacity| kfifo::Queue::new(k, capacity, 8).expect("the sizes are in range"),
                 |queue, _| queue.handle().expect("a handle is free"),
                 |handle, item| handle.push(item),
                 |handle| handle.pop(),

@@ -1,6 +1,6 @@
 //! Many values at once: what is put and what comes back, also where an iterator panics, and that one call wakes all
 //! threads that wait for what it put or took. A wake-up that is lost would hang a test.
-use kfifo::{PopError, PushError, Queue, Versions};
+use kfifo::{Options, PopError, PushError, Queue};
 use std::panic::{AssertUnwindSafe, catch_unwind};
 use std::rc::Rc;
 use std::sync::atomic::{AtomicUsize, Ordering};
@@ -9,6 +9,11 @@ use std::thread;
 use std::time::{Duration, Instant};
 
 const ROUNDS: usize = 100;
+
+/// How many cells a queue has: each thread has its part of the capacity, rounded up, and 32 more.
+fn cells_of(capacity: usize, threads: usize) -> usize {
+    threads * (capacity.div_ceil(threads) + 32)
+}
 
 /// Other threads sleep mostly after this time.
 fn fall_asleep() {
@@ -19,27 +24,33 @@ fn fall_asleep() {
 fn what_is_refused_comes_back() {
     let queue = Queue::new(1, 4, 2).expect("the sizes are in range");
     let handle = queue.handle().expect("a handle is free");
+    let cells = cells_of(4, 2);
     assert_eq!(handle.push_all([]).expect("no value is refused"), 0);
-    let numbers: Vec<_> = (0..7).map(Box::new).collect();
-    let stopped = handle.push_all(numbers).expect_err("there are four slots");
-    assert_eq!(stopped.pushed, 4);
-    assert!(matches!(&stopped.refused, PushError::Full(number) if **number == 4));
+    let numbers: Vec<_> = (0..cells + 3).map(Box::new).collect();
+    let stopped = handle.push_all(numbers).expect_err("it is full");
+    assert_eq!(stopped.pushed, cells);
+    assert!(matches!(&stopped.refused, PushError::Full(number) if **number == cells));
     assert_eq!(
         stopped.to_string(),
-        "4 values were put, and then the queue was full"
+        format!("{cells} values were put, and then the queue was full")
     );
     let rest: Vec<_> = stopped.into_rest().collect();
-    assert!(rest.iter().map(|number| **number).eq(4..7));
+    assert!(rest.iter().map(|number| **number).eq(cells..cells + 3));
 
-    let mut values = vec![Box::new(100)];
+    let mut values = vec![Box::new(1000)];
     assert_eq!(handle.pop_up_to(0, &mut values), Ok(0));
     assert_eq!(handle.pop_up_to(3, &mut values), Ok(3));
-    assert_eq!(handle.pop_up_to(usize::MAX, &mut values), Ok(1));
+    assert_eq!(handle.pop_up_to(usize::MAX, &mut values), Ok(cells - 3));
     assert_eq!(
         handle.pop_up_to(usize::MAX, &mut values),
         Err(PopError::Empty)
     );
-    assert!(values.iter().map(|it| **it).eq([100, 0, 1, 2, 3]));
+    assert!(
+        values
+            .iter()
+            .map(|it| **it)
+            .eq([1000].into_iter().chain(0..cells))
+    );
 
     assert_eq!(handle.push_all(rest).expect("there is room"), 3);
     queue.finish();
@@ -49,16 +60,17 @@ fn what_is_refused_comes_back() {
     assert!(late.pushed == 0 && matches!(late.refused, PushError::Finished(_)));
     assert_eq!(handle.pop_up_to(9, &mut values), Ok(3));
     assert_eq!(handle.pop_up_to(9, &mut values), Err(PopError::Finished));
-    assert_eq!(values.len(), 8);
+    assert_eq!(values.len(), cells + 4);
 }
 
 #[test]
 fn a_queue_that_wears_out_says_so() {
-    let versions = Versions {
+    let options = Options {
         last: 64,
         reserve: 0,
+        grows: 1,
     };
-    let queue = Queue::with_versions(1, 4, 1, 5, versions).expect("the sizes are in range");
+    let queue = Queue::with_options(1, 4, 1, options).expect("the sizes are in range");
     let handle = queue.handle().expect("a handle is free");
     let mut values = Vec::new();
     let mut numbers = 0..1000;
@@ -89,13 +101,14 @@ fn each_value_is_dropped_once() {
     {
         let queue = Queue::new(1, 4, 1).expect("the sizes are in range");
         let handle = queue.handle().expect("a handle is free");
-        let stopped = handle.push_all((0..6).map(|_| Rc::clone(&alive)));
-        assert_eq!(Rc::strong_count(&alive), 1 + 4 + 1);
+        let cells = cells_of(4, 1);
+        let stopped = handle.push_all((0..cells + 2).map(|_| Rc::clone(&alive)));
+        assert_eq!(Rc::strong_count(&alive), 1 + cells + 1);
         drop(stopped);
         let mut values = Vec::new();
         assert_eq!(handle.pop_up_to(2, &mut values), Ok(2));
         drop(values);
-        assert_eq!(Rc::strong_count(&alive), 1 + 2);
+        assert_eq!(Rc::strong_count(&alive), 1 + cells - 2);
     }
     assert_eq!(Rc::strong_count(&alive), 1);
 }
@@ -121,13 +134,14 @@ fn an_iterator_that_panics_loses_nothing() {
 /// Each of some threads makes a call that waits, and one call of many wakes them all.
 fn one_call_wakes_all(pushes: bool) {
     const THREADS: usize = 6;
-    let queue = Queue::new(1, THREADS as u32, THREADS + 1).expect("the sizes are in range");
+    let queue = Queue::new(1, THREADS, THREADS + 1).expect("the sizes are in range");
     let first = queue.handle().expect("a handle is free");
     let mut values = Vec::new();
     for _ in 0..ROUNDS {
         let begun = AtomicUsize::new(0);
+        let mut filled = 0;
         if pushes {
-            assert_eq!(first.push_all(1..=THREADS).expect("there is room"), THREADS);
+            filled = first.push_all(1..).expect_err("it is full").pushed;
         }
         let sum: usize = thread::scope(|scope| {
             let all: Vec<_> = (1..=THREADS)
@@ -149,7 +163,7 @@ fn one_call_wakes_all(pushes: bool) {
             }
             fall_asleep();
             if pushes {
-                assert_eq!(first.pop_up_to(THREADS, &mut values), Ok(THREADS));
+                assert_eq!(first.pop_up_to(filled, &mut values), Ok(filled));
             } else {
                 assert_eq!(first.push_all(1..=THREADS).expect("there is room"), THREADS);
             }
@@ -188,18 +202,20 @@ fn calls_that_wait_say_what_ended_them() {
         assert_eq!(end, Err(PopError::TimedOut));
     }
     let forever = Duration::MAX;
+    let cells = cells_of(4, 2);
     assert_eq!(handle.push_all_timeout(0..3, forever).expect("room"), 3);
-    for (time, pushed, refused) in [(none, 1, 4), (short, 0, 3)] {
-        let stopped = handle.push_all_timeout(3..9, time).expect_err("four slots");
+    for (time, from, pushed) in [(none, 3, cells - 3), (short, cells, 0)] {
+        let stopped = handle.push_all_timeout(from..1000, time).expect_err("full");
         assert_eq!(
             (stopped.pushed, stopped.refused),
-            (pushed, PushError::TimedOut(refused))
+            (pushed, PushError::TimedOut(cells))
         );
-        assert!(stopped.rest.eq(refused + 1..9));
+        assert!(stopped.rest.eq(cells + 1..1000));
     }
     assert_eq!(handle.pop_up_to_wait(2, &mut values), Ok(2));
-    assert_eq!(handle.pop_up_to_timeout(9, &mut values, forever), Ok(2));
-    assert_eq!(values, [0, 1, 2, 3]);
+    let rest = handle.pop_up_to_timeout(1000, &mut values, forever);
+    assert_eq!(rest, Ok(cells - 2));
+    assert!(values.iter().copied().eq(0..cells));
     assert_eq!(handle.push_all_wait(4..6).expect("there is room"), 2);
     queue.finish();
     let stopped = handle.push_all_wait(6..9).expect_err("it is finished");
@@ -219,17 +235,16 @@ fn calls_that_wait_end_where_nobody_is_left() {
     let queue = Queue::new(1, 4, 1).expect("the sizes are in range");
     let handle = queue.handle().expect("a handle is free");
     drop(queue);
-    let stopped = handle
-        .push_all_wait(0..9)
-        .expect_err("there are four slots");
+    let cells = cells_of(4, 1);
+    let stopped = handle.push_all_wait(0..).expect_err("it is full");
     assert_eq!(
         (stopped.pushed, stopped.refused),
-        (4, PushError::Finished(4))
+        (cells, PushError::Finished(cells))
     );
     let mut values = Vec::new();
-    assert_eq!(handle.pop_up_to_wait(4, &mut values), Ok(4));
+    assert_eq!(handle.pop_up_to_wait(cells, &mut values), Ok(cells));
     assert_eq!(
-        handle.pop_up_to_wait(4, &mut values),
+        handle.pop_up_to_wait(cells, &mut values),
         Err(PopError::Finished)
     );
 }
@@ -249,7 +264,7 @@ fn the_time_is_of_all_waits() {
         let _end = handle.finish_on_drop();
         let began = Instant::now();
         let stopped = handle
-            .push_all_timeout(0..1000, Duration::from_millis(100))
+            .push_all_timeout(0..10_000, Duration::from_millis(100))
             .expect_err("its time is up");
         assert!(matches!(stopped.refused, PushError::TimedOut(_)));
         let spent = began.elapsed();
@@ -315,19 +330,23 @@ fn the_values_of_one_queue_go_to_the_next() {
     let next = Queue::new(1, 2, 1).expect("the sizes are in range");
     let handle = queue.handle().expect("a handle is free");
     let passer = next.handle().expect("a handle is free");
-    assert_eq!(handle.push_all(0..4).expect("there is room"), 4);
+    let cells = cells_of(2, 1);
+    assert_eq!(handle.push_all(0..cells + 2).expect("room"), cells + 2);
     queue.finish();
-    let stopped = passer.push_all(&handle).expect_err("there are two slots");
-    assert_eq!((stopped.pushed, stopped.refused), (2, PushError::Full(2)));
-    assert!(passer.try_values().eq([0, 1]));
-    assert!(stopped.rest.eq([3]));
+    let stopped = passer.push_all(&handle).expect_err("it is full");
+    assert_eq!(
+        (stopped.pushed, stopped.refused),
+        (cells, PushError::Full(cells))
+    );
+    assert!(passer.try_values().eq(0..cells));
+    assert!(stopped.rest.eq([cells + 1]));
 }
 
 /// Batches of all sizes, among threads that wait: each value comes out once.
 #[test]
 fn each_value_comes_out_once() {
     const EACH: usize = 20_000;
-    let queue = Queue::new(2, 8, 4).expect("the sizes are in range");
+    let queue = Queue::new(2, 16, 4).expect("the sizes are in range");
     let still_pushing = AtomicUsize::new(2);
     let mut taken = thread::scope(|scope| {
         for producer in 0..2 {

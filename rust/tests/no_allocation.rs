@@ -69,21 +69,28 @@ fn text() -> Text {
 #[test]
 fn the_count_works() {
     assert_eq!(calls_of(|| drop(Box::new(7))).0, 2);
-    assert!(calls_of(|| drop(Queue::<Text>::new(4, 64, 2))).0 > 2);
+    assert!(calls_of(|| drop(Queue::<Text>::new(4, 256, 2))).0 > 2);
 }
 
 #[test]
 fn no_call_allocates_or_frees() {
-    let queue = Queue::with_tokens(1, 2, 2, 2).expect("the sizes are in range");
+    let queue = Queue::new(1, 2, 2).expect("the sizes are in range");
     let handle = queue.handle().expect("a handle is free");
     let other = queue.handle().expect("a handle is free");
+    let of_none = Queue::<Text>::new(1, 2, 1).expect("the sizes are in range");
+    let empty = of_none.handle().expect("a handle is free");
     let time = Duration::from_micros(50);
     let values = [text(), text(), text()];
+    // As many as there is room for, but two.
+    while handle.push(text()).is_ok() {}
+    for _ in 0..2 {
+        drop(handle.pop().unwrap_or_else(|_| panic!("it is there")));
+    }
     let (calls, values) = calls_of(|| {
         (0..1000).fold(values, |[first, second, third], _| {
             assert!(handle.push(first).is_ok());
             assert!(handle.push_wait(second).is_ok());
-            let Err(PushError::NoToken(third)) = handle.push(third) else {
+            let Err(PushError::Full(third)) = handle.push(third) else {
                 panic!("it is refused")
             };
             let Err(PushError::Full(third)) = other.push(third) else {
@@ -94,8 +101,8 @@ fn no_call_allocates_or_frees() {
             };
             let first = handle.pop().unwrap_or_else(|_| panic!("it is there"));
             let second = handle.pop_wait().unwrap_or_else(|_| panic!("it is there"));
-            assert!(matches!(handle.pop(), Err(PopError::Empty)));
-            assert!(matches!(handle.pop_timeout(time), Err(PopError::TimedOut)));
+            assert!(matches!(empty.pop(), Err(PopError::Empty)));
+            assert!(matches!(empty.pop_timeout(time), Err(PopError::TimedOut)));
             [first, second, third]
         })
     });
@@ -106,8 +113,8 @@ fn no_call_allocates_or_frees() {
 /// Values go round through two queues: one thread sends, the other sends back, and both sleep at times.
 #[test]
 fn no_call_of_two_threads_allocates_or_frees() {
-    let there = Queue::<Text>::new(1, 2, 2).expect("the sizes are in range");
-    let back = Queue::<Text>::new(1, 2, 2).expect("the sizes are in range");
+    let there = Queue::<Text>::new(1, 1, 2).expect("the sizes are in range");
+    let back = Queue::<Text>::new(1, 1, 2).expect("the sizes are in range");
     let ends = [&there, &back, &there, &back].map(|it| it.handle().expect("a handle is free"));
     let [there_in, back_out, there_out, back_in] = ends;
     let calls = thread::scope(|scope| {

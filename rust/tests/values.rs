@@ -74,15 +74,16 @@ fn kind_of(refused: PushError<Counted>) -> String {
 #[test]
 fn refused_values_come_back_and_are_dropped_once() {
     let counts = Arc::new(Counts::default());
-    let queue = Queue::with_tokens(1, 2, 2, 2).expect("the sizes are in range");
+    let queue = Queue::new(1, 2, 2).expect("the sizes are in range");
     let (first, second) = (handle_of(&queue), handle_of(&queue));
     let mut numbers = 0..;
     let mut next = || Counted::new(numbers.next().expect("there are more"), &counts);
     let refused = |it: Result<(), PushError<Counted>>| kind_of(it.expect_err("it is refused"));
-    assert!(first.push(next()).is_ok());
-    assert!(first.push(next()).is_ok());
+    while first.push(next()).is_ok() {}
+    let inside = counts.made() - counts.dropped();
+    assert!(inside >= 2);
     for _ in 0..3 {
-        assert_eq!(refused(first.push(next())), "NoToken(..)");
+        assert_eq!(refused(first.push(next())), "Full(..)");
         assert_eq!(refused(second.push(next())), "Full(..)");
         let time = Duration::from_micros(100);
         assert_eq!(refused(first.push_timeout(next(), time)), "TimedOut(..)");
@@ -93,7 +94,7 @@ fn refused_values_come_back_and_are_dropped_once() {
     queue.finish();
     assert_eq!(refused(second.push(next())), "Finished(..)");
     assert_eq!(refused(first.push_wait(next())), "Finished(..)");
-    assert_eq!(counts.made() - counts.dropped(), 2);
+    assert_eq!(counts.made() - counts.dropped(), inside);
     drop((queue, first, second));
     assert_eq!(counts.made(), counts.dropped());
 }
@@ -107,12 +108,15 @@ fn a_value_after_a_refused_one_is_itself() {
         let text = |name: &str| format!("{name} {round}");
         assert_eq!(handle.push(text("first")), Ok(()));
         assert_eq!(handle.push(text("second")), Ok(()));
+        while handle.push(text("more")).is_ok() {}
         let refused = handle.push(text("third")).expect_err("it is refused");
         assert_eq!(refused, PushError::Full(text("third")));
         assert_eq!(handle.pop(), Ok(text("first")));
         assert_eq!(handle.push(text("fourth")), Ok(()));
         assert_eq!(handle.pop(), Ok(text("second")));
-        assert_eq!(handle.pop(), Ok(text("fourth")));
+        let mut rest: Vec<_> = handle.try_values().collect();
+        assert_eq!(rest.pop(), Some(text("fourth")));
+        assert!(rest.into_iter().all(|it| it == text("more")));
         assert_eq!(handle.pop(), Err(PopError::Empty));
     }
 }
@@ -120,7 +124,7 @@ fn a_value_after_a_refused_one_is_itself() {
 #[test]
 fn what_is_left_is_dropped_once_where_one_drop_panics() {
     let counts = Arc::new(Counts::default());
-    let queue = Queue::new(4, 16, 2).expect("the sizes are in range");
+    let queue = Queue::new(4, 64, 2).expect("the sizes are in range");
     let handle = handle_of(&queue);
     for number in 0..20 {
         let mut value = Counted::new(number, &counts);
@@ -159,7 +163,7 @@ fn a_queue_goes_on_after_a_drop_that_panics() {
 #[test]
 fn a_forgotten_handle_keeps_the_queue() {
     let counts = Arc::new(Counts::default());
-    let queue = Queue::new(4, 16, 2).expect("the sizes are in range");
+    let queue = Queue::new(4, 64, 2).expect("the sizes are in range");
     let handle = handle_of(&queue);
     for number in 0..10 {
         assert!(handle.push(Counted::new(number, &counts)).is_ok());
@@ -287,9 +291,9 @@ fn sums_of<T: Sample>(handle: &Handle<T>) -> [u64; 3] {
         })
 }
 
-/// Four threads put values into a small ring, and four take them.
+/// Four threads put values into a small queue, and four take them.
 fn pass_through<T: Sample>(values: u64) {
-    let queue = Queue::<T>::with_tokens(2, 4, 8, 3).expect("the sizes are in range");
+    let queue = Queue::<T>::new(2, 1, 8).expect("the sizes are in range");
     let sums = thread::scope(|scope| {
         let producers: Vec<_> = (0..4)
             .map(|producer| {
@@ -351,15 +355,18 @@ fn values_without_size_are_dropped_once() {
     assert_eq!(size_of::<Empty>(), 0);
     let queue = Queue::new(1, 4, 2).expect("the sizes are in range");
     let handle = handle_of(&queue);
-    for _ in 0..4 {
-        assert!(handle.push(Empty).is_ok());
+    let mut pushed = 0;
+    while handle.push(Empty).is_ok() {
+        pushed += 1;
     }
-    assert!(matches!(handle.push(Empty), Err(PushError::Full(Empty))));
+    assert!(pushed >= 4);
     assert_eq!(EMPTY_DROPS.load(Ordering::SeqCst), 1);
-    assert!(handle.pop().is_ok());
+    assert!(matches!(handle.push(Empty), Err(PushError::Full(Empty))));
     assert_eq!(EMPTY_DROPS.load(Ordering::SeqCst), 2);
+    assert!(handle.pop().is_ok());
+    assert_eq!(EMPTY_DROPS.load(Ordering::SeqCst), 3);
     drop((queue, handle));
-    assert_eq!(EMPTY_DROPS.load(Ordering::SeqCst), 5);
+    assert_eq!(EMPTY_DROPS.load(Ordering::SeqCst), pushed + 2);
 }
 
 #[test]
@@ -375,15 +382,23 @@ fn calls_are_values_too() {
     assert!(handle.values().map(|call| call()).eq(0..8));
 }
 
-/// Cells for which there is no memory, and cells for which there are not even addresses.
+/// Cells for which there is no memory, and values that are larger or wider than a cell can be.
 #[test]
 fn values_too_large_are_refused() {
-    type Large = [u8; 1 << 46];
-    type Larger = [u8; (1 << 47) - 4096];
-    let refused = Queue::<Large>::with_tokens(4, 16, 62, 1024).err();
+    #[repr(align(4096))]
+    struct Wide(#[allow(dead_code)] u8);
+    #[repr(align(8192))]
+    struct Wider(#[allow(dead_code)] u8);
+    #[repr(align(8192))]
+    struct WideNothing;
+    let refused = Queue::<[u8; u32::MAX as usize]>::new(64, 60_000, 62).err();
     assert_eq!(refused, Some(OpenError::OutOfMemory));
-    let refused = Queue::<Larger>::with_tokens(4, 16, 62, 1024).err();
-    assert_eq!(refused, Some(OpenError::OutOfMemory));
-    let refused = Queue::<Larger>::with_tokens(4, 16, 64, 1025).err();
-    assert_eq!(refused, Some(OpenError::TokensOutOfRange));
+    let refused = Queue::<[u8; 1 << 32]>::new(4, 1, 1).err();
+    assert_eq!(refused, Some(OpenError::LayoutOutOfRange));
+    let refused = Queue::<[u8; 1 << 32]>::new(4, 0, 1).err();
+    assert_eq!(refused, Some(OpenError::CapacityOutOfRange));
+    assert_eq!(Queue::<Wide>::new(4, 1, 1).err(), None);
+    let refused = Queue::<Wider>::new(4, 1, 1).err();
+    assert_eq!(refused, Some(OpenError::LayoutOutOfRange));
+    assert_eq!(Queue::<WideNothing>::new(4, 1, 1).err(), None);
 }

@@ -1,15 +1,24 @@
 //! Threads that wait: each value comes out once whoever sleeps, all threads end after `finish`, and times are kept. A
 //! wake-up that is lost would hang a test.
-use kfifo::{PopError, PushError, Queue};
+use kfifo::{Handle, PopError, PushError, Queue};
 use std::sync::atomic::{AtomicUsize, Ordering};
 use std::thread;
 use std::time::{Duration, Instant};
 
 const VALUES: usize = 50_000;
 
-/// That many producers and consumers over a ring of four slots, where both sides sleep often.
+/// Puts values until the queue is full: how many there were.
+fn fill<T: Clone>(handle: &Handle<T>, value: &T) -> usize {
+    let mut pushed = 0;
+    while handle.push(value.clone()).is_ok() {
+        pushed += 1;
+    }
+    pushed
+}
+
+/// That many producers and consumers over a small queue, where both sides sleep often.
 fn run(producers: usize, consumers: usize) {
-    let queue = Queue::with_tokens(2, 2, producers + consumers, 2).expect("the sizes are in range");
+    let queue = Queue::new(2, 1, producers + consumers).expect("the sizes are in range");
     let still_pushing = AtomicUsize::new(producers);
     let mut taken = thread::scope(|scope| {
         for producer in 0..producers {
@@ -63,6 +72,7 @@ fn times_are_kept() {
     }
     assert_eq!(handle.push("a"), Ok(()));
     assert_eq!(handle.push_timeout("b", Duration::ZERO), Ok(()));
+    let more = fill(&handle, &"more");
     for time in [0, 1_000, 20_000_000].map(Duration::from_nanos) {
         let began = Instant::now();
         assert_eq!(
@@ -73,6 +83,7 @@ fn times_are_kept() {
     }
     assert_eq!(handle.pop_wait(), Ok("a"));
     assert_eq!(handle.pop_wait(), Ok("b"));
+    assert_eq!(handle.try_values().count(), more);
     assert_eq!(handle.pop(), Err(PopError::Empty));
 }
 
@@ -90,17 +101,19 @@ fn long_waits_end_early() {
         thread::sleep(Duration::from_millis(5));
         assert_eq!(second.push(0), Ok(()));
     });
-    assert_eq!(second.push(1), Ok(()));
-    assert_eq!(second.push(2), Ok(()));
+    let filled = fill(&second, &1);
     thread::scope(|scope| {
         let first = &mut first;
         scope.spawn(move || assert_eq!(first.push_timeout(3, Duration::MAX), Ok(())));
         thread::sleep(Duration::from_millis(5));
-        assert_eq!(second.pop(), Ok(1));
+        // The handle keeps some of the cells that it frees, and lays the others into the pool.
+        for _ in 1..filled {
+            assert_eq!(second.pop(), Ok(1));
+        }
     });
     thread::scope(|scope| {
         let first = &mut first;
-        scope.spawn(move || assert_eq!(first.values().collect::<Vec<_>>(), [2, 3]));
+        scope.spawn(move || assert_eq!(first.values().collect::<Vec<_>>(), [1, 3]));
         thread::sleep(Duration::from_millis(5));
         queue.finish();
     });
@@ -109,7 +122,7 @@ fn long_waits_end_early() {
 #[test]
 fn a_queue_is_finished_in_the_middle() {
     for round in 0..50 {
-        let queue = Queue::new(2, 4, 4).expect("the sizes are in range");
+        let queue = Queue::new(2, 8, 4).expect("the sizes are in range");
         let (pushed, popped) = thread::scope(|scope| {
             let producers = [0, 1].map(|_| {
                 let handle = queue.handle().expect("a handle is free");
@@ -158,7 +171,7 @@ fn a_handle_that_is_left_alone_waits_for_nobody() {
     drop(other);
     let (last, end) = waits.join().expect("no panic");
     assert_eq!(end, Err(PopError::Finished));
-    assert_eq!((last.push(1), last.push(2)), (Ok(()), Ok(())));
+    assert!(fill(&last, &1) >= 2);
     assert_eq!(last.push_wait(3), Err(PushError::Finished(3)));
     assert_eq!(last.push(3), Err(PushError::Full(3)));
 }

@@ -98,7 +98,7 @@ impl From<Result<(), PushError<u32>>> for Put {
         match result {
             Ok(()) => Put::Done,
             Err(PushError::Full(_)) => Put::Full,
-            Err(PushError::Busy(_) | PushError::NoToken(_) | PushError::TimedOut(_)) => Put::Busy,
+            Err(PushError::Busy(_) | PushError::TimedOut(_)) => Put::Busy,
             Err(PushError::Worn(_) | PushError::Finished(_)) => Put::Worn,
         }
     }
@@ -299,7 +299,7 @@ where
 /// use kfifo::judge::{Options, check_handles};
 ///
 /// check_handles(
-///     |capacity| Queue::new(1, capacity as u32, 8).expect("the sizes are in range"), // k, segments, handles
+///     |capacity| Queue::new(1, capacity, 8).expect("the sizes are in range"), // k, capacity, threads
 ///     |queue, _thread| queue.handle().expect("a handle is free"),
 ///     |handle, item| handle.push(item),
 ///     |handle| handle.pop(),

@@ -64,7 +64,7 @@ impl<T> Shared<T> {
                     looks = Looks::UnlessBusy;
                     pops.has_cell = true;
                     // SAFETY: the cell has just been received, and is the pass's alone until the next one is.
-                    values.push(unsafe { self.cells.move_out(number, cell) });
+                    values.push(unsafe { cell.move_out() });
                     pops.taken += 1;
                 }
                 Err(end) if pops.taken == 0 => return Err(end),

@@ -42,9 +42,8 @@
 //!
 //! # What the queue has no room for
 //!
-//! The tasks lie in a queue that grows from some 4,000 to 16,000. With fewer than 4 threads, or k below 4, these are as
-//! many quarters of that, and with 64 threads it does not grow. A larger queue would make each run dearer by its
-//! opening.
+//! The tasks lie in a queue that grows from 4,096 to 16,384. With k below 5 it has room for about k quarters of that,
+//! and with 64 threads it does not grow. A larger queue would make each run dearer by its opening.
 //!
 //! What does not fit goes to a list under a lock, first in, first out, as long as there is memory. While it holds
 //! tasks, what is given goes there too, and workers move the oldest into the queue, up to 1,024 at once, where that has
@@ -88,7 +87,8 @@ pub struct Options {
     /// How many workers there are, 1 to 64: none takes the processors that the machine has for this process. The
     /// calling thread is one of them. With 1 no thread is started.
     pub threads: Option<usize>,
-    /// How far the order may be off, 1 to 64: 16. With a smaller k workers meet more often.
+    /// How far the order may be off, 1 to 64: 16. With a smaller k workers meet more often. For more than 30 threads it
+    /// is at least 2, and for more than 61 at least 3.
     pub k: u32,
 }
 

@@ -9,7 +9,7 @@
 //! it waits, looks once more, and sleeps. A give looks after it whether anyone waits. A task goes into the queue before
 //! it leaves the list, so a look that finds neither came before a give or a move that still looks for who waits.
 use super::error::Cause;
-use crate::Versions;
+use crate::Options;
 use crate::ffi::{self, Value};
 use crate::shared::pause;
 use std::cell::UnsafeCell;
@@ -21,34 +21,43 @@ use std::sync::{Mutex, MutexGuard, PoisonError};
 /// that opens a generation pays for it, so a run of few tasks is cheap, and what many tasks need goes through the list.
 const ROOM: u32 = 4_096;
 const GENERATIONS: u32 = 4;
-/// The most segments, and tokens of a pass, as in `c/kfifo.h`.
-const SEGMENTS: u32 = 1_024;
-const TOKENS: u32 = 1_024;
+/// How many slots a queue has for each k, and how many of them go to what each pass may keep for itself.
+const SLOTS: u32 = 1_022;
+const KEPT: u32 = 32;
 /// How many tasks move from the list into the queue at once.
 const MOVED: usize = 1_024;
+
+/// How long the versions of a queue's words last, as those of [`crate::Options`].
+#[derive(Clone, Copy, Debug)]
+pub(crate) struct Versions {
+    pub(crate) last: u64,
+    pub(crate) reserve: u64,
+}
 
 /// What a queue is opened with.
 #[derive(Clone, Copy, Debug)]
 pub(crate) struct Sizes {
     pub(crate) k: u32,
-    pub(crate) segments: u32,
-    pub(crate) tokens: u32,
+    pub(crate) capacity: u32,
     pub(crate) generations: u32,
     pub(crate) versions: Versions,
 }
 
 impl Sizes {
-    /// The sizes for k, 1 to 64, and so many workers, 1 to 64. Each worker has a pass, which brings 1,024 tokens at
-    /// most.
+    /// The sizes for k, 1 to 64, and so many workers, 1 to 64. With a k too small for so many there is no queue: it is
+    /// opened with the least that will do.
     pub(crate) fn of(k: u32, workers: usize) -> Sizes {
+        let options = Options::default();
         let passes = workers as u32;
-        let segments = (ROOM.min(TOKENS * passes) / k).min(SEGMENTS);
+        let k = k.max((passes * (KEPT + 1)).div_ceil(SLOTS));
         Sizes {
             k,
-            segments,
-            tokens: (k * segments).div_ceil(passes),
+            capacity: ROOM.min(passes * (SLOTS * k / passes - KEPT)),
             generations: GENERATIONS.min(129 - 2 * passes),
-            versions: Versions::default(),
+            versions: Versions {
+                last: options.last,
+                reserve: options.reserve,
+            },
         }
     }
 }
@@ -66,10 +75,8 @@ impl Passes {
         let status = unsafe {
             ffi::kfifo_c_open_values(
                 sizes.k,
-                sizes.segments,
-                sizes.k,
+                sizes.capacity,
                 sizes.versions.last,
-                sizes.tokens,
                 sizes.versions.reserve,
                 sizes.generations,
                 passes.as_mut_ptr(),

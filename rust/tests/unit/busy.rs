@@ -1,13 +1,12 @@
 //! A call that is busy is made again, and a bounded call says that it was.
 use super::{Looks, Shared, ffi};
-use crate::Versions;
+use crate::Options;
 
 const TIMES: u32 = 20;
 
 /// What a call comes to that is busy that often before it is done, and how many looks it made.
 fn busy_for(times: u32, looks: Looks) -> (u32, u32) {
-    let shared =
-        Shared::<u64>::open(1, 8, 1, 9, Versions::default()).expect("the sizes are in range");
+    let shared = Shared::<u64>::open(1, 8, 1, Options::default()).expect("the sizes are in range");
     let mut made = 1;
     let status = shared.again(0, ffi::GIVER, looks, ffi::BUSY, || {
         made += 1;

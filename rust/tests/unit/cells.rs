@@ -1,143 +1,92 @@
 //! The cells: where they are, and what becomes of the values in them.
-use super::{APART, BITS, Cell, Cells};
-use std::marker::PhantomData;
+use super::{BLOCK_ALIGNMENT, layout_of};
+use crate::ffi::CellAt;
 use std::mem::{ManuallyDrop, align_of};
 use std::rc::Rc;
-use std::sync::atomic::{AtomicUsize, Ordering};
-
-/// Where the cells of a handle are, in bytes: from the first on, and before the second.
-fn bytes_of<T>(cells: &Cells<T>, handle: usize, tokens: u32) -> (usize, usize) {
-    let first = handle as u64 * u64::from(tokens);
-    let all: Vec<_> = (first..first + u64::from(tokens))
-        .map(|number| cells.at(number).addr())
-        .collect();
-    assert!(all.is_sorted_by(|left, right| left + size_of::<Cell<T>>() == *right));
-    assert!(all.iter().all(|it| it % align_of::<T>() == 0));
-    (all[0], all[0] + all.len() * size_of::<Cell<T>>())
-}
-
-fn are_apart<T>() {
-    for handles in [1, 2, 3, 64] {
-        for tokens in [1, 2, 3, 7, 64, 255, 1024] {
-            let cells = Cells::<T>::new(handles, tokens).expect("there is memory");
-            let all = &cells.cells;
-            let mut end = all.as_ptr().addr();
-            for handle in 0..handles {
-                let (from, to) = bytes_of(&cells, handle, tokens);
-                assert!(from >= end + APART);
-                end = to;
-            }
-            assert!(all.as_ptr_range().end.addr() >= end + APART);
-        }
-    }
-}
 
 #[repr(align(512))]
 struct Aligned(#[allow(dead_code)] u8);
 
-#[test]
-fn the_cells_of_two_handles_are_apart() {
-    are_apart::<u8>();
-    are_apart::<u64>();
-    are_apart::<[u64; 6]>();
-    are_apart::<[u8; 1000]>();
-    are_apart::<Aligned>();
+#[repr(align(64))]
+struct Nothing;
+
+/// A block for that many cells, as the library makes it, which begins so many words after the greatest alignment.
+fn block_of<T>(cells: usize, words_after: usize) -> (Vec<u64>, *mut u8, usize) {
+    let (size, alignment) = layout_of::<T>();
+    let bytes = cells * size as usize + alignment as usize;
+    let mut words = vec![0_u64; bytes / 8 + 1 + 2 * 512 / 8];
+    let first = words.as_mut_ptr();
+    let before = first.addr().wrapping_neg() % 512 / 8 + words_after;
+    // SAFETY: the words are so many more than the block needs.
+    let block = unsafe { first.add(before) };
+    (words, block.cast(), bytes)
 }
 
-#[test]
-fn a_handle_has_as_many_cells_as_tokens() {
-    for tokens in 1..=1024 {
-        let cells = Cells::<()>::new(1, tokens).expect("there is memory");
-        for handle in 0..64 {
-            let first = u64::from(tokens) * handle;
-            let before = (handle as usize + 1) * cells.gap;
-            for number in [first, first + u64::from(tokens) - 1] {
-                assert_eq!(cells.place(number), number as usize + before);
-            }
-        }
+/// Where the cells of a block are: aligned, side by side, and in the block.
+fn are_in_order<T>() {
+    for words_after in [0, 1, 2, 7, 63] {
+        let (_words, block, bytes) = block_of::<T>(20, words_after);
+        assert_eq!(block.addr() % BLOCK_ALIGNMENT, 0);
+        let places: Vec<_> = (0..20)
+            .map(|index| CellAt { block, index })
+            // SAFETY: the block is one of such cells, and nobody else has it.
+            .map(|cell| unsafe { cell.place::<T>() }.addr())
+            .collect();
+        assert!(places.iter().all(|it| it % align_of::<T>() == 0));
+        assert!(places.is_sorted_by(|left, right| left + size_of::<T>() == *right));
+        assert!(places[0] >= block.addr() && places[0] < block.addr() + align_of::<T>());
+        assert!(places[19] + size_of::<T>() <= block.addr() + bytes);
     }
 }
 
 #[test]
-fn a_cell_drops_its_value_once() {
+fn cells_lie_side_by_side() {
+    are_in_order::<u8>();
+    are_in_order::<u64>();
+    are_in_order::<u128>();
+    are_in_order::<[u64; 6]>();
+    are_in_order::<[u8; 1000]>();
+    are_in_order::<Aligned>();
+}
+
+#[test]
+fn a_layout_is_that_of_the_values() {
+    assert_eq!(layout_of::<u8>(), (1, 1));
+    assert_eq!(layout_of::<[u64; 6]>(), (48, 8));
+    assert_eq!(layout_of::<Aligned>(), (512, 512));
+    assert_eq!(layout_of::<[u8; u32::MAX as usize]>(), (u32::MAX, 1));
+    // Values without bytes need no memory, and there is no layout for those that are too large.
+    assert_eq!(layout_of::<()>(), (1, 1));
+    assert_eq!(layout_of::<Nothing>(), (1, 1));
+    assert_eq!(layout_of::<[u8; 1 << 32]>(), (0, 1));
+}
+
+#[test]
+fn a_value_comes_out_of_its_cell() {
     let value = Rc::new(7);
-    let mut cells = Cells::new(2, 3).expect("there is memory");
-    let put = |cells: &Cells<Rc<i32>>, number| {
+    let (_words, block, _) = block_of::<Rc<i32>>(8, 1);
+    let cells = (0..8).map(|index| CellAt { block, index });
+    for cell in cells.clone() {
         let value = ManuallyDrop::new(Rc::clone(&value));
         // SAFETY: nobody else has the cell, and the value goes on there alone.
-        unsafe { cells.copy_in(0, number, &value) };
-    };
-    (0..6).for_each(|number| put(&cells, number));
-    assert_eq!(Rc::strong_count(&value), 7);
-    assert!(cells.take(4).is_some() && cells.take(4).is_none());
-    assert_eq!(Rc::strong_count(&value), 6);
-    put(&cells, 4);
-    assert_eq!(cells.take_all().count(), 6);
-    assert_eq!(cells.take_all().count(), 0);
-    assert_eq!(Rc::strong_count(&value), 1);
-    put(&cells, 0);
-    put(&cells, 5);
-    drop(cells);
+        unsafe { cell.copy_in(&*value) };
+    }
+    assert_eq!(Rc::strong_count(&value), 9);
+    // SAFETY: each cell has a value, and each is moved out once.
+    let values: Vec<Rc<i32>> = cells.rev().map(|it| unsafe { it.move_out() }).collect();
+    assert!(values.iter().all(|it| Rc::ptr_eq(it, &value)));
+    drop(values);
     assert_eq!(Rc::strong_count(&value), 1);
 }
 
 #[test]
-fn a_cell_that_forgets_drops_nothing() {
-    let value = ManuallyDrop::new(Box::new(7));
-    let cells = Cells::<Box<i32>>::new(1, 1).expect("there is memory");
-    // SAFETY: nobody else has the cell, and the value goes on here: the cell forgets it.
-    unsafe {
-        cells.copy_in(0, 0, &value);
-        cells.forget(0, 0);
-    }
-    drop(cells);
-    assert_eq!(*ManuallyDrop::into_inner(value), 7);
-}
-
-/// A value that one handle puts and another moves out, again and again, and in cells whose bits are in all words.
-#[test]
-fn any_handle_moves_a_value_out() {
-    let numbers = [0, 63, 64, 511, 512, 1400, 2099];
-    let mut cells = Cells::<u64>::new(3, 700).expect("there is memory");
-    for round in 0..5 {
-        for number in numbers {
-            // SAFETY: nobody else has a handle or a cell, and a number may go on in two places.
-            unsafe { cells.copy_in((number as usize + round) % 3, number, &number) };
-        }
-        assert!((0..2100).all(|it| cells.has_value(it) == numbers.contains(&it)));
-        for number in numbers {
-            // SAFETY: as above, and the cell has a value.
-            assert_eq!(
-                unsafe { cells.move_out((number as usize + 2 * round) % 3, number) },
-                number
-            );
-        }
-        assert!((0..2100).all(|it| !cells.has_value(it)));
-    }
-}
-
-#[test]
-fn the_bits_of_two_handles_are_in_lines_of_their_own() {
-    let cells = Cells::<u8>::new(2, 700).expect("there is memory");
-    assert_eq!(cells.bits.len(), 2 * 1400_usize.div_ceil(BITS));
-    assert!(cells.bits.iter().all(|it| it.get().addr() % 64 == 0));
-}
-
-#[test]
-fn values_without_bytes_are_dropped_once() {
-    struct Nothing<'a>(PhantomData<&'a ()>);
-    static DROPS: AtomicUsize = AtomicUsize::new(0);
-    impl Drop for Nothing<'_> {
-        fn drop(&mut self) {
-            DROPS.fetch_add(1, Ordering::Relaxed);
-        }
-    }
-    let cells = Cells::<Nothing>::new(2, 2).expect("there is memory");
-    for number in [0, 3] {
-        let value = ManuallyDrop::new(Nothing(PhantomData));
-        // SAFETY: nobody else has a handle or a cell, and the value goes on there alone.
-        unsafe { cells.copy_in(0, number, &value) };
-    }
-    drop(cells);
-    assert_eq!(DROPS.load(Ordering::Relaxed), 2);
+fn a_value_without_bytes_lies_where_it_may() {
+    let cell = CellAt::none();
+    // SAFETY: there is nothing to read or to write.
+    let place = unsafe { cell.place::<Nothing>() };
+    assert!(!place.is_null() && place.addr() % 64 == 0);
+    // SAFETY: as above.
+    unsafe { cell.copy_in(&Nothing) };
+    // SAFETY: as above.
+    let Nothing = unsafe { cell.move_out::<Nothing>() };
 }

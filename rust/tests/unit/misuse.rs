@@ -1,6 +1,6 @@
 //! Handles that `unsafe` code shares or copies: a debug build says so and ends the program.
 use super::{Looks, Shared, ffi};
-use crate::Versions;
+use crate::Options;
 use std::env;
 use std::process::Command;
 use std::sync::atomic::Ordering;
@@ -10,8 +10,7 @@ const CASE: &str = "KFIFO_MISUSE";
 
 /// Uses a pass as the case says.
 fn misuse(case: &str) {
-    let shared =
-        Shared::<u64>::open(1, 8, 2, 9, Versions::default()).expect("the sizes are in range");
+    let shared = Shared::<u64>::open(1, 8, 2, Options::default()).expect("the sizes are in range");
     let number = shared.borrow_pass().expect("a handle is free");
     if case == "returned twice" {
         shared.return_pass(number);

@@ -1,9 +1,10 @@
 //! Queues that do not renew themselves, and whose versions are soon used up: each value still comes out or back once,
 //! and is dropped once.
-use super::{Looks, Shared};
-use crate::Versions;
+use super::{Looks, NoMemory, Shared};
+use crate::Options;
 use crate::error::{PopError, PushError};
 use crate::ffi;
+use std::mem::{replace, swap};
 use std::rc::Rc;
 
 type Value = (u64, Rc<()>);
@@ -16,13 +17,17 @@ struct Worn {
 }
 
 impl Worn {
-    fn open(k: u32, segments: u32, handles: usize, last: u64) -> Worn {
-        Worn::open_with(k, segments, handles, 8, Versions { last, reserve: 0 })
+    fn open(k: u32, capacity: usize, threads: usize, last: u64) -> Worn {
+        let options = Options {
+            last,
+            reserve: 0,
+            grows: 1,
+        };
+        Worn::open_with(k, capacity, threads, options)
     }
 
-    fn open_with(k: u32, segments: u32, handles: usize, tokens: u32, versions: Versions) -> Worn {
-        let shared =
-            Shared::open(k, segments, handles, tokens, versions).expect("the sizes are in range");
+    fn open_with(k: u32, capacity: usize, threads: usize, options: Options) -> Worn {
+        let shared = Shared::open(k, capacity, threads, options).expect("the sizes are in range");
         let alive = Rc::new(());
         Worn { shared, alive }
     }
@@ -68,22 +73,22 @@ impl Worn {
     }
 }
 
-/// The shapes and versions, and after how many values each one is taken.
-const CASES: [(u32, u32, usize, u64, u64); 8] = [
+/// The sizes and versions, and after how many values each one is taken.
+const CASES: [(u32, usize, usize, u64, u64); 8] = [
     (1, 2, 1, 2, 1),
     (1, 2, 1, 3, 2),
     (1, 8, 2, 3, 2),
-    (2, 4, 3, 3, 1),
-    (2, 4, 2, 5, 2),
-    (4, 4, 2, 9, 3),
+    (2, 8, 3, 3, 1),
+    (2, 8, 2, 5, 2),
+    (4, 16, 2, 9, 3),
     (1, 64, 1, 3, 2),
-    (4, 16, 4, 30, 2),
+    (4, 64, 4, 30, 2),
 ];
 
 /// Calls with each case that is worn, and the values that are left in it.
 fn each_case(then: impl Fn(Worn, Vec<u64>)) {
-    for (k, segments, handles, last, takes_each) in CASES {
-        let worn = Worn::open(k, segments, handles, last);
+    for (k, capacity, threads, last, takes_each) in CASES {
+        let worn = Worn::open(k, capacity, threads, last);
         let left = worn.wear(takes_each);
         then(worn, left);
     }
@@ -141,8 +146,8 @@ fn sorted(mut numbers: Vec<u64>) -> Vec<u64> {
 
 #[test]
 fn what_is_left_comes_out_once() {
-    each_case(|Worn { shared, alive }, left| {
-        let values = shared.into_values();
+    each_case(|Worn { mut shared, alive }, left| {
+        let values = shared.take_left().expect("there is memory");
         assert_eq!(sorted(numbers_of(&values)), left);
         drop(values);
         assert_eq!(Rc::strong_count(&alive), 1);
@@ -154,58 +159,121 @@ fn what_is_left_comes_out_once() {
 fn what_is_left_comes_out_in_order() {
     let mut most = 0;
     for last in 2..20 {
-        let worn = Worn::open(1, 16, 2, last);
+        let mut worn = Worn::open(1, 16, 2, last);
         let left = worn.wear(3);
         most = most.max(left.len());
-        assert_eq!(numbers_of(&worn.shared.into_values()), left);
+        let values = worn.shared.take_left().expect("there is memory");
+        assert_eq!(numbers_of(&values), left);
     }
     assert!(most > 4);
 }
 
-/// Here the library refuses the close, as a pass is closed already: all values come out all the same.
+/// Here the library refuses the first close, as one pass is closed: nothing is lost, and a further call goes on.
 #[test]
-fn what_is_left_comes_out_once_where_the_close_is_refused() {
+fn what_is_left_comes_out_once_after_a_close_that_is_refused() {
+    let mut refused = 0;
     each_case(|Worn { mut shared, alive }, left| {
-        let passes = &mut shared.passes.0;
-        let last = passes.len() - 1;
-        if last > 0 {
-            // SAFETY: nobody uses the pass.
-            unsafe { ffi::kfifo_c_abandon_cells(passes[last].get(), 1) };
-        }
-        let values = shared.into_values();
+        let last = shared.passes.0.len() - 1;
+        let pass =
+            |shared: &mut Shared<Value>, next| replace(shared.passes.0[last].get_mut(), next);
+        // A pass makes the calls, so the only one stays open.
+        let values = match last {
+            0 => shared.take_left(),
+            _ => {
+                let whole = pass(&mut shared, ffi::Pass::closed());
+                let first = shared.take_left();
+                pass(&mut shared, whole);
+                first.or_else(|NoMemory| shared.take_left())
+            }
+        };
+        let values = values.expect("the close is not refused");
         assert_eq!(sorted(numbers_of(&values)), left);
-        drop(values);
+        drop((shared, values));
         assert_eq!(Rc::strong_count(&alive), 1);
     });
+    for last in 2..20 {
+        let mut worn = Worn::open(1, 16, 2, last);
+        let left = worn.wear(3);
+        let whole = replace(worn.shared.passes.0[1].get_mut(), ffi::Pass::closed());
+        refused += usize::from(worn.shared.take_left().is_err());
+        assert!(worn.shared.borrow_pass().is_some());
+        *worn.shared.passes.0[1].get_mut() = whole;
+        let values = worn.shared.take_left().expect("there is memory");
+        assert_eq!(numbers_of(&values), left);
+    }
+    assert!(refused > 0);
+}
+
+/// Here the library closes a queue, but cannot say what was left, as the passes are of two queues. What came out before
+/// is not lost, and nobody has a handle any more.
+#[test]
+fn a_queue_goes_whose_close_loses_what_was_left() {
+    let mut lost = 0;
+    for last in 2..20 {
+        let [mut worn, mut other] = [last, 9].map(|last| Worn::open(1, 16, 2, last));
+        let left = worn.wear(3);
+        swap(
+            worn.shared.passes.0[1].get_mut(),
+            other.shared.passes.0[1].get_mut(),
+        );
+        let Err(NoMemory) = worn.shared.take_left() else {
+            panic!("a pop comes to WORN");
+        };
+        assert!(worn.shared.borrow_pass().is_none());
+        let values = worn.shared.take_left().expect("it is closed");
+        assert!(left.starts_with(&numbers_of(&values)));
+        lost += left.len() - values.len();
+        let (alive, came) = (Rc::clone(&worn.alive), values.len());
+        drop((worn, other));
+        assert_eq!(Rc::strong_count(&alive) - 1, left.len());
+        drop(values);
+        assert_eq!(Rc::strong_count(&alive) - 1, left.len() - came);
+    }
+    assert!(lost > 0);
 }
 
 /// A queue that renews itself never comes to its close by calls of its users while there is memory. So this calls the
 /// close itself, at each moment of a change: it gives back what is in all generations, the oldest first.
 #[test]
 fn a_close_gives_back_several_generations() {
-    let versions = Versions {
-        last: 128,
-        reserve: 64,
+    let options = Options {
+        last: 256,
+        reserve: 128,
+        grows: 4,
     };
-    let mut most = 0;
     for before in 0..200 {
-        let mut worn = Worn::open_with(1, 16, 2, 64, versions);
+        let mut worn = Worn::open_with(1, 8, 2, options);
         for number in 0..before {
             assert!(worn.push(number as usize % 2, number).is_ok());
             assert_eq!(worn.pop(0), Ok(number));
         }
-        let mut next = before;
-        while next < before + 30 && worn.push(1, next).is_ok() {
-            next += 1;
+        // More than one generation has cells for.
+        let next = before + 150;
+        for number in before..next {
+            assert!(worn.push(1, number).is_ok());
         }
-        let cells = worn.shared.close();
-        let values: Vec<_> = cells
-            .into_iter()
-            .filter_map(|cell| worn.shared.cells.take(cell))
-            .collect();
+        assert!(worn.shared.close().is_ok());
+        assert!(worn.shared.borrow_pass().is_none());
+        assert_eq!(worn.alive(), 150);
+        let values = worn.shared.take_left().expect("it is closed");
         assert!(numbers_of(&values).into_iter().eq(before..next));
         assert_eq!(worn.alive(), values.len());
-        most = most.max(values.len());
     }
-    assert!(most > 16, "{most}");
+}
+
+/// The same queue is dropped, with what is in all generations.
+#[test]
+fn a_close_drops_several_generations() {
+    let options = Options {
+        grows: 4,
+        ..Options::default()
+    };
+    let mut worn = Worn::open_with(1, 8, 2, options);
+    assert!((0..150).all(|number| worn.push(1, number).is_ok()));
+    assert_eq!(worn.pop(0), Ok(0));
+    assert!(worn.shared.close().is_ok());
+    assert_eq!(worn.alive(), 149);
+    let Worn { shared, alive } = worn;
+    drop(shared);
+    assert_eq!(Rc::strong_count(&alive), 1);
 }

@@ -1,7 +1,7 @@
 //! Runs over queues of few versions: one that renews itself all the time does all tasks, and one that is worn gives
 //! those back that are left.
+use super::queue::Versions;
 use super::{Cause, More, Options, Report, RunError, Sizes, run_over};
-use crate::Versions;
 use std::convert::Infallible;
 use std::sync::Arc;
 
@@ -10,16 +10,15 @@ type Task = (u64, Arc<()>);
 
 const TASKS: u64 = 20_000;
 
-/// A run over a queue of these versions and as many segments, where each task gives two until there are `TASKS`.
+/// A run over a queue of this capacity and these versions, where each task gives two until there are `TASKS`.
 fn run(
     workers: usize,
-    segments: u32,
+    capacity: u32,
     versions: Versions,
     alive: &Arc<()>,
 ) -> Result<Report<Task>, RunError<Task>> {
     let sizes = Sizes {
-        segments,
-        tokens: 16 * segments,
+        capacity,
         // One that grows is never worn while it may open another one.
         generations: if versions.reserve == 0 { 1 } else { 20 },
         versions,
@@ -45,7 +44,7 @@ fn a_queue_that_renews_itself_does_all_tasks() {
     };
     for workers in [1, 2, 4] {
         let alive = Arc::new(());
-        let report = run(workers, 4, versions, &alive).expect("it renews itself");
+        let report = run(workers, 16, versions, &alive).expect("it renews itself");
         assert_eq!(report.done.iter().sum::<u64>(), TASKS - 1);
         assert_eq!(Arc::strong_count(&alive), 1);
     }
@@ -57,7 +56,7 @@ fn a_worn_queue_gives_back_what_is_left() {
         let versions = Versions { last, reserve: 0 };
         for workers in [1, 2, 4] {
             let alive = Arc::new(());
-            let ended = run(workers, 8, versions, &alive).expect_err("it is worn");
+            let ended = run(workers, 64, versions, &alive).expect_err("it is worn");
             assert!(matches!(ended.why, Cause::Worn));
             assert_eq!(ended.to_string(), "the versions of the queue are used up");
             let left: Vec<_> = ended.report.left.iter().map(|it| it.0).collect();
@@ -84,12 +83,13 @@ fn sizes_are_in_range() {
         for workers in 1..=64 {
             let sizes = Sizes::of(k, workers);
             let passes = workers as u32;
-            assert!((2..=1_024).contains(&sizes.segments));
-            assert!((1..=1_024).contains(&sizes.tokens));
-            assert!(passes * (sizes.tokens + 32) <= 65_536);
             assert!((1..=129 - 2 * passes).contains(&sizes.generations));
-            assert!(sizes.tokens * passes >= k * sizes.segments);
-            assert!(k * sizes.segments >= 960);
+            // As large as it may be, with the least k from this one on for which there is a queue.
+            let greatest = |k: u32| passes * (1_022 * k / passes).saturating_sub(32);
+            assert_eq!(sizes.capacity, greatest(sizes.k).min(4_096));
+            assert!(sizes.capacity > 0);
+            assert!(sizes.k == k || (sizes.k > k && greatest(sizes.k - 1) == 0));
+            assert!(sizes.k <= k.max(3));
         }
     }
     assert_eq!(Options::default().threads, None);
