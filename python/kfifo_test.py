@@ -415,6 +415,7 @@ _LATE = 10  # how many times as much may lie between two looks, as time in which
 _MOST_PENDING = 64  # how many rounds an executor may have to judge
 _TO_JUDGE = 10.0  # seconds in which an executor ends rounds that nobody asks for any more
 _TO_END = 1.0  # seconds in which a worker that hangs in Python's code has to end
+_TRACER = "trace"  # what the function is called by which a thread gives way
 _MIXES = ("alternating", "apart", "bursts", "nearly empty", "nearly full", "half full")
 # Seconds after which a thread gives way to another. None leaves the interpreter's own, 5 ms: longer than most rounds.
 _INTERVALS = (None, 1e-4, 1e-5, 1e-6, 1e-6)
@@ -1066,6 +1067,9 @@ def _describe(lanes: list[_Lane]) -> str:
 def _newest_frames(frame: Any) -> list[str]:
     """The lines of the newest four frames, without those of this file and below it."""
     stack = traceback.extract_stack(frame)
+    # A thread that gives way between two bytecodes is in the tracer, above the call that it makes.
+    while stack and (stack[-1].filename, stack[-1].name) == (__file__, _TRACER):
+        stack.pop()
     inside = max((place for place, it in enumerate(stack) if it.filename == __file__), default=-1)
     return "".join(traceback.format_list(stack[inside + 1 :][-4:])).splitlines()
 

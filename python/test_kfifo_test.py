@@ -322,6 +322,26 @@ class Hangs(Checks):
         self.assertRegex(pathlib.Path(report.log).read_text(), r"(?m)^\d,deq,,\d+,,$")
         self.assertEqual(workers_left(lambda left: not left), [])
 
+    def test_a_call_that_gives_way_is_named(self):
+        frames = []
+
+        class Dice:
+            def random(self):
+                frames.append(sys._getframe(1))  # that of the tracer, which asks
+                return 1.0
+
+        def spin():
+            return len(frames)
+
+        old = sys.gettrace()
+        sys.settrace(kfifo_test._tracer(Dice()))
+        try:
+            spin()
+        finally:
+            sys.settrace(old)
+        self.assertEqual(frames[0].f_code.co_name, kfifo_test._TRACER)
+        self.assertRegex("\n".join(kfifo_test._newest_frames(frames[0])), r"in spin\n.*len\(frames\)$")
+
     def test_a_call_that_sleeps_is_named(self):
         gate = threading.Event()
         self.addCleanup(gate.set)
