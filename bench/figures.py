@@ -1,6 +1,7 @@
 #!/usr/bin/env python3
 """Says whether docs/PERFORMANCE.md has the figures of docs/bench: that its tables are those which the overviews of
-docs/bench/table.md give, and that each decimal in its text is a figure of the tables, rounded.
+docs/bench/table.md give and the first one of docs/bench/work.md, and that each decimal in its text is a figure of the
+tables, rounded.
 
     bench/figures.py              prints what differs, and ends with the line 'N passed, M failed'
     bench/figures.py --write      writes the tables into the page
@@ -52,7 +53,7 @@ def measured():
 
 
 def page_tables():
-    """Returns the tables of the page, each as its head and its rows, from what was measured."""
+    """Returns those tables of the page that are made of what was measured, each as its head and its rows."""
     ratios = measured()
     made = []
     for head, queues, titles in run.page_parts():
@@ -63,7 +64,8 @@ def page_tables():
             figures = [ratios.get(title, {}).get(run.label(it), "") for it in known]
             lines.append(f"| {name} | " + " | ".join(figures) + " |")
         made.append(lines)
-    return made
+    work = TABLES / "work.md"
+    return [*made, next(tables_of(work.read_text()))] if work.exists() else made
 
 
 def text_of(page):
@@ -91,7 +93,7 @@ def main():
             page = page.replace("\n".join(there), "\n".join(table))
             passed += 1
         else:
-            failed.append(f"docs/PERFORMANCE.md: the table of {table[0]} is not that of docs/bench/table.md")
+            failed.append(f"docs/PERFORMANCE.md: the table of {table[0]} is not that of docs/bench")
     if "--write" in sys.argv[1:]:
         PAGE.write_text(page)
     files = "".join(it.read_text() for it in sorted(TABLES.glob("*.md")))

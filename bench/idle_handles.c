@@ -1,5 +1,5 @@
 /* What handles that make no calls cost the takes of the others. Each of them gives in a generation of its own, and so
-   keeps it. A queue of values, with a capacity of 1,024; IDLE, 0 to 4, is how many handles make no calls:
+   keeps it. A queue of values, with a capacity of 256; IDLE, 0 to 4, is how many handles make no calls:
 
        idle_handles half K IDLE ROUNDS      one thread, whose gives and takes alternate, half full
        idle_handles empty K IDLE ROUNDS     one thread takes from the empty queue
@@ -21,11 +21,11 @@
 #include <string.h>
 #include <time.h>
 
-enum { CAPACITY = 1024, TOKENS = 1024, MOST_IDLE = 4, MOST_THREADS = 16 };
+enum { CAPACITY = 256, MOST_IDLE = 4, MOST_THREADS = 16 };
 
 /* The idle handles come first, and then one for each thread. */
-static kfifo_value_pass passes[MOST_IDLE + MOST_THREADS];
-static size_t handles;
+static kfifo_handle handles[MOST_IDLE + MOST_THREADS];
+static size_t count_of_handles, room_of_one;
 static pthread_barrier_t begin;
 static atomic_int is_over;
 
@@ -35,65 +35,66 @@ static void fail(const char *what) {
 }
 
 /* Takes a value, if it comes to one. */
-static int take(kfifo_value_pass *pass) {
+static int take(kfifo_handle *handle) {
     uint64_t value;
-    const kfifo_status status = kfifo_take(pass, &value);
+    const kfifo_status status = kfifo_take(handle, &value);
     if (status != KFIFO_DONE && !kfifo_may_retry(status)) fail(kfifo_status_text(status));
     return status == KFIFO_DONE;
 }
 
 /* Gives a value, if it finds room. */
-static int give(kfifo_value_pass *pass) {
-    const kfifo_status status = kfifo_give(pass, 1);
+static int give(kfifo_handle *handle) {
+    const kfifo_status status = kfifo_give(handle, 1);
     if (status != KFIFO_DONE && !kfifo_may_retry(status)) fail(kfifo_status_text(status));
     return status == KFIFO_DONE;
 }
 
-static void give_and_take(kfifo_value_pass *pass) {
-    if (!give(pass) || !take(pass)) fail("a call of the only thread did nothing");
+static void give_and_take(kfifo_handle *handle) {
+    if (!give(handle) || !take(handle)) fail("a call of the only thread did nothing");
 }
 
 /* In how many generations the last handle is. */
-static size_t generations(void) { return kfifo_values_room(passes, handles) / CAPACITY; }
+static size_t generations(void) { return kfifo_values_room(handles, count_of_handles) / room_of_one; }
 
 /* Opens the queue, and has this many handles stop, each in a generation of its own. The others go on to the newest. */
 static void open_with(uint32_t k, size_t idle, size_t threads, uint64_t versions) {
-    handles = MOST_IDLE + threads;
-    if (kfifo_open_values_with(k, CAPACITY / k, TOKENS, KFIFO_RESERVE + versions, KFIFO_RESERVE, passes, handles))
+    count_of_handles = MOST_IDLE + threads;
+    if (kfifo_open_values_with(k, CAPACITY, KFIFO_RESERVE + versions, KFIFO_RESERVE, 1, handles, count_of_handles))
         fail("the queue was not opened");
+    room_of_one = kfifo_values_room(handles, count_of_handles);
     for (size_t i = 0; i < idle; i++) {
-        give_and_take(&passes[i]);
+        give_and_take(&handles[i]);
         while (generations() < i + 2)
-            for (int round = 0; round < 256; round++) give_and_take(&passes[handles - 1]);
+            for (int round = 0; round < 256; round++) give_and_take(&handles[count_of_handles - 1]);
     }
-    for (size_t i = idle; i < handles; i++) give_and_take(&passes[i]);
+    for (size_t i = idle; i < count_of_handles; i++) give_and_take(&handles[i]);
     if (generations() != idle + 1) fail("the idle handles are not in generations of their own");
 }
 
 static void fill_half(void) {
     for (int i = 0; i < CAPACITY / 2; i++)
-        if (!give(&passes[handles - 1])) fail("the queue is full");
+        if (!give(&handles[count_of_handles - 1])) fail("the queue is full");
 }
 
 /* Each returns how many values its thread took. */
-static void *give_all(void *pass) {
+static void *give_all(void *handle) {
     pthread_barrier_wait(&begin);
-    while (!atomic_load_explicit(&is_over, memory_order_relaxed)) give(pass);
+    while (!atomic_load_explicit(&is_over, memory_order_relaxed)) give(handle);
     return NULL;
 }
 
-static void *take_all(void *pass) {
+static void *take_all(void *handle) {
     size_t taken = 0;
     pthread_barrier_wait(&begin);
-    while (!atomic_load_explicit(&is_over, memory_order_relaxed)) taken += (size_t)take(pass);
+    while (!atomic_load_explicit(&is_over, memory_order_relaxed)) taken += (size_t)take(handle);
     return (void *)taken;
 }
 
-static void *do_both(void *pass) {
+static void *do_both(void *handle) {
     size_t taken = 0;
     pthread_barrier_wait(&begin);
     while (!atomic_load_explicit(&is_over, memory_order_relaxed)) {
-        give_and_take(pass);
+        give_and_take(handle);
         taken++;
     }
     return (void *)taken;
@@ -111,7 +112,7 @@ static double rate(size_t threads, long milliseconds) {
     pthread_barrier_init(&begin, NULL, (unsigned)threads + 1);
     for (size_t i = 0; i < threads; i++) {
         void *(*body)(void *) = threads == 1 ? do_both : i % 2 ? take_all : give_all;
-        if (pthread_create(&started[i], NULL, body, &passes[MOST_IDLE + i])) fail("a thread was not started");
+        if (pthread_create(&started[i], NULL, body, &handles[MOST_IDLE + i])) fail("a thread was not started");
     }
     pthread_barrier_wait(&begin);
     const double began = now();
@@ -138,12 +139,12 @@ int main(int count, char **words) {
     /* So many versions that no generation is used up while it measures. */
     open_with(k, idle, is_rate ? number : 1, is_rate ? 1 << 22 : 1 << 16);
     if (is_rate || is_half) fill_half();
-    kfifo_value_pass *pass = &passes[MOST_IDLE];
+    kfifo_handle *handle = &handles[MOST_IDLE];
     if (is_rate) printf("%.3f\n", rate(number, strtol(words[5], NULL, 10)) * 1e-6);
     for (size_t i = 0; !is_rate && i < number; i++) {
-        if (is_half) give_and_take(pass);
-        if (!is_half && take(pass)) fail("the queue is not empty");
+        if (is_half) give_and_take(handle);
+        if (!is_half && take(handle)) fail("the queue is not empty");
     }
-    if (kfifo_abandon_values(passes, handles) != KFIFO_DONE) fail("the handles were not closed");
+    if (kfifo_abandon(handles, count_of_handles) != KFIFO_DONE) fail("the handles were not closed");
     return 0;
 }

@@ -18,14 +18,13 @@ namespace {
 // Each kind gives the numbers from `first` on, as many as it says or as there is room for, and takes such. One at once
 // is a single call.
 struct ValuesInC {
-    std::vector<kfifo_value_pass> passes;
+    std::vector<kfifo_handle> passes;
     std::array<std::array<std::uint64_t, 64>, 2> batches{};
 
     ValuesInC(std::uint32_t k, std::uint32_t segments) : passes(2) {
-        auto tokens = kfifo_enough_tokens(k, segments, 2);
-        if (kfifo_open_values(k, segments, tokens, passes.data(), 2) != KFIFO_DONE) std::abort();
+        if (kfifo_open_values(k, k * segments, passes.data(), 2) != KFIFO_DONE) std::abort();
     }
-    ~ValuesInC() { (void)kfifo_abandon_values(passes.data(), 2); }
+    ~ValuesInC() { (void)kfifo_abandon(passes.data(), 2); }
     std::size_t give(std::size_t most, std::uint32_t first) {
         auto &batch = batches[0];
         if (most == 1) return kfifo_give(&passes[0], first) == KFIFO_DONE;
@@ -47,7 +46,7 @@ struct ValuesInC {
 };
 
 struct ItemsInC {
-    std::vector<kfifo_pass> passes;
+    std::vector<kfifo_handle> passes;
     std::array<std::array<std::uint32_t, 64>, 2> batches{};
 
     ItemsInC(std::uint32_t k, std::uint32_t segments) : passes(2) {
@@ -81,7 +80,7 @@ struct ValuesInCpp {
     std::vector<std::uint64_t> in, out;
 
     ValuesInCpp(std::uint32_t k, std::uint32_t segments)
-        : queue(k, segments, 2), giver(queue.handle()), taker(queue.handle()), in(64) {}
+        : queue(k, k * segments, 2), giver(queue.handle()), taker(queue.handle()), in(64) {}
     std::size_t give(std::size_t most, std::uint32_t first) {
         if (most == 1) return giver.give(std::uint64_t(first)) == kfifo::Put::done;
         for (std::size_t i = 0; i < most; i++) in[i] = first + i;

@@ -25,6 +25,7 @@ std::uint32_t ck_queue_pop(void *);
 void ck_queue_free(void *);
 }
 
+#include <algorithm>
 #include <array>
 #include <boost/lockfree/queue.hpp>
 #include <cds/container/msqueue.h>
@@ -272,8 +273,9 @@ template <std::size_t count> struct KfifoValues {
     Queue queue;
     std::vector<typename Queue::Handle> handles;
 
+    // With few slots a segment there is less room than the other queues have.
     KfifoValues(std::uint32_t k, std::size_t capacity, std::size_t threads)
-        : queue(k, std::uint32_t(capacity) / k, threads) {
+        : queue(k, std::uint32_t(std::min(capacity, threads * (1022 * k / threads - 32))), threads) {
         for (std::size_t i = 0; i < threads; i++) handles.push_back(queue.handle());
     }
     bool push(std::size_t thread, std::uint32_t item) {
@@ -287,34 +289,29 @@ template <std::size_t count> struct KfifoValues {
 
 // This repository's queues by their calls for C: items or values, by the calls that look for threads that wait, or by
 // the exports, which do not.
-template <typename Pass, bool looks> struct KfifoInC {
+template <bool of_items, bool looks> struct KfifoInC {
     using Attached = NothingAttached;
-    std::vector<Pass> passes;
+    std::vector<kfifo_handle> passes;
 
     KfifoInC(std::uint32_t k, std::size_t capacity, std::size_t threads) : passes(threads) {
-        auto segments = std::uint32_t(capacity) / k;
+        auto room = std::uint32_t(capacity);
         kfifo_status status;
         if constexpr (of_items)
-            status = kfifo_open(k, segments, k, KFIFO_LAST, passes.data(), threads);
+            status = kfifo_open(k, room / k, k, KFIFO_LAST, passes.data(), threads);
         else
-            status = kfifo_open_values(k, segments, KFIFO_MAX_TOKENS, passes.data(), threads);
+            status = kfifo_open_values(k, room, passes.data(), threads);
         if (status != KFIFO_DONE) throw std::runtime_error(kfifo_status_text(status));
     }
-    ~KfifoInC() {
-        if constexpr (of_items)
-            (void)kfifo_abandon(passes.data(), passes.size());
-        else
-            (void)kfifo_abandon_values(passes.data(), passes.size());
-    }
+    ~KfifoInC() { (void)kfifo_abandon(passes.data(), passes.size()); }
     bool push(std::size_t thread, std::uint32_t item) {
-        Pass *pass = &passes[thread];
+        kfifo_handle *pass = &passes[thread];
         if constexpr (of_items)
             return (looks ? kfifo_put(pass, item) : kfifo_status(kfifo_c_put(pass, item))) == KFIFO_DONE;
         else
             return (looks ? kfifo_give(pass, item) : kfifo_status(kfifo_c_give(pass, item))) == KFIFO_DONE;
     }
     std::uint32_t pop(std::size_t thread) {
-        Pass *pass = &passes[thread];
+        kfifo_handle *pass = &passes[thread];
         Value value = 0;
         kfifo_status status;
         if constexpr (of_items)
@@ -325,7 +322,6 @@ template <typename Pass, bool looks> struct KfifoInC {
     }
 
   private:
-    static constexpr bool of_items = std::is_same_v<Pass, kfifo_pass>;
     using Value = std::conditional_t<of_items, std::uint32_t, std::uint64_t>;
 };
 
@@ -372,12 +368,10 @@ int with_queue(const std::string &name, std::uint32_t k, std::size_t capacity, s
     if (name == "kfifo-8") return with(std::make_unique<KfifoValues<1>>(k, capacity, threads));
     if (name == "kfifo-16") return with(std::make_unique<KfifoValues<2>>(k, capacity, threads));
     if (name == "kfifo-64") return with(std::make_unique<KfifoValues<8>>(k, capacity, threads));
-    if (name == "kfifo-in-c") return with(std::make_unique<KfifoInC<kfifo_pass, false>>(k, capacity, threads));
-    if (name == "kfifo-in-c-looking") return with(std::make_unique<KfifoInC<kfifo_pass, true>>(k, capacity, threads));
-    if (name == "kfifo-values-in-c")
-        return with(std::make_unique<KfifoInC<kfifo_value_pass, false>>(k, capacity, threads));
-    if (name == "kfifo-values-in-c-looking")
-        return with(std::make_unique<KfifoInC<kfifo_value_pass, true>>(k, capacity, threads));
+    if (name == "kfifo-in-c") return with(std::make_unique<KfifoInC<true, false>>(k, capacity, threads));
+    if (name == "kfifo-in-c-looking") return with(std::make_unique<KfifoInC<true, true>>(k, capacity, threads));
+    if (name == "kfifo-values-in-c") return with(std::make_unique<KfifoInC<false, false>>(k, capacity, threads));
+    if (name == "kfifo-values-in-c-looking") return with(std::make_unique<KfifoInC<false, true>>(k, capacity, threads));
     if (name == "array-8") return with(std::make_unique<Array8>(capacity));
     if (name == "array-16") return with(std::make_unique<Array16>(capacity));
     if (name == "array-64") return with(std::make_unique<Array64>(capacity));

@@ -1,11 +1,10 @@
 // Work that spawns work, by kfifo::work::run and by the same loop around other lists of tasks. It runs one workload
 // once and prints a line of JSON:
 //
-//     tasks LIST THREADS K explore PANCAKES          seconds, and tasks for each stack
-//     tasks LIST THREADS K grid SIDE                 seconds, and tasks for each vertex
+//     tasks LIST THREADS K explore PANCAKES          seconds, tasks for each stack, and the sum of the distances
+//     tasks LIST THREADS K grid SIDE                 the same of vertices
 //     tasks LIST THREADS K tree NANOSECONDS DEPTH    nanoseconds for each task
-//     tasks LIST THREADS K jobs PERCENT              from give to begin: the median, 99 and 99.9 of 100, in
-//     microseconds
+//     tasks LIST THREADS K jobs PERCENT              microseconds from give to begin: the median, 99 and 99.9 of 100
 //
 // LIST is run, tbb, feeder, moodycamel, array or mutex. Each but `run` and `feeder` has the loop of `Looped` around it,
 // whose idle threads look again and again. K counts for `run` alone.
@@ -20,6 +19,7 @@
 #include <algorithm>
 #include <atomic>
 #include <chrono>
+#include <cmath>
 #include <cstdio>
 #include <cstdlib>
 #include <ctime>
@@ -193,6 +193,14 @@ bool lower(std::atomic<std::uint32_t> &distance, std::uint32_t to) {
     return false;
 }
 
+using Distances = std::vector<std::atomic<std::uint32_t>>;
+
+void print_search(double time, double tasks, const Distances &distances) {
+    unsigned long long sum = 0;
+    for (const auto &it : distances) sum += it;
+    std::printf("{\"seconds\": %.4f, \"tasks\": %.4f, \"sum\": %llu}\n", time, tasks / double(distances.size()), sum);
+}
+
 // The stacks of pancakes are numbered as those of c/explore.cpp.
 class Pancakes {
   public:
@@ -232,7 +240,7 @@ class Pancakes {
 
 template <typename Runs> int explore(Runs &runs, int pancakes) {
     Pancakes stacks(pancakes);
-    std::vector<std::atomic<std::uint32_t>> distances(stacks.size());
+    Distances distances(stacks.size());
     for (auto &it : distances) it = ~0U;
     distances[0] = 0;
     std::atomic<std::uint64_t> tasks{0};
@@ -245,17 +253,17 @@ template <typename Runs> int explore(Runs &runs, int pancakes) {
         });
     });
     double time = seconds_since(begin);
-    std::printf("{\"seconds\": %.4f, \"tasks\": %.4f}\n", time, double(tasks) / stacks.size());
+    print_search(time, double(tasks), distances);
     return 0;
 }
 
 // Shortest paths in a grid whose edges have random lengths, from a corner, by lowering distances.
 template <typename Runs> int grid(Runs &runs, std::uint32_t side) {
-    std::mt19937 random(1);
+    std::minstd_rand random(1);
     std::vector<std::uint8_t> right(side * side), down(side * side);
     for (auto *lengths : {&right, &down})
         for (auto &it : *lengths) it = std::uint8_t(1 + random() % 100);
-    std::vector<std::atomic<std::uint32_t>> distances(side * side);
+    Distances distances(side * side);
     for (auto &it : distances) it = ~0U;
     std::vector<std::atomic<bool>> is_task(side * side);
     distances[0] = 0;
@@ -275,10 +283,7 @@ template <typename Runs> int grid(Runs &runs, std::uint32_t side) {
         if (y > 0) relax(at - side, down[at - side]);
     });
     double time = seconds_since(begin);
-    std::uint64_t sum = 0;
-    for (auto &it : distances) sum += it;
-    std::printf("{\"seconds\": %.4f, \"tasks\": %.4f, \"sum\": %llu}\n", time, double(tasks) / (side * side),
-                (unsigned long long)sum);
+    print_search(time, double(tasks), distances);
     return 0;
 }
 
@@ -312,11 +317,12 @@ template <typename Runs> int jobs(Runs &runs, std::size_t threads, double percen
             work();
             return;
         }
-        std::mt19937 random(2);
-        std::exponential_distribution<double> gap(percent / 100 * double(threads - 1) / each);
+        std::minstd_rand random(2);
+        double gap = each / (percent / 100 * double(threads - 1));
         auto due = Clock::now();
         for (std::uint32_t next = 2; next < number + 2; next++) {
-            due += std::chrono::duration_cast<Clock::duration>(std::chrono::duration<double>(gap(random)));
+            std::chrono::duration<double> until(-std::log(double(random()) / double(random.max() + 1)) * gap);
+            due += std::chrono::duration_cast<Clock::duration>(until);
             while (Clock::now() < due) {
             }
             given[next] = Clock::now();

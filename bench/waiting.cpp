@@ -39,7 +39,7 @@ struct Value {
 struct Kfifo {
     kfifo::ValueQueue<Value> queue;
     std::vector<kfifo::ValueQueue<Value>::Handle> handles;
-    Kfifo(std::uint32_t k, std::size_t capacity, std::size_t threads) : queue(k, std::uint32_t(capacity) / k, threads) {
+    Kfifo(std::uint32_t k, std::size_t capacity, std::size_t threads) : queue(k, std::uint32_t(capacity), threads) {
         for (std::size_t i = 0; i < threads; i++) handles.push_back(queue.handle());
     }
     void give(std::size_t thread, Value value) {

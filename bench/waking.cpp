@@ -33,7 +33,7 @@ constexpr std::size_t capacity = 64;
 
 // This repository's queue.
 struct Kfifo {
-    kfifo::ValueQueue<std::uint64_t> queue{4, capacity / 4, 2};
+    kfifo::ValueQueue<std::uint64_t> queue{4, capacity, 2};
     kfifo::ValueQueue<std::uint64_t>::Handle giver = queue.handle(), taker = queue.handle();
     void give(std::uint64_t value) {
         if (giver.give_wait(std::move(value)) != kfifo::Put::done) std::abort();

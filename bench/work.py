@@ -1,83 +1,136 @@
 #!/usr/bin/env python3
-"""Measures work that spawns work: kfifo::work::run beside the same loop by hand around other lists of tasks, and beside
-TBB's scheduler. Each round runs all lists one after the other, and begins with another one than the round before. It
-prints tables in Markdown, with medians over the rounds. With --out it also writes them to FOLDER/work.md, and draws two
-pictures there: what a task costs, and how long jobs wait.
+"""Measures work that spawns work: kfifo::work::run beside the same loop by hand around other lists of tasks, beside
+TBB's scheduler, and in Rust beside rayon's. Each round runs all lists one after the other, and begins with another one
+than the round before. It prints tables in Markdown, with medians over the rounds. With --out it also writes them to
+FOLDER/work.md, after an overview, and draws two pictures there: how many processors do tasks, and how long jobs wait.
 
     bench/work.py [--rounds N] [--only WORD] [--library FILE] [--small] [--out FOLDER]
+    bench/work.py --rounds 7 --out docs/bench --page     also writes the section of docs/PERFORMANCE.md
 
-A list that does not end within a minute has `over 60 s` in its place. With --small the workloads are small ones, for a
+A list that takes longer than 20 seconds has `over 20 s` in its place. With --small the workloads are small ones, for a
 look whether all run. It needs a C and a C++ compiler, cargo, and Debian's libtbb-dev, libconcurrentqueue-dev,
-librust-crossbeam-queue-dev and librust-crossbeam-channel-dev, and for pictures python3-matplotlib.
+librust-crossbeam-queue-dev and librust-crossbeam-channel-dev; for the lists in Rust librust-rayon-dev, and for pictures
+python3-matplotlib. FILE is a built libkfifo.a of that name.
 """
 import argparse
 import dataclasses
+import glob
+import importlib.util
 import json
 import os
+import pathlib
+import re
 import statistics
 import subprocess
 import sys
 import textwrap
+import typing
+
+import run
 
 HERE = os.path.dirname(os.path.abspath(__file__))
 OUT = f"{HERE}/out"
-LIMIT = 60
+PAGE, SECTION = f"{HERE}/../docs/PERFORMANCE.md", f"{HERE}/work_section.md"
+REGISTRY = "/usr/share/cargo/registry"
+LIMIT = 20
 THREADS = 4
-# The list, its k, and its name.
-OURS = [("run", 1, "this, k = 1"), ("run", 16, "this, k = 16"), ("run", 64, "this, k = 64")]
-LOOPS = [
-    ("moodycamel", 0, "moodycamel"),
-    ("tbb", 0, "TBB's queue"),
-    ("array", 0, "ArrayQueue, spills"),
-    ("mutex", 0, "mutex and deque"),
+
+
+class List(typing.NamedTuple):
+    """Who does tasks: the program, its name there, its k, its title, and the color and the hatching of its bars."""
+
+    program: str
+    name: str
+    k: int
+    title: str
+    color: str
+    hatch: str = ""
+
+
+OURS = [
+    List("tasks", "run", 1, "this, k = 1", "#b8d0ee"),
+    List("tasks", "run", 16, "this, k = 16", "#5b8bc9"),
+    List("tasks", "run", 64, "this, k = 64", "#1f4e8c"),
 ]
-STEALS = ("feeder", 0, "TBB's feeder")
+LOOPS = [
+    List("tasks", "moodycamel", 0, "moodycamel", "#e0e0e0", "//"),
+    List("tasks", "tbb", 0, "TBB's queue", "#e0e0e0", "xx"),
+    List("tasks", "array", 0, "ArrayQueue, spills", "white", ".."),
+    List("tasks", "mutex", 0, "mutex and deque", "white"),
+]
+STEALS = List("tasks", "feeder", 0, "TBB's feeder", "#808080")
+RUST = [
+    List("rust_tasks", "run", 16, "this in Rust, k = 16", "#e8b070"),
+    List("rust_tasks", "scope", 0, "rayon's scope", "#fff0d8", "//"),
+    List("rust_tasks", "scope_fifo", 0, "rayon's scope_fifo", "#fff0d8", "xx"),
+]
 
 
 @dataclasses.dataclass
 class Workload:
-    """What is run: its title, the words of the program, what it prints, by whom, and by how many threads."""
+    """What is run: its title, the words of the program, what it prints, by whom, and by how many threads; and which of
+    that has which columns in the table of the page."""
 
     title: str
     words: list
     columns: dict
     lists: list
     threads: int = THREADS
+    page: dict = dataclasses.field(default_factory=dict)
 
 
 def workloads(small):
     pancakes, side, depth, seconds = (8, 60, 10, 0.2) if small else (10, 700, 16, 5)
-    everybody = [*OURS, *LOOPS, STEALS]
+    everybody = [*OURS, *LOOPS, STEALS, *(RUST if has_rayon() else [])]
     found = {"seconds": "seconds", "tasks": "tasks a state"}
-    yield Workload(f"States of {pancakes} pancakes, the nearest first", ["explore", pancakes], found, everybody)
-    yield Workload(f"Shortest paths in a grid of {side} x {side}", ["grid", side], found, everybody)
+    title = f"States of {pancakes} pancakes, the nearest first"
+    shown = {"seconds": "pancakes, s", "tasks": "tasks a state"}
+    yield Workload(title, ["explore", pancakes], found, everybody, page=shown)
+    shown = {"seconds": "grid, s", "tasks": "tasks a vertex"}
+    yield Workload(f"Shortest paths in a grid of {side} x {side}", ["grid", side], found, everybody, page=shown)
     for nanoseconds in (100, 1000, 10000):
         for threads in (1, THREADS):
+            shown = {"nanoseconds": f"{nanoseconds / 1000:g} µs, ns"} if threads > 1 else {}
             title = f"Tasks of {nanoseconds / 1000:g} microseconds that give two each, on {threads} thread"
             words = ["tree", nanoseconds, depth - (nanoseconds == 10000) * 3]
-            yield Workload(title + "s" * (threads > 1), words, {"nanoseconds": "ns a task"}, everybody, threads)
+            yield Workload(title + "s" * (threads > 1), words, {"nanoseconds": "ns a task"}, everybody, threads, shown)
     waits = {"median": "median", "99": "99 of 100", "99.9": "99.9 of 100"}
     for percent in (50, 90):
         title = f"From give to begin, with the workers busy for {percent} % of the time, in microseconds"
-        yield Workload(title, ["jobs", percent], waits, everybody)
+        yield Workload(title, ["jobs", percent], waits, everybody, page={"99.9": f"{percent} % busy, µs"})
     used = {"microseconds": "microseconds"}
-    yield Workload(f"A processor's time for each worker that waits for {seconds} seconds", ["idle", seconds], used, OURS)
+    title = f"A processor's time for each worker that waits for {seconds} seconds"
+    yield Workload(title, ["idle", seconds], used, OURS)
     for tasks in (1, 2, THREADS, 100):
         yield Workload(f"A run of {tasks} tasks", ["runs", tasks], used, [*OURS, STEALS])
 
 
+def has_rayon():
+    return bool(glob.glob(f"{REGISTRY}/rayon-*"))
+
+
+def cargo(folder, *words, **environment):
+    """Builds a crate of this folder with what Debian has of other crates."""
+    debian = ['source.crates-io.replace-with="debian"', f'source.debian.directory="{REGISTRY}"']
+    source = [word for line in debian for word in ("--config", line)]
+    environment = {**os.environ, "CARGO_TARGET_DIR": f"{OUT}/target", **environment}
+    built = ["cargo", "rustc", "--quiet", "--release", "--offline", *source, "--", *words]
+    subprocess.run(built, cwd=f"{HERE}/{folder}", env=environment, check=True)
+
+
 def build(library):
-    """Builds the program over this library, or over that of c/."""
+    """Builds the programs over this library, or over that of c/."""
     os.makedirs(OUT, exist_ok=True)
     if not library:
         subprocess.run(["make", "-C", f"{HERE}/../c", "out/libkfifo.a"], check=True, stdout=subprocess.DEVNULL)
         library = f"{HERE}/../c/out/libkfifo.a"
-    debian = ['source.crates-io.replace-with="debian"', 'source.debian.directory="/usr/share/cargo/registry"']
-    source = [word for line in debian for word in ("--config", line)]
-    cargo = ["cargo", "build", "--quiet", "--release", "--offline", *source]
-    subprocess.run(cargo, cwd=f"{HERE}/array_queue", env={**os.environ, "CARGO_TARGET_DIR": f"{OUT}/target"}, check=True)
     work = f"{OUT}/work.o"
     subprocess.run([os.environ.get("CC", "gcc"), "-O2", "-c", f"{HERE}/work.c", "-o", work], check=True)
+    cargo("array_queue")
+    if has_rayon():
+        cargo("rust_tasks", "-C", f"link-arg={work}", KFIFO_LIB_DIR=os.path.dirname(os.path.abspath(library)))
+    else:
+        print("The lists in Rust are skipped: librust-rayon-dev is not installed.\n")
     words = [os.environ.get("CXX", "g++"), "-std=c++17", "-O2", f"-I{HERE}/../c", f"{HERE}/tasks.cpp", work, library]
     words += [f"{OUT}/target/release/libarray_queue.a", "-o", f"{OUT}/tasks", "-ltbb", "-pthread", "-ldl"]
     subprocess.run(words, check=True)
@@ -85,14 +138,14 @@ def build(library):
 
 def ran(one, workload):
     """Returns what one run printed, or None where it took too long."""
-    name, k, shown = one
-    words = [f"{OUT}/tasks", name, workload.threads, k, *workload.words]
+    folder = OUT if one.program == "tasks" else f"{OUT}/target/release"
+    words = [f"{folder}/{one.program}", one.name, workload.threads, one.k, *workload.words]
     try:
         done = subprocess.run([str(it) for it in words], capture_output=True, text=True, timeout=LIMIT)
     except subprocess.TimeoutExpired:
         return None
     if done.returncode:
-        sys.exit(f"{shown}, {workload.title}: status {done.returncode}\n{done.stdout}{done.stderr}")
+        sys.exit(f"{one.title}, {workload.title}: status {done.returncode}\n{done.stdout}{done.stderr}")
     return json.loads(done.stdout)
 
 
@@ -104,7 +157,15 @@ def measure(workload, rounds):
         for one in workload.lists[begin:] + workload.lists[:begin]:
             if None not in found[one]:
                 found[one].append(ran(one, workload))
+    sums = {it["sum"] for runs in found.values() for it in runs if it and "sum" in it}
+    if len(sums) > 1:
+        sys.exit(f"{workload.title}: the distances differ, with sums of {sums}")
     return found
+
+
+def median(found, one, key):
+    """Returns the median of what the runs of a list printed, or None where they took too long."""
+    return None if None in found[one] else statistics.median(it[key] for it in found[one])
 
 
 def table(workload, found):
@@ -115,13 +176,78 @@ def table(workload, found):
         if None in runs:
             cells = [f"over {LIMIT} s"] + [""] * (len(heads) - 1)
         else:
-            cells = [f"{statistics.median(run[key] for run in runs):.4g}" for key in workload.columns]
-        lines.append(f"| {one[2]} | {' | '.join(cells)} |")
+            medians = [median(found, one, key) for key in workload.columns]
+            cells = [f"{it:,.0f}" if it >= 1000 else f"{it:.4g}" for it in medians]
+        lines.append(f"| {one.title} | {' | '.join(cells)} |")
     return [*lines, ""]
 
 
-def draw(file, head, unit, measured, key):
-    """Draws a group of bars for each of these workloads: the median of each list, on a logarithmic axis."""
+def overview(measured):
+    """Returns the lines of the table of the page. Of tasks of a given time it has in brackets how many times the rate
+    of one thread that is."""
+    alone = {workload.words[1]: found for workload, found in measured if workload.threads == 1}
+    columns = [(*it, key) for it in measured for key in it[0].page]
+    heads = [workload.page[key] for workload, _, key in columns]
+    lines = [f"| | {' | '.join(heads)} |", f"|---|{'---|' * len(heads)}"]
+    for one in columns[0][1]:
+        cells = []
+        for workload, found, key in columns:
+            figure = median(found, one, key)
+            cells.append(f"over {LIMIT} s" if figure is None and key == "seconds" else "")
+            if figure is not None:
+                cells[-1] = f"{figure:.3f}" if workload.words[0] in ("explore", "grid") else f"{figure:,.0f}"
+            if figure and key == "nanoseconds":
+                cells[-1] += f" ({median(alone[workload.words[1]], one, key) / figure:.2f})"
+        lines.append(f"| {one.title} | {' | '.join(cells)} |")
+    return lines
+
+
+def beside(found, one, others, key):
+    """Returns how many times the least figure of other lists this one has, at most, and the title of that other one."""
+    medians = {it: median(found, it, key) or LIMIT for it in [one, *others]}
+    least = min(others, key=medians.get)
+    return f"{medians[one] / medians[least]:.2f}", least.title
+
+
+def sentences(measured):
+    """Returns what the page says of the figures."""
+    found = {(it.words[0], *it.words[1:2] * (it.words[0] in ("tree", "jobs")), it.threads): its for it, its in measured}
+    explore, small, jobs = found["explore", THREADS], found["tree", 100, THREADS], found["jobs", 90, THREADS]
+    ours, others = OURS[1], [*LOOPS, STEALS]
+
+    def rate(nanoseconds):
+        alone, together = (median(found["tree", nanoseconds, it], ours, "nanoseconds") for it in (1, THREADS))
+        return f"{alone / together:.2f}"
+
+    time, fastest = beside(explore, ours, others, "seconds")
+    cost, cheapest = beside(small, ours, others, "nanoseconds")
+    wait, strict = beside(jobs, ours, [it for it in LOOPS if it.name != "moodycamel"], "99.9")
+    said = [
+        f"With k = 16 the search takes {time} times as long as with {fastest}, the fastest other list in C++, and",
+        f"{median(explore, ours, 'tasks') or 0:.3f} tasks a state. A task of 0.1 µs costs {cost} times as much as with",
+        f"{cheapest}, the cheapest other one. Of tasks of 1 and 10 µs four threads do {rate(1000)} and {rate(10000)}",
+        f"times as many as one. At 90 %, 999 of 1,000 jobs begin within {wait} times the time of {strict}, the best",
+        f"queue with a strict order, and {beside(jobs, ours, [STEALS], '99.9')[0]} times that of {STEALS.title}.",
+    ]
+    if has_rayon():
+        time, fastest = beside(explore, RUST[0], RUST[1:], "seconds")
+        cost, cheapest = beside(small, RUST[0], RUST[1:], "nanoseconds")
+        said.append(f"In Rust the search takes {time} times as long as with {fastest}, and a task of 0.1 µs costs")
+        said.append(f"{cost} times as much as with {cheapest}.")
+    return textwrap.fill(" ".join(said), 120)
+
+
+def put_on_page(table_lines, said):
+    """Writes the section of the page, in the place of the one that is there."""
+    text = pathlib.Path(SECTION).read_text().replace("{table}", "\n".join(table_lines)).replace("{sentences}", said)
+    head = re.escape(text.partition("\n")[0])
+    there = rf"(?:^{head}\n.*?)?^(?=## More processors)"
+    page = pathlib.Path(PAGE)
+    page.write_text(re.sub(there, lambda _: text, page.read_text(), count=1, flags=re.M | re.S))
+
+
+def draw(file, head, unit, measured, height, scale):
+    """Draws a group of bars for each of these workloads: of each list the height of its runs."""
     # Only pictures need it.
     from matplotlib import pyplot
 
@@ -131,31 +257,51 @@ def draw(file, head, unit, measured, key):
     lists = list(measured[0][1])
     width = 0.84 / len(lists)
     for place, one in enumerate(lists):
-        heights = [
-            statistics.median(run[key] for run in found[one]) if None not in found[one] else 0 for _, found in measured
-        ]
+        heights = [height(workload, found, one) for workload, found in measured]
         left = [group + (place - (len(lists) - 1) / 2) * width for group in range(len(measured))]
-        axes.bar(left, heights, width, label=one[2], edgecolor="black", linewidth=0.5)
-    axes.set_xticks(range(len(measured)), [textwrap.fill(it.title, 30) for it, _ in measured], fontsize=8)
-    axes.set_yscale("log")
+        look = {"color": one.color, "hatch": one.hatch, "edgecolor": "black", "linewidth": 0.5}
+        axes.bar(left, heights, width, label=one.title, **look)
+    names = [textwrap.fill(it.title, 120 // len(measured)) for it, _ in measured]
+    axes.set_xticks(range(len(measured)), names, fontsize=8)
+    axes.set_yscale(scale)
     axes.set_title(head, fontsize=10)
     axes.set_ylabel(unit, fontsize=8)
-    axes.legend(fontsize=8, ncols=4, loc="upper center", bbox_to_anchor=(0.5, -0.2))
+    axes.grid(axis="y", linewidth=0.3)
+    axes.legend(fontsize=8, ncols=4, loc="upper center", bbox_to_anchor=(0.5, -0.14))
     figure.savefig(file, metadata={"Date": None})
     pyplot.close(figure)
 
 
-def write(folder, measured):
+def busy(workload, found, one):
+    """Returns how many processors do tasks in the mean: the time that the work of a task takes, for each one's cost."""
+    cost = median(found, one, "nanoseconds")
+    return workload.words[1] / cost if cost else 0
+
+
+def longest(_, found, one):
+    return median(found, one, "99.9") or 0
+
+
+def write(options, about, measured):
     """Writes the tables, and the pictures of those workloads that were measured."""
+    folder = options.out
     os.makedirs(folder, exist_ok=True)
-    with open(f"{folder}/work.md", "w") as page:
-        page.write("\n".join("\n".join(table(workload, found)) for workload, found in measured))
+    tables = [about]
+    if not options.only:
+        tables += [*overview(measured), "", sentences(measured), ""]
+        if options.page:
+            put_on_page(overview(measured), sentences(measured))
+    tables += [line for workload, found in measured for line in table(workload, found)]
+    with open(f"{folder}/work.md", "w") as written:
+        written.write("\n".join(tables))
     trees = [it for it in measured if it[0].words[0] == "tree" and it[0].threads > 1]
     jobs = [it for it in measured if it[0].words[0] == "jobs"]
     if trees:
-        draw(f"{folder}/work_tasks.svg", "What a task costs on four threads", "nanoseconds", trees, "nanoseconds")
+        head = "How many of four processors do tasks, in the mean"
+        draw(f"{folder}/work_tasks.svg", head, "processors", trees, busy, "linear")
     if jobs:
-        draw(f"{folder}/work_jobs.svg", "How long 99.9 of 100 jobs wait at most", "microseconds", jobs, "99.9")
+        head = "How long 99.9 of 100 jobs wait at most"
+        draw(f"{folder}/work_jobs.svg", head, "microseconds", jobs, longest, "log")
 
 
 def main():
@@ -165,15 +311,21 @@ def main():
     given.add_argument("--library", help="a built libkfifo.a")
     given.add_argument("--small", action="store_true")
     given.add_argument("--out", metavar="FOLDER")
+    given.add_argument("--page", action="store_true")
     options = given.parse_args()
+    if options.page and (options.small or options.only or not options.out):
+        given.error("--page needs all workloads in full, and --out")
+    if options.out and not importlib.util.find_spec("matplotlib"):
+        given.error("--out needs python3-matplotlib")
     build(options.library and os.path.abspath(options.library))
+    about = f"{run.machine()}; {options.rounds} rounds; load of the machine before: {os.getloadavg()[0]:.1f}.\n"
     measured = []
     for workload in workloads(options.small):
         if options.only in workload.title:
             measured.append((workload, measure(workload, options.rounds)))
             print("\n".join(table(*measured[-1])), flush=True)
     if options.out:
-        write(options.out, measured)
+        write(options, about, measured)
 
 
 if __name__ == "__main__":
