@@ -7,6 +7,7 @@ pub mod Following
 pub mod Looking
 pub mod Giving
 pub mod Closing
+pub mod Counting
 pub mod Departures
 pub mod Refusing
 pub mod CellCalls

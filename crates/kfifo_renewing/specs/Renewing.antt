@@ -68,6 +68,10 @@ sizes_again s = record { shape = holding_again s.shape; threads = s.threads; tok
 abbrev pub opening_again : Sizes → Opening
 opening_again s = opening_with false (sizes_again s)
 
+-- how many slots each generation of a queue with this opening has
+abbrev pub slots_of : Opening → ℕ
+slots_of o = o.shape.n * o.shape.k
+
 -- How many generations a queue for so many threads may have at the same time because it grows, at most: it has places
 -- for so many, and for those that its threads may keep
 abbrev pub generations_for : ℕ → ℕ
@@ -239,6 +243,10 @@ module _ {T : Type 0} where
     pub keeps : LeavesGone new.seen (all_of old) kept
     pub all : all_of new ≡ kept ++ joined
     pub all_new : All (IsNew old.number new.seen) joined
+
+  -- what `len` did: the handle followed others, and counted at most one value for each slot of its generations
+  abbrev pub Counts : ℕ → Generations T → Generations T → Type 0
+  Counts count old new = Follows old new × (count ≤ length (all_of new) * slots_of new.opened)
 
   -- a handle that has joined one generation alone, the first, of this queue, in this history
   abbrev pub HasOne : OpenQueue → Book → Generations T → Type 0

@@ -211,9 +211,9 @@ impl RenewingHandle<(), Cells> {
     ///
     /// The handle first follows others that have opened a newer generation, and reserves a cell of that. Returns None
     /// where no cell is free: then the queue's capacity is in it or in hands. Where the queue may grow, it opens the
-    /// next generation first. Returns None as well where others opened generations all the time. It never waits or
-    /// locks, and allocates only where it opens a generation, or where more of them were opened during the call than the
-    /// queue has places.
+    /// next generation first: `lacks_memory` says whether memory was missing for that. Returns None as well where
+    /// others opened generations all the time. It never waits or locks, and allocates only where it opens a generation,
+    /// or joins a tenth one that growth has not opened.
     #[inline(always)]
     pub fn reserve(&mut self) -> Option<CellAt>
         ensures { ReservesOne (cell_reserved result) self.old self.new }

@@ -1,15 +1,16 @@
 //! The handle of a queue that does not wear out: how it follows others, and how it takes.
-ghost use Rattle.std.specs.Prelude.{◌≡◌, ◌<◌, ◌≤◌, ◌+◌, ◌↔◌, true, List, [], All, IfOk, IfSome, MatchBool, length};
+ghost use Rattle.std.specs.Prelude.{◌≡◌, ◌<◌, ◌≤◌, ◌+◌, ◌*◌, ◌↔◌, true, List, [], All, IfOk, IfSome, MatchBool, length};
 ghost use Rattle.std.specs.Prelude.{vec_capacity, vec_len};
 ghost use Rattle.std.specs.Ptr.{as_ptr};
 ghost use mathlib.Core.List.{IsPrefix};
 ghost use Rattle.kfifo_live.specs.Pass.{HasNoEvent, IsPassOf};
+ghost use Rattle.kfifo_live.specs.declared.view.Opening.{Opening};
 ghost use Rattle.kfifo_renewing.specs.History.{HasRisen, WasNewest, place_count};
 ghost use Rattle.kfifo_renewing.specs.Joining.{AreAmong, AreSameParts, HasJoined, IsPart, IsUnused, held_by};
-ghost use Rattle.kfifo_renewing.specs.Renewing.{Follows, Generations, GivesToNewest, GoesOn, HasAll, HeldIn};
-ghost use Rattle.kfifo_renewing.specs.Renewing.{IsAtNewest, IsBehind, IsLater, LooksAgain};
-ghost use Rattle.kfifo_renewing.specs.Renewing.{IsOpenedAs, LeavesGone, TakesBy, TakesFirst, TakesFromOldest, TakesNewest};
-ghost use Rattle.kfifo_renewing.specs.Renewing.{TakesOldest, TriesAgain, TriesToGive, all_of, opening_in, with_older};
+ghost use Rattle.kfifo_renewing.specs.Renewing.{Counts, Follows, Generations, GivesToNewest, GoesOn, HasAll, HeldIn};
+ghost use Rattle.kfifo_renewing.specs.Renewing.{IsAtNewest, IsBehind, IsLater, IsOpenedAs, LeavesGone, LooksAgain};
+ghost use Rattle.kfifo_renewing.specs.Renewing.{TakesBy, TakesFirst, TakesFromOldest, TakesNewest, TakesOldest};
+ghost use Rattle.kfifo_renewing.specs.Renewing.{TriesAgain, TriesToGive, all_of, opening_in, slots_of, with_older};
 ghost use Rattle.kfifo_renewing.specs.Renewing.{with_seen};
 
 use crate::generation::Generation;
@@ -32,6 +33,11 @@ const TRIES: u32 = 64;
 /// its places, and some of these go meanwhile: with fewer looks than places, a handle that fell behind would be so for
 /// ever.
 const LOOKS: u32 = 4 * PLACES;
+
+/// For how many old generations a handle has room from its opening, beside those of growth. A change adds one, which
+/// goes once it is empty, so there are more only where as many handles stopped, each in a generation of its own. For
+/// these a handle asks for memory.
+const KEPT: usize = 9;
 
 /// What a caller gives and takes values with, in a queue that does not wear out: payloads, or cells.
 ///
@@ -58,9 +64,11 @@ pub struct RenewingHandle<T: Drop, K: Kind<T> = Payloads> {
     pub(crate) generation: Arc<Generation<T>, Global>,
     /// The generations before it that may still have payloads, the oldest first.
     pub(crate) older: Vec<Leaving<Joined<T>>>,
-    /// Room for those that the handle is about to join, so that it needs no memory to follow others. Else empty.
+    /// Room for those that the handle is about to join, so that it seldom needs memory to follow others. Else empty.
     spare: Vec<Leaving<Joined<T>>>,
     thread: u32,
+    /// Whether memory was missing for the last generation that the handle tried to open because there was no room.
+    lacks_memory: bool,
     pub(crate) gives_left: u64,
     gives_between_looks: u64,
     kind: PhantomData<K>,
@@ -104,8 +112,10 @@ impl<T: Drop, K: Kind<T>> RenewingHandle<T, K> {
             × (h.book ≡ history.book)) }
         ensures one { IfOk result (λ h. (h.older ≡ []) × (h.newest ≡ newest.handle) × (h.number ≡ 0)) }
     {
-        let older = Vec::with_capacity(alloc, shared.places().count())?;
-        let spare = Vec::with_capacity(alloc, shared.places().count())?;
+        let room = shared.most_older().saturating_add(KEPT);
+        let room = room.min(shared.places().count());
+        let older = Vec::with_capacity(alloc, room)?;
+        let spare = Vec::with_capacity(alloc, room)?;
         newest.start_giving();
         let gives_between_looks = shared.gives_between_looks();
         Ok(RenewingHandle {
@@ -116,6 +126,7 @@ impl<T: Drop, K: Kind<T>> RenewingHandle<T, K> {
             older,
             spare,
             thread,
+            lacks_memory: false,
             gives_left: gives_between_looks,
             gives_between_looks,
             kind: PhantomData,
@@ -413,9 +424,10 @@ impl<T: Drop, K: Kind<T>> RenewingHandle<T, K> {
     }
 
     /// Opens the generation after the newest one, unless another handle has done so, or memory or room is missing.
-    pub(crate) fn renew(&self) {
+    /// Returns false where memory is missing.
+    pub(crate) fn renew(&self) -> bool {
         self.shared
-            .renew::<K>(&self.generation, &self.newest, self.history.again());
+            .renew::<K>(&self.generation, &self.newest, self.history.again())
     }
 
     /// Counts a give, and looks at the versions that are left at each so many of them.
@@ -436,9 +448,8 @@ impl<T: Drop, K: Kind<T>> RenewingHandle<T, K> {
         ensures older { LeavesGone self.new.seen self.old.older self.new.older }
     {
         self.leave_gone();
-        if self.older.len() < self.shared.most_older() {
-            self.renew();
-        }
+        let may_open = self.older.len() < self.shared.most_older();
+        self.lacks_memory = may_open && !self.renew();
     }
 
     /// Looks at the versions that the newest generation has left, once the handle has made so many gives, and opens the
@@ -578,20 +589,32 @@ impl<T: Drop, K: Kind<T>> RenewingHandle<T, K> {
         self.older.len().checked_add(1)
     }
 
+    /// Whether the last call of this handle that found no room would have opened a generation, for which memory was
+    /// missing: then a later call may find room though no value was taken.
+    ///
+    /// It tells the two reasons apart for which a queue that may grow refuses a value. In one that may not grow it is
+    /// always false.
+    pub fn lacks_memory(&self) -> bool {
+        self.lacks_memory
+    }
+
     /// About how many values are in the queue: the sum over its generations, as `PooledQueue::len` counts each of them.
     ///
-    /// The handle first follows others that have opened a newer generation. Calls that run meanwhile are counted or not.
-    /// It makes 2k + 1 loads at most for each generation, of which there is mostly one.
+    /// The handle first follows others that have opened a newer generation. Calls that run meanwhile are counted or
+    /// not. It makes 2k + 1 loads at most for each generation, of which there is mostly one.
     pub fn len(&mut self) -> usize
-        ensures { Follows self.old self.new }
+        ensures { Counts result self.old self.new }
     {
         // Where others open new ones all the time, those are counted that the handle has come to.
         let _ = self.keep_up();
-        let mut count = self.generation.queue().len();
-        for part in self.older.iter() {
-            count = count.saturating_add(part.generation().queue().len());
-        }
-        count
+        self.count_all()
+    }
+
+    /// About how many values are in the generations of the handle.
+    fn count_all(&self) -> usize
+        ensures { result ≤ length (all_of self.now) * slots_of self.now.opened }
+    {
+        count_in(self.older.as_slice()).saturating_add(self.generation.queue().len())
     }
 
     /// Whether the generation to which this handle gives is that to which another handle of its queue gives, as far as
@@ -631,6 +654,16 @@ impl<T: Drop, K: Kind<T>> RenewingHandle<T, K> {
         older.push(newest)?;
         Ok((shared, older))
     }
+}
+
+/// About how many values are in these generations.
+fn count_in<T: Drop>(parts: &[Leaving<Joined<T>>]) -> usize
+    ensures { (o : Opening) → All (λ p. IsOpenedAs o p.handle) parts.now → result ≤ length parts.now * slots_of o }
+{
+    let Some((first, rest)) = parts.split_first() else {
+        return 0;
+    };
+    count_in(rest).saturating_add(first.generation().queue().len())
 }
 
 /// Makes room for so many generations, and for one besides. Returns whether there is.

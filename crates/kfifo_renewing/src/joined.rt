@@ -143,7 +143,9 @@ impl<T: Drop> Leaving<Joined<T>> {
     }
 
     /// The generation.
-    pub(crate) fn generation(&self) -> &Generation<T> {
+    pub(crate) fn generation(&self) -> &Generation<T>
+        ensures { IsPassOf result.now.queue self.now.handle.held.pass.pass }
+    {
         &self.part.generation
     }
 

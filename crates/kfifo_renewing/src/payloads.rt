@@ -97,13 +97,13 @@ impl<T: Drop> RenewingHandle<T, Payloads> {
     /// The handle first follows others that have opened a newer one, so its generation was the newest of the queue at a
     /// moment of the call. Each 4,096th call looks at the versions that the generation has left, and opens the next
     /// one where they are fewer than the reserve. So does a call that comes to a generation with no version left, which
-    /// then tries once more. Where the queue may grow, a call that finds no room does the same.
+    /// then tries once more. Where the queue may grow, a call that finds no room does the same: `lacks_memory` says
+    /// whether memory was missing for that.
     ///
     /// Returns Done, or NoToken, Full, Busy or Worn with the payload. Busy comes where others changed the queue during
     /// the call. Worn comes only where the generation had no version left in both tries and was still the newest:
     /// memory is missing for the next one, old generations have all places, or the queue does not renew. It never waits
-    /// or locks, and allocates only where it opens a generation, or where more of them were opened during the call than
-    /// the queue has places.
+    /// or locks, and allocates only where it opens a generation, or joins a tenth one that growth has not opened.
     #[inline(always)]
     pub fn give(&mut self, payload: T) -> Given<T>
         ensures { GivesToNewest payload result self.old self.new }
@@ -132,7 +132,7 @@ impl<T: Drop> RenewingHandle<T, Payloads> {
     /// Returns Got with the payload; Empty where it found each generation empty that had been the newest and had not
     /// gone, and the newest was still the newest after that; Busy where others changed the queue during the call, or
     /// opened a generation; or Worn where a generation used up all its versions, its reserve too. It never waits or
-    /// locks, and allocates only where more generations were opened during the call than the queue has places.
+    /// locks, and allocates only where it joins a tenth generation that growth has not opened.
     #[inline(always)]
     pub fn take(&mut self) -> Taken<T>
         ensures { TakesFromOldest result self.old self.new }

@@ -122,32 +122,38 @@ impl<T: Drop> Shared<T> {
         each.saturating_add(1).min(GIVES_BETWEEN_LOOKS)
     }
 
-    /// A new generation, with a number of its own, and the pen that may write its word.
-    fn make<K: Kind<T>>(&self, history: &mut History) -> Option<(Generation<T>, Pen)>
+    /// A new generation, with a number of its own, and the pen that may write its word. None where there is no number
+    /// for it.
+    fn make<K: Kind<T>>(
+        &self,
+        history: &mut History,
+    ) -> Result<Option<(Generation<T>, Pen)>, AllocError>
         requires book { history.old.book ≡ self.now.history.book }
         requires bare { self.now.bare ≡ K.bare }
         ensures book { history.new.book ≡ history.old.book }
-        ensures of { IfSome result (λ r. IsOfLineage self.now r.0) }
-        ensures pen { IfSome result (λ r. (r.1.book ≡ r.0.book) × (r.1.nib ≡ nib may_write (key_of r.0.number) 0)) }
+        ensures of { IfOk result (λ made. IfSome made (λ r. IsOfLineage self.now r.0)) }
+        ensures pen { IfOk result (λ made. IfSome made
+            (λ r. (r.1.book ≡ r.0.book) × (r.1.nib ≡ nib may_write (key_of r.0.number) 0))) }
     {
         let sizes = &self.places.lineage.sizes;
-        let Ok((queue, handles, memory)) = open_parts::<T, K>(self.alloc, sizes, self.layout) else {
-            return None;
+        let (queue, handles, memory) = open_parts::<T, K>(self.alloc, sizes, self.layout)?;
+        let Some((next, pen)) = self.numbers.number(&queue, history) else {
+            return Ok(None);
         };
-        let (next, pen) = self.numbers.number(&queue, history)?;
         let seen = history.again();
-        let generation = Generation::new(self.alloc, queue, handles, next, seen, memory).ok()?;
-        Some((generation, pen))
+        let generation = Generation::new(self.alloc, queue, handles, next, seen, memory)?;
+        Ok(Some((generation, pen)))
     }
 
     /// Opens the generation after this one, which was the newest, by the handle with this part. It does not where
-    /// another handle has opened that, memory or room is missing, or the queue opens none.
+    /// another handle has opened that, memory or room is missing, or the queue opens none. Returns false where memory
+    /// is missing.
     pub(crate) fn renew<K: Kind<T>>(
         &self,
         newest: &Generation<T>,
         part: &Leaving<Joined<T>>,
         mut history: History,
-    )
+    ) -> bool
         requires books { (newest.now.book ≡ self.now.history.book) × (history.book ≡ self.now.history.book) }
         requires newest { WasNewest history.log newest.now.number }
         requires bare { self.now.bare ≡ K.bare }
@@ -155,22 +161,25 @@ impl<T: Drop> Shared<T> {
         let seen = history.again();
         let is_newest = newest.next().look(part, &mut history) == 0;
         if !(self.renews() || self.grows()) || !is_newest || !self.places.has_room() {
-            return;
+            return true;
         }
-        let Some((generation, mut pen)) = self.make::<K>(&mut history) else {
-            return;
+        let Ok(made) = self.make::<K>(&mut history) else {
+            return false;
+        };
+        let Some((generation, mut pen)) = made else {
+            return true;
         };
         history.learn(&seen);
         history.learn(generation.history());
         let number = generation.number();
         let Ok(generation) = Arc::new(self.alloc, generation) else {
-            return;
+            return false;
         };
         if number <= newest.number() {
-            return;
+            return true;
         }
         let Some(place) = self.places.put(number, generation, &mut history) else {
-            return;
+            return true;
         };
         if newest.next().renew(number, &mut pen, &mut history) {
             self.numbers
@@ -179,6 +188,7 @@ impl<T: Drop> Shared<T> {
             // Another handle was faster. Nobody has given to this one, and nobody will.
             self.places.undo(place, number, pen, &mut history);
         }
+        true
     }
 
     /// What each generation is opened with.

@@ -85,6 +85,7 @@ fn stops_at_its_bound(rt: HostRuntime) -> Result<(), Fail> {
         assert!(rt; count >= 3 * 8);
         assert!(rt; count < 10_000);
         assert_ne!(rt; give(handle, count), Given::Done);
+        assert!(rt; !handle.lacks_memory());
         let mut next = count;
         for value in 0..count {
             assert_eq!(rt; take(handle), Taken::Got(value), "take {value}");

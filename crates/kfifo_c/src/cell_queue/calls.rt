@@ -1,9 +1,9 @@
 //! The calls of C by one handle of a queue of cells.
-ghost use Rattle.std.specs.Prelude.{◌≡◌, ℕ, ⊤, None, Option};
+ghost use Rattle.std.specs.Prelude.{◌≡◌, ◌⊎◌, ℕ, ⊤, MatchOption, None, Option};
 ghost use Rattle.kfifo_live.specs.declared.payload.Given.{Given as HasGiven};
 ghost use Rattle.kfifo_live.specs.declared.payload.Taken.{Taken as HasTaken};
 ghost use Rattle.kfifo_renewing.specs.Cells.{CallsOnce, ReceivesOldest};
-ghost use Rattle.kfifo_renewing.specs.Renewing.{Follows};
+ghost use Rattle.kfifo_renewing.specs.Renewing.{Counts};
 ghost use Rattle.kfifo_renewing.specs.declared.cells.CellCall.TheVariants.{Cancel, Publish, Release};
 ghost use Rattle.kfifo_renewing.specs.declared.memory.CellAt.{CellAt as HasCellAt};
 ghost use Rattle.kfifo_c.specs.Exports.{Tries, count_of};
@@ -14,7 +14,7 @@ ghost use Rattle.kfifo_c.specs.CellHandles.{WereClosed, fields_of};
 use crate::cell_queue::handle::CellHandle;
 use crate::cell_queue::status::call_status;
 use crate::kind::CELLS;
-use crate::status::{BAD_CALL, DONE, FULL};
+use crate::status::{BAD_CALL, DONE, FULL, NO_MEMORY};
 use crate::value_queue::status::{GOT, taken_status};
 use kfifo_live::Taken;
 use kfifo_renewing::CellAt;
@@ -109,12 +109,30 @@ pub extern "C" fn kfifo_c_release(pass: &mut CellHandle) -> u32
     call_status(&given)
 }
 
+/// Why the last reserve of the handle that found no cell was refused: returns NO_MEMORY where it would have opened a
+/// generation, and memory was missing for that, as `RenewingHandle::lacks_memory`; else FULL. Returns BAD_CALL where the
+/// handle is closed or of another kind.
+#[unsafe(no_mangle)]
+pub extern "C" fn kfifo_c_why_no_cell(pass: &mut CellHandle) -> u32
+    ensures why { MatchOption pass.old.held.value (result ≡ 6) (λ _. (result ≡ 1) ⊎ (result ≡ 7)) }
+    ensures same { pass.new.held.value ≡ pass.old.held.value }
+    ensures fields { fields_of pass.new ≡ fields_of pass.old }
+{
+    if pass.kind != CELLS {
+        return BAD_CALL;
+    }
+    if pass.held.seat_mut().lacks_memory() {
+        return NO_MEMORY;
+    }
+    FULL
+}
+
 /// About how many cells are in the queue of the handle, as `RenewingHandle::len`. Returns 0 where the handle is closed or of
 /// another kind.
 #[unsafe(no_mangle)]
 pub extern "C" fn kfifo_c_cells_len(pass: &mut CellHandle) -> usize
     ensures counted { (counted : Option ℕ) × (result ≡ count_of counted)
-        × Tries (λ _. ⊤) (λ _. Follows) counted pass.old.held.value pass.new.held.value }
+        × Tries (λ _. ⊤) Counts counted pass.old.held.value pass.new.held.value }
     ensures fields { fields_of pass.new ≡ fields_of pass.old }
 {
     if pass.kind != CELLS {

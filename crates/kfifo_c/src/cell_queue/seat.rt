@@ -1,7 +1,7 @@
 //! What a handle of a queue of cells stands for.
 ghost use Rattle.std.specs.Prelude.{◌≡◌};
 ghost use Rattle.kfifo_renewing.specs.Cells.{CallsOnce, ReceivesOldest, ReservesOne};
-ghost use Rattle.kfifo_renewing.specs.Renewing.{Follows};
+ghost use Rattle.kfifo_renewing.specs.Renewing.{Counts};
 ghost use Rattle.kfifo_renewing.specs.Memory.{cell_reserved};
 ghost use Rattle.kfifo_renewing.specs.declared.cells.CellCall.TheVariants.{Cancel, Publish, Release};
 ghost use Rattle.kfifo_c.specs.CellSeats.{CellSeated};
@@ -49,9 +49,16 @@ impl CellSeat {
 
     /// About how many cells are in the queue, once the handle has followed others.
     pub(crate) fn len(&mut self) -> usize
-        ensures { Follows self.old self.new }
+        ensures { Counts result self.old self.new }
     {
         self.handle.len()
+    }
+
+    /// As `RenewingHandle::lacks_memory`.
+    pub(crate) fn lacks_memory(&mut self) -> bool
+        ensures { self.new ≡ self.old }
+    {
+        self.handle.lacks_memory()
     }
 
     /// Where the queue is.

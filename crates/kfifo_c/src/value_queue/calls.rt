@@ -1,14 +1,14 @@
 //! The calls of C by one handle of a queue of values.
-ghost use Rattle.std.specs.Prelude.{◌≡◌, ℕ, ⊤, None, Option};
+ghost use Rattle.std.specs.Prelude.{◌≡◌, ◌⊎◌, ℕ, ⊤, MatchOption, None, Option};
 ghost use Rattle.kfifo_live.specs.declared.payload.Given.{Given as HasGiven};
 ghost use Rattle.kfifo_live.specs.declared.payload.Taken.{Taken as HasTaken};
-ghost use Rattle.kfifo_renewing.specs.Renewing.{Follows, GivesToNewest, TakesFromOldest};
+ghost use Rattle.kfifo_renewing.specs.Renewing.{Counts, GivesToNewest, TakesFromOldest};
 ghost use Rattle.kfifo_c.specs.Exports.{Tries, count_of};
 ghost use Rattle.kfifo_c.specs.Values.{given_number, taken_number, value_after};
 ghost use Rattle.kfifo_c.specs.ValueHandles.{WereClosed, fields_of};
 
 use crate::kind::VALUES;
-use crate::status::BAD_CALL;
+use crate::status::{BAD_CALL, FULL, NO_MEMORY};
 use crate::value_queue::handle::ValueHandle;
 use crate::value_queue::status::{GOT, given_status, nothing_status};
 use kfifo_live::Taken;
@@ -50,12 +50,30 @@ pub extern "C" fn kfifo_c_take(pass: &mut ValueHandle, value: &mut u64) -> u32
     nothing_status(taken)
 }
 
+/// Why the last give of the handle that found no room was refused: returns NO_MEMORY where it would have opened a
+/// generation, and memory was missing for that, as `RenewingHandle::lacks_memory`; else FULL. Returns BAD_CALL where the
+/// handle is closed or of another kind.
+#[unsafe(no_mangle)]
+pub extern "C" fn kfifo_c_why_no_room(pass: &mut ValueHandle) -> u32
+    ensures why { MatchOption pass.old.held.value (result ≡ 6) (λ _. (result ≡ 1) ⊎ (result ≡ 7)) }
+    ensures same { pass.new.held.value ≡ pass.old.held.value }
+    ensures fields { fields_of pass.new ≡ fields_of pass.old }
+{
+    if pass.kind != VALUES {
+        return BAD_CALL;
+    }
+    if pass.held.seat_mut().lacks_memory() {
+        return NO_MEMORY;
+    }
+    FULL
+}
+
 /// About how many values are in the queue of the handle, as `RenewingHandle::len`. Returns 0 where the handle is closed or of
 /// another kind.
 #[unsafe(no_mangle)]
 pub extern "C" fn kfifo_c_values_len(pass: &mut ValueHandle) -> usize
     ensures counted { (counted : Option ℕ) × (result ≡ count_of counted)
-        × Tries (λ _. ⊤) (λ _. Follows) counted pass.old.held.value pass.new.held.value }
+        × Tries (λ _. ⊤) Counts counted pass.old.held.value pass.new.held.value }
     ensures fields { fields_of pass.new ≡ fields_of pass.old }
 {
     if pass.kind != VALUES {

@@ -1,6 +1,6 @@
 //! What a handle of a queue of values stands for.
 ghost use Rattle.std.specs.Prelude.{◌≡◌, ◌*◌, IfSome, length};
-ghost use Rattle.kfifo_renewing.specs.Renewing.{Follows, GivesToNewest, TakesFromOldest, all_of};
+ghost use Rattle.kfifo_renewing.specs.Renewing.{Counts, Follows, GivesToNewest, TakesFromOldest, all_of};
 ghost use Rattle.kfifo_c.specs.ValueSeats.{ValueSeated};
 
 use kfifo_live::{Given, Taken};
@@ -49,9 +49,16 @@ impl ValueSeat {
 
     /// About how many values are in the queue, once the handle has followed others.
     pub(crate) fn len(&mut self) -> usize
-        ensures { Follows self.old self.new }
+        ensures { Counts result self.old self.new }
     {
         self.handle.len()
+    }
+
+    /// As `RenewingHandle::lacks_memory`.
+    pub(crate) fn lacks_memory(&mut self) -> bool
+        ensures { self.new ≡ self.old }
+    {
+        self.handle.lacks_memory()
     }
 
     /// Where the queue is.
