@@ -45,7 +45,7 @@ typedef enum kfifo_status {
     KFIFO_WORN = 5,      /* the versions are used up, and were not renewed; close this queue and open another */
     KFIFO_BAD_CALL = 6,  /* a null pointer, an argument out of range, a handle closed, missing or of another kind, or
                             one that has no cell to publish, cancel or release; nothing done */
-    KFIFO_NO_MEMORY = 7, /* an allocation failed; nothing was done */
+    KFIFO_NO_MEMORY = 7, /* an allocation failed, or one by which the queue was to grow; nothing was done */
     KFIFO_BAD_THREADS = 8,   /* the number of threads is not 1 to 64; nothing was done */
     KFIFO_LOST = 9,          /* of a close: an allocation failed; the queue is closed, what was left in it is lost */
     KFIFO_BAD_K = 11,        /* k is not 1 to 64 */
@@ -55,7 +55,7 @@ typedef enum kfifo_status {
     KFIFO_TIMED_OUT = 16,    /* of a call that waits: its time was up; nothing was put or taken */
     KFIFO_FINISHED = 17,     /* of a queue whose threads wait: it was finished; nothing was put, or it was empty then */
     KFIFO_BAD_RESERVE = 18,  /* the reserve is not below the greatest version */
-    KFIFO_BAD_CAPACITY = 19, /* the capacity is 0, or greater than a queue of so many threads has room for */
+    KFIFO_BAD_CAPACITY = 19, /* the capacity is 0, or greater than a queue for these threads has room for */
     KFIFO_BAD_LAYOUT = 20    /* of cells: the alignment is no power of two up to 4,096, or the size no multiple of it */
 } kfifo_status;
 
@@ -195,6 +195,7 @@ uint32_t kfifo_c_give(kfifo_handle *handle, uint64_t value);
 uint32_t kfifo_c_take(kfifo_handle *handle, uint64_t *value);
 uint32_t kfifo_c_give_many(kfifo_handle *handle, const uint64_t *values, size_t count, size_t *given);
 uint32_t kfifo_c_take_many(kfifo_handle *handle, uint64_t *values, size_t most, size_t *taken);
+uint32_t kfifo_c_why_no_room(kfifo_handle *handle);
 size_t kfifo_c_values_len(kfifo_handle *handle);
 size_t kfifo_c_values_room(kfifo_handle *handles, size_t threads);
 uint32_t kfifo_c_close_values(kfifo_handle *handles, size_t threads, uint64_t *values, size_t room, size_t *count);
@@ -202,6 +203,7 @@ void kfifo_c_abandon_values(kfifo_handle *handles, size_t threads);
 uint32_t kfifo_c_open_cells(uint32_t k, uint32_t capacity, uint32_t size, uint32_t alignment, uint64_t last,
                             uint64_t reserve, uint32_t generations, kfifo_handle *handles, size_t threads);
 uint32_t kfifo_c_reserve(kfifo_handle *handle, kfifo_cell_at *cell);
+uint32_t kfifo_c_why_no_cell(kfifo_handle *handle);
 uint32_t kfifo_c_publish(kfifo_handle *handle);
 uint32_t kfifo_c_cancel(kfifo_handle *handle);
 uint32_t kfifo_c_receive(kfifo_handle *handle, kfifo_cell_at *cell);
@@ -436,13 +438,13 @@ static inline void kfifo_pause(const void *handle, uint32_t times) {
     }                                                                                                                  \
     return status
 
-/* Returns what a give comes to: `finished` of a queue that was finished before, and else it wakes who waits for it. */
+/* Returns what a give comes to: `finished` if the queue was finished before. Else it wakes a thread that waits. */
 #define KFIFO_LOOKING_GIVE(handle, finished, call)                                                                     \
     kfifo_waits *waits = KFIFO_WAITS(handle);                                                                          \
     if (__builtin_expect(kfifo_is_finished(waits), 0)) return (finished);                                              \
     return kfifo_after_give(waits, (call))
 
-/* Returns what a take comes to, and wakes who waits for room: FINISHED in place of EMPTY where the queue was finished,
+/* Returns what a take comes to, and wakes a thread that waits for room: FINISHED for EMPTY if the queue was finished,
    and then found empty. A value may have come between the look and the end. */
 #define KFIFO_LOOKING_TAKE(handle, call)                                                                               \
     kfifo_waits *waits = KFIFO_WAITS(handle);                                                                          \
@@ -574,7 +576,7 @@ KFIFO_MUST_USE static inline kfifo_status kfifo_open(uint32_t k, uint32_t segmen
 }
 
 /* Why a put, get, enqueue or dequeue with these arguments returns BAD_CALL: the first cause that holds, or NULL where
-   none does. Of a call without an item hand over item 1, of one without a start and turns 0 and 1.
+   none does. For a call without an item hand over item 1, for one without a start and turns 0 and 1.
    Cost: a few comparisons.
 
        if (kfifo_put(&handles[0], 0) == KFIFO_BAD_CALL) puts(kfifo_bad_call_text(&handles[0], 0, 0, 1));
@@ -733,17 +735,14 @@ KFIFO_MUST_USE static inline kfifo_status kfifo_close(kfifo_handle *handles, siz
 
    A give or a take takes a few atomic steps more than a put or a get, for its token. None of them waits.
 
-   A queue is opened by its `capacity`: it has room for so many values, whatever the handles keep for themselves between
-   their calls, which is up to 32 tokens each. FULL says that as many are in the queue, or in the hands of calls.
+   A queue is opened by its `capacity`: it has room for that many values, beside what the handles keep for themselves
+   between their calls, up to 32 tokens each. FULL says that as many are in the queue, or in the hands of calls.
 
-   It does not wear out: before the versions of its words are used up, it goes on in a new *generation*, a queue of the
-   same sizes. Takes empty the old one first. Where generations meet, some 2^40 calls apart, a take may pass over one
-   older value more for each other handle. A generation takes as much memory as the opening did, and is freed when it is
-   empty and no handle gives to it any more. A handle that makes no calls keeps the one it is in, and each take of the
-   others looks into that too, which costs as much as a take of an empty queue. A give asks for memory where it
-   opens a generation, and else a call does only where more of them are opened meanwhile than the queue has places.
-   Where there is none, later gives ask again; only when the reserve is used up too, calls return WORN. Then close the
-   queue to have what is left, and open another. */
+   A queue does not wear out: before the versions of its words are used up, it goes on in a new *generation*, a queue of
+   the same sizes. docs/C.md says what that costs, and how far values may then overtake others. A give that opens a
+   generation asks for memory, and another call only where nine old ones are there that growth has not opened. Where
+   there is none, later gives ask again. When the reserve is used up too, calls return WORN: close the queue then to
+   have what is left, and open another. */
 
 /* Opens a queue of values with versions up to `last`, 2 to KFIFO_LAST, and a `reserve`, KFIFO_RESERVE unless you test
    something: with fewer versions left, the queue goes on in its next generation. With reserve 0 it does not, and wears
@@ -751,11 +750,12 @@ KFIFO_MUST_USE static inline kfifo_status kfifo_close(kfifo_handle *handles, siz
    do.
 
    The queue may grow to `generations` at a time, 1 to 129 - 2 * threads: a give that finds no room opens the next one,
-   as long as there are fewer. So there is room for generations * capacity values. A generation goes with its memory
-   once it is empty and each handle that gave to it has made another call. Where memory for one is missing, a give
-   returns FULL. DONE; BAD_CALL of a null pointer, or of generations out of range; BAD_THREADS, BAD_K, BAD_LAST,
-   BAD_CAPACITY, BAD_RESERVE of one that is not below `last`, NO_MEMORY, and all handles are then closed, at most the
-   first 64.
+   as long as there are fewer. So there is room for generations * capacity values. A generation is freed once it is
+   empty and each handle that gave to it has made another call. If there is no memory for one, a give returns NO_MEMORY,
+   and a later one tries again.
+
+   DONE; BAD_CALL of a null pointer, or of generations out of range; BAD_THREADS, BAD_K, BAD_LAST, BAD_CAPACITY,
+   BAD_RESERVE of one that is not below `last`, NO_MEMORY, and all handles are then closed, at most the first 64.
    Cost: it asks for the memory of the queue and of its tokens, and writes to each word. A give that opens a generation
    asks for as much again.
 
@@ -790,6 +790,7 @@ static inline kfifo_status kfifo_bare_give(kfifo_handle *handle, uint64_t value)
     KFIFO_BEFORE_PUT(handle);
     KFIFO_ENTER();
     kfifo_status status = KFIFO_CAST(kfifo_status, kfifo_c_give(handle, value));
+    if (__builtin_expect(status == KFIFO_FULL, 0)) status = KFIFO_CAST(kfifo_status, kfifo_c_why_no_room(handle));
     KFIFO_LEAVE();
     KFIFO_END(handle);
     return status;
@@ -816,10 +817,10 @@ KFIFO_MUST_USE static inline kfifo_status kfifo_give_once(kfifo_handle *handle, 
     KFIFO_LOOKING_GIVE(handle, KFIFO_FINISHED, kfifo_bare_give(handle, value));
 }
 
-/* Gives any value to the queue, and wakes a thread that waits for it: DONE; else FULL, FINISHED, WORN or BAD_CALL,
-   and the value stays the caller's. It does not wait. Where there is no memory for the next generation until
-   the reserve is used up, also a value whose give returned DONE may be one that no take reaches any more: they return
-   WORN, and a close gives it back.
+/* Gives any value to the queue, and wakes a thread that waits for it: DONE; else FULL, NO_MEMORY of a queue that was to
+   grow, FINISHED, WORN or BAD_CALL, and the value stays the caller's. It does not wait. If there is no memory for the
+   next generation until the reserve is used up, takes return WORN. They may then no longer reach a value whose give
+   returned DONE: a close gives it back.
    Cost: some 40 instructions more than a kfifo_put. It asks for memory only where it opens a generation.
 
        if (kfifo_give(&handles[0], 7) != KFIFO_DONE) return 1;
@@ -867,10 +868,10 @@ KFIFO_MUST_USE static inline kfifo_status kfifo_take_pointer(kfifo_handle *handl
     return status;
 }
 
-/* Room for how many values kfifo_close_values needs: as many as a generation has slots, which are more than the
-   capacity, for each generation that may have some. That is one mostly, and more near a change, where the queue has
-   grown, or where a handle made no calls since. 0 where these are not all handles of one queue of values, each open and
-   there but once.
+/* For how many values kfifo_close_values needs room: for each slot of each generation that may have values. A
+   generation has more slots than its capacity. Mostly there is one, but there are more near a change, if the queue has
+   grown, or if a handle made no calls since. 0 if these are not all handles of one queue of values, each open and there
+   but once.
    Cost: a look at each generation, mostly one.
 
        size_t room = kfifo_values_room(handles, 2);
@@ -982,6 +983,7 @@ static inline kfifo_status kfifo_bare_reserve(kfifo_handle *handle, kfifo_cell_a
     KFIFO_BEGIN(handle, "kfifo_reserve");
     KFIFO_ENTER();
     kfifo_status status = KFIFO_CAST(kfifo_status, kfifo_c_reserve(handle, at));
+    if (__builtin_expect(status == KFIFO_FULL, 0)) status = KFIFO_CAST(kfifo_status, kfifo_c_why_no_cell(handle));
     KFIFO_LEAVE();
     KFIFO_AFTER_RESERVE(handle, status);
     KFIFO_END(handle);
@@ -1035,7 +1037,7 @@ static inline kfifo_status kfifo_looking_receive(kfifo_handle *handle, kfifo_cel
 
 /* Reserves a cell: DONE, and writes where it is. Until kfifo_publish puts it into the queue, the cell is the handle's
    alone, and a further call writes the same one. What is in it is whatever was there before. Else FULL, where no cell
-   is free, FINISHED or BAD_CALL, and *cell stays.
+   is free, NO_MEMORY of a queue that was to grow, FINISHED or BAD_CALL, and *cell stays.
    Cost: a few dozen instructions, without an atomic step unless it fetches cells that others have released.
 
        if (kfifo_reserve(&handles[0], &cell) != KFIFO_DONE) return 1;

@@ -64,6 +64,7 @@ enum class [[nodiscard]] Put {
     full = KFIFO_FULL,
     busy = KFIFO_BUSY,           // of the bounded calls, whose names end in _once
     worn = KFIFO_WORN,
+    no_memory = KFIFO_NO_MEMORY, // of a queue that was to grow for it
     timed_out = KFIFO_TIMED_OUT, // of a call that waits: its time was up
     finished = KFIFO_FINISHED    // finish() was called before
 };
@@ -122,6 +123,9 @@ inline kfifo_status checked(kfifo_status status) {
     default: return status;
     }
 }
+
+// What a give came to. Memory for growth that is missing is an answer: the value is still the caller's.
+inline Put given(kfifo_status status) { return static_cast<Put>(status == KFIFO_NO_MEMORY ? status : checked(status)); }
 
 } // namespace detail
 
@@ -206,11 +210,10 @@ class Pass {
     }
 
     // Puts each item of a range, until the queue takes no more. It does not wait, and wakes a thread for each when it
-    // ends. The items are std::uint32_t or a type that it has room for. Where one is out of range the call throws
-    // Error: of a range that can be read twice none is in the queue then, and else those before it are. `why` of the
-    // result is done, full, finished or worn.
-    // Cost: for each item of a range that can be read twice some 15 instructions less than an enqueue, and else as
-    // much.
+    // ends. The items are std::uint32_t or a type that it has room for. If one is out of range the call throws Error:
+    // then none is in the queue if the range can be read twice, else those before it are. `why` of the result is done,
+    // full, finished or worn.
+    // Cost: as an enqueue for each item, less some 15 instructions if the range can be read twice.
     //
     //     auto put = pass.enqueue_all(numbers);
     //     numbers.erase(numbers.begin(), put.rest); // what is not put is still here
@@ -220,8 +223,8 @@ class Pass {
     // Takes items until there are `most` or the queue has no more, and puts them at the end of a container, or returns
     // them. It does not wait, and wakes a thread for each when it ends. Where the container throws, its item is still
     // in the queue. `why` of the result is empty, finished or worn, or nothing where it took `most`.
-    // Cost: for each item in a std::vector<std::uint32_t> some 15 instructions less than a dequeue, and in another
-    // container about as much; and one more that finds none where they are fewer.
+    // Cost: as a dequeue for each item, less some 15 instructions with a std::vector<std::uint32_t>, and one more that
+    // finds none where they are fewer.
     //
     //     auto some = pass.dequeue_up_to(3);
     //     auto more = pass.dequeue_up_to(64, some.items);
@@ -432,8 +435,8 @@ class Within {
     kfifo_waiter waiter;
 };
 
-// The same until a time of some clock. That the clock is set meanwhile is seen when the time was up by the clock as it
-// was.
+// The same until a time of some clock. If the clock is set meanwhile, that is seen when the time is up by the clock as
+// it was.
 template <typename Clock, typename Duration> class Until {
   public:
     Until(kfifo_waits *waits, std::uint32_t kind, const std::chrono::time_point<Clock, Duration> &time)
@@ -473,7 +476,7 @@ class InCall {
 
 // ---- The calls with cells ----
 
-// Puts the cell that is reserved into the queue, and wakes who waits for it.
+// Puts the cell that is reserved into the queue, and wakes a thread that waits for it.
 inline kfifo_status publish_cell(kfifo_handle *pass) {
     KFIFO_LOOKING_GIVE(pass, KFIFO_FINISHED, kfifo_bare_publish(pass));
 }
@@ -683,16 +686,16 @@ template <typename T> class ValueQueue {
             kfifo_caller_goes(state->waits());
         }
 
-        // Gives a value to the queue: done, full, finished or worn. On any answer but done the value is what it was. It
-        // does not wait. Full says that as many values as the queue was opened for are in it, or in the hands of calls,
-        // or that it had no memory to grow.
+        // Gives a value to the queue: done, full, no_memory, finished or worn. On any answer but done the value is what
+        // it was. It does not wait. Full says that as many values as the queue was opened for are in it, or in the
+        // hands of calls; no_memory that it was to grow, and an allocation failed.
         // Cost: some 150 instructions, of which a few are atomic steps, and a move of T. It asks for memory only where
         // it opens a generation.
         //
         //     if (giver.give(std::move(word)) != kfifo::Put::done) std::puts(word.c_str()); // it is still ours
         //
-        // Where there was no memory for the next generation until the reserve was used up, takes may no longer reach a
-        // value whose give answered done: they answer Miss::worn, and ValueQueue::close gives it back.
+        // If there was no memory for the next generation until the reserve was used up, takes answer Miss::worn. They
+        // may then no longer reach a value whose give answered done: ValueQueue::close gives it back.
         //
         // Where no move of T throws, the value is moved into a cell, and back where the queue refuses it. Else it is
         // copied, and not moved: if the copy throws, nothing was done. A T that cannot be copied and whose moves may
@@ -749,7 +752,8 @@ template <typename T> class ValueQueue {
 
         TakenValue<T> take_once() { return take_by(detail::Once()); }
 
-        // Gives a value, and sleeps while there is no room for it: Put::done, Put::finished or Put::worn.
+        // Gives a value, and sleeps while there is no room for it: Put::done, Put::no_memory, Put::finished or
+        // Put::worn.
         // Cost: as give where it need not sleep.
         //
         //     if (giver.give_wait("second") != kfifo::Put::done) return 1;
@@ -804,7 +808,7 @@ template <typename T> class ValueQueue {
             return take_by(within(KFIFO_WAITS_TAKER, detail::nanoseconds_of(time)));
         }
 
-        // The same until a time of some clock. That the clock is set meanwhile is seen when the time was up by the
+        // The same until a time of some clock. If the clock is set meanwhile, that is seen when the time is up by the
         // clock as it was.
         // Cost: as give and take where it need not sleep, and a look at the clock.
         //
@@ -823,8 +827,8 @@ template <typename T> class ValueQueue {
 
         // Gives each value of a range, until the queue takes no more. It does not wait, and wakes a thread for each
         // when it ends. What is not given stays as it was, from `rest` of the result on, and `why` is done, full,
-        // finished or worn.
-        // Cost: as a give for each value, but for all but one of the looks for threads that wait.
+        // no_memory, finished or worn.
+        // Cost: as a give for each value, with one look in all for threads that wait.
         //
         //     auto gave = giver.give_all(kfifo::moving(words));
         //     words.erase(words.begin(), gave.rest.base()); // what is not given is still here
@@ -832,14 +836,14 @@ template <typename T> class ValueQueue {
         // The values are copied, or moved where the range is kfifo::moving(words), or another one of T &&. What T or
         // the range throws comes out of the call: the values before that one are in the queue, and it is as `give`
         // leaves it. A range that is gone after the call is refused, since what was not given would go with it. Where
-        // the range can be read but once, as taker.values(), it may wait: then the call wakes who waits before each
+        // the range can be read but once, as taker.values(), it may wait: then the call wakes other threads before each
         // step.
         template <typename Range> auto give_all(Range &&range);
         template <typename Iterator, typename End> GaveAll<Iterator> give_all(Iterator first, End end);
 
-        // The same, but they sleep while there is no room for the next value: done, finished or worn. give_all_for and
-        // give_all_until do so for a time at most, that of all their waits: also timed_out. Before each wait they wake
-        // who waits for the values that are given.
+        // The same, but they sleep while there is no room for the next value: done, no_memory, finished or worn.
+        // give_all_for and give_all_until do so for a time at most, that of all their waits: also timed_out. Before
+        // each wait they wake the threads that wait for the values that are given.
         // Cost: as give_all where they need not sleep.
         //
         //     auto all_gave = giver.give_all_wait(kfifo::moving(words));
@@ -861,8 +865,8 @@ template <typename T> class ValueQueue {
         // does not wait, and wakes a thread for each when it ends. What T or the container throws comes out of the
         // call, and nothing is lost: the values before are in the container, and the next take of the handle begins
         // with that one. `why` of the result is empty, finished or worn, or nothing where it took `most`.
-        // Cost: as a take for each value and one more that finds none, but for all but one of the looks for threads
-        // that wait and all but one release.
+        // Cost: as a take for each value and one more that finds none, with one look in all for threads that wait, and
+        // one release.
         //
         //     auto took = taker.take_up_to(64, read);
         //     if (took.why == kfifo::Miss::finished) is_over = true;
@@ -996,7 +1000,7 @@ template <typename T> class ValueQueue {
             detail::InCall in_call(pass, "a give of kfifo::ValueQueue");
             Reserved reserved(*this);
             kfifo_status status = calls(pass, [&] { return reserved.reserve(); });
-            if (status != KFIFO_DONE) return static_cast<Put>(detail::checked(status));
+            if (status != KFIFO_DONE) return detail::given(status);
             make(reserved);
             status = calls(pass, [&] { return publish(pass); });
             if (__builtin_expect(status == KFIFO_WORN, 0)) status = put_on<publish>(calls, reserved, back);
@@ -1004,7 +1008,7 @@ template <typename T> class ValueQueue {
                 reserved.is_published();
             else if (reserved.is_made)
                 back(reserved.value());
-            return static_cast<Put>(detail::checked(status));
+            return detail::given(status);
         }
 
         // Where the generation of a cell takes no more values: moves the value on, to a cell of the next generation. On
@@ -1069,7 +1073,7 @@ template <typename T> class ValueQueue {
             bool is_out = false;
         };
 
-        // Receives a cell, and wakes who waits for room where it got none: Received does so where it got one.
+        // Receives a cell. Where it gets none, it wakes a thread that waits for room: else Received does so.
         kfifo_status look(kfifo_waits *waits, kfifo_cell_at *cell) {
             kfifo_status status = kfifo_bare_receive(pass, cell);
             if (status == KFIFO_DONE) return status;
@@ -1265,8 +1269,8 @@ template <typename T> class ValueQueue {
         (void)kfifo_finish_by(state->waits());
     }
 
-    // How many values the queue has room for at least, as it was opened: a queue that grows has so many in each
-    // generation.
+    // How many values the queue has room for at least, as it was opened: a queue that grows has room for that many in
+    // each generation.
     // Cost: a read.
     //
     //     std::uint32_t capacity = queue.capacity();
@@ -1280,9 +1284,9 @@ template <typename T> class ValueQueue {
     //     std::vector<std::string> left = queue.close();
     //
     // Where a move of T may throw and T can be copied, the values are copied out. If that throws, no value is lost
-    // either. Of a queue that is worn out, the library has to ask for memory to find what is left. Where it has none,
-    // the call throws std::bad_alloc: mostly a further one goes on, but where the library got a part of it, what is
-    // left is lost, and its destructors do not run. Nor do they where such a queue goes.
+    // either. If the queue is worn out, the library has to ask for memory to find what is left. If it gets none, the
+    // call throws std::bad_alloc, and mostly a further one goes on. But if the library got a part of it, what is left
+    // is lost, and its destructors do not run. Nor do they if such a queue is destroyed.
     [[nodiscard]] std::vector<T> close() {
         if (!usable().is_idle()) detail::raise(Error(KFIFO_BAD_CALL, "a handle of the queue is in use"));
         state->close();

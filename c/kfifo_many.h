@@ -19,7 +19,7 @@
 extern "C" {
 #endif
 
-/* After so many gives that were done and woke nobody: wakes a taker for each, and a giver. */
+/* After gives that were done and woke nobody, as many as this: wakes a taker for each, and a giver. */
 static inline void kfifo_after_gives(kfifo_waits *waits, size_t given) {
     uint32_t state = given ? kfifo_waits_state(waits) : 0;
     if (__builtin_expect(state <= KFIFO_WAITS_FINISHED, 1)) return;
@@ -29,7 +29,7 @@ static inline void kfifo_after_gives(kfifo_waits *waits, size_t given) {
     while (wakes-- > 1);
 }
 
-/* After so many takes that were done and woke nobody: wakes a giver for each. */
+/* After takes that were done and woke nobody, as many as this: wakes a giver for each. */
 static inline void kfifo_after_takes(kfifo_waits *waits, size_t taken) {
     uint32_t state = taken ? kfifo_waits_state(waits) : 0;
     if (__builtin_expect(state < KFIFO_WAITS_GIVER, 1)) return;
@@ -66,6 +66,7 @@ static inline kfifo_status kfifo_bare_give_many(kfifo_handle *handle, const uint
     KFIFO_BEFORE_PUT(handle);
     KFIFO_ENTER();
     kfifo_status status = KFIFO_CAST(kfifo_status, kfifo_c_give_many(handle, values + *done, count, &more));
+    if (__builtin_expect(status == KFIFO_FULL, 0)) status = KFIFO_CAST(kfifo_status, kfifo_c_why_no_room(handle));
     KFIFO_LEAVE();
     KFIFO_END(handle);
     *done += more;
@@ -193,7 +194,7 @@ static inline int kfifo_are_items(const uint32_t *items, size_t count) {
     *(many) = 0;                                                                                                       \
     if (!KFIFO_IS_OF(handle, of) || (!(array) && (count))) return KFIFO_BAD_CALL
 
-/* Gives all values, and wakes who waits for those that are given. Returns what the last give came to. */
+/* Gives all values, and wakes threads that wait for them. Returns what the last give came to. */
 #define KFIFO_GIVE_EACH(handle, values, count, given, gives)                                                           \
     kfifo_waits *waits = KFIFO_WAITS(handle);                                                                          \
     size_t done = 0;                                                                                                   \
@@ -211,13 +212,13 @@ static inline int kfifo_are_items(const uint32_t *items, size_t count) {
     *(taken) = done;                                                                                                   \
     return done ? KFIFO_DONE : status
 
-/* Gives all values, and waits while there is no room for the next one. Who waits for those that are given is woken
-   before each wait, and at the end. Returns what the last give came to. */
+/* Gives all values, and waits while there is no room for the next one. It wakes threads that wait for those that are
+   given before each wait, and at the end. Returns what the last give came to. */
 #define KFIFO_GIVE_EACH_WAIT(handle, values, count, given, gives)                                                      \
     kfifo_waits *waits = KFIFO_WAITS(handle);                                                                          \
     kfifo_waiter waiter = kfifo_waiter_of(waits, KFIFO_WAITS_GIVER, nanoseconds);                                      \
     kfifo_status status = KFIFO_DONE;                                                                                  \
-    size_t done = 0, told = 0; /* so many are given, and who waits for so many of them was woken */                    \
+    size_t done = 0, told = 0; /* how many are given, and for how many a taker was woken */                            \
     while (done < (count) && status == KFIFO_DONE) {                                                                   \
         status = gives(waits, (handle), (values), (count), &done);                                                     \
         if (__builtin_expect(kfifo_may_retry(status), 0)) {                                                            \
@@ -246,13 +247,14 @@ static inline int kfifo_are_items(const uint32_t *items, size_t count) {
 
 /* ---- Many values or items at once ----
 
-   A call that gives returns DONE where all are in the queue, and else why the next one is not: FULL, FINISHED or WORN.
-   Those from that one on stay the caller's. A call that takes returns DONE where it took at least
-   one, or none was asked for, and else why it took none: EMPTY, FINISHED or WORN. Each writes how many there were, also
-   0. BAD_CALL of a null pointer or a closed handle: nothing was done. None of them waits, and each wakes who does. */
+   A call that gives returns DONE where all are in the queue, and else why the next one is not: FULL, NO_MEMORY of a
+   queue that was to grow, FINISHED or WORN. Those from that one on stay the caller's. A call that takes returns DONE
+   where it took at least one, or none was asked for, and else why it took none: EMPTY, FINISHED or WORN. Each writes
+   how many there were, also 0. BAD_CALL of a null pointer or a closed handle: nothing was done. None of them waits, and
+   each wakes who does. */
 
 /* Gives the values of an array in their order, until the queue takes no more: DONE, and all are in the queue; else
-   FULL, FINISHED, WORN or BAD_CALL, and the first *given are.
+   FULL, NO_MEMORY, FINISHED, WORN or BAD_CALL, and the first *given are.
    Cost: for each value some 25 instructions less than a kfifo_give, since one call of the library gives up to 64, and
    one look for threads that wait.
 

@@ -48,7 +48,7 @@ template <typename Range> auto end_of(Range &range) {
     return end(range);
 }
 
-// The gives of a call, which wakes who waits for them when it ends, also by an exception.
+// The gives of a call, which wakes threads that wait for them when it ends, also by an exception.
 class GivesMany {
   public:
     explicit GivesMany(kfifo_waits *of) : waits(of) {}
@@ -91,11 +91,11 @@ class GivesMany {
 
   private:
     kfifo_waits *waits;
-    std::size_t asleep = 0; // so many were given, and who waits for them was not woken yet
+    std::size_t asleep = 0; // how many were given for which no taker was woken yet
 };
 
-// How a call of many is made again that waits by these: before a wait it wakes who waits for what it has given, since
-// it may be they who make room.
+// How a call of many is made again that waits by these: before a wait it wakes the threads that wait for what it has
+// given, since they may make room.
 template <typename Calls> struct WakingFirst {
     template <typename Call> kfifo_status operator()(const kfifo_handle *pass, Call call) const {
         kfifo_status status = call();
@@ -118,7 +118,7 @@ template <typename Range, typename Values> constexpr void check_outlived() {
                   "what was not given would go with the range: give it a name");
 }
 
-// The takes of a call, which wakes who waits for room when it ends, also by an exception.
+// The takes of a call, which wakes threads that wait for room when it ends, also by an exception.
 struct TakesMany {
     explicit TakesMany(kfifo_waits *of) : waits(of) {}
     TakesMany(const TakesMany &) = delete;

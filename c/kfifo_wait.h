@@ -31,8 +31,8 @@
 
    A give or a reserve finds FULL where no token or cell is free. A take, a release or a cancel frees one and then looks
    for givers, and wakes one. That one may find none, since a handle keeps some of those that it frees. When it lays a
-   batch of them into the pool, that call wakes a giver too. Who takes the batch wakes the next when its give is done,
-   so while the pool has some a giver is on its way to them.
+   batch of them into the pool, that call wakes a giver too. The giver that takes the batch wakes the next one when
+   its give is done, so while the pool has tokens a giver is on its way to them.
 
    test_wait_model.cpp goes through all interleavings of three threads in a model of these steps. */
 #ifndef KFIFO_WAIT_H
@@ -110,11 +110,11 @@ static inline int kfifo_may_be_over(kfifo_waits *waits, kfifo_status status) {
 
 /* ---- Values ----
 
-   A call that waits returns DONE; TIMED_OUT, and nothing was given or taken; FINISHED; WORN; or BAD_CALL. It
-   never returns FULL, EMPTY or BUSY. FINISHED comes too where no other handle of the queue is open. With 0
-   nanoseconds it looks once and does not sleep. A call that need not wait costs as much as one of kfifo.h; one that
-   sleeps makes a call of the system, and so does the one that wakes it. Who gets WORN calls kfifo_finish, so that the
-   others end too, and then closes the queue. */
+   A call that waits returns DONE; TIMED_OUT, and nothing was given or taken; NO_MEMORY of a give to a queue that was to
+   grow; FINISHED; WORN; or BAD_CALL. It never returns FULL, EMPTY or BUSY. FINISHED comes too where no other handle of
+   the queue is open. With 0 nanoseconds it looks once and does not sleep. A call that need not wait costs as much as
+   one of kfifo.h; one that sleeps makes a call of the system, and so does the one that wakes it. After WORN call
+   kfifo_finish, so that the others end too, and then close the queue. */
 
 /* Gives a value, and waits at most `nanoseconds` while there is no room for it.
    Cost: as kfifo_give where it need not wait.

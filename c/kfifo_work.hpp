@@ -1,10 +1,10 @@
 // Work that spawns work, over the proved k-FIFO queue: a pool of threads that take tasks about in the order in which
-// they came, tasks that add tasks, and an end when all are done. For C++17. docs/WORK.md shows whole programs.
+// they came, tasks that add tasks, and an end when all are done. For C++17. docs/WORK.md shows how to use it.
 //
 // How it works. The queue is one of 64-bit values that grows (kfifo.h). A task that can be copied byte by byte and fits
 // in 64 bits is such a value. Any other lies in a node that the worker who gives it takes from a list of its own, and
-// the value is the node's address. Who has done the task keeps the node, and lists that grow too long go round in
-// chains, so that nodes are asked for about as often as the backlog grows.
+// the value is the node's address. The worker that has done the task keeps the node, and lists that grow too long go
+// round in chains, so that nodes are asked for about as often as the backlog grows.
 //
 // The order. When a task is begun, all tasks given before it have been begun but k - 1 at most, and one for each other
 // worker. While the queue changes its generation, as it does when it grows, it may be one more for each other worker.
@@ -19,23 +19,23 @@
 // ended. A worker that finds nothing to do writes its second count once more by a full step. Then it adds up what all
 // workers did, and after that what all gave. If the sums are equal, the work is over.
 //
-// 1. It says so only where that is true. Let S be the tasks that the first sum counts. Who did a task of S raised the
-//    count after that task was given, and after it had given all its own. Counts are raised by releases and read by
-//    acquires. So the second sum, which is read later, counts each task of S, each task that one of S gave, and those
-//    that the run began with. If it is as large as S, then S is all of these: it has the first tasks, and with each
-//    task those that it gave. So S is all tasks that there will ever be, and they are done.
+// 1. It says so only where that is true. Let S be the tasks that the first sum counts. The worker of a task of S
+//    raised the count after that task was given, and after the task had given all its own. Counts are raised by
+//    releases and read by acquires. So the second sum, which is read later, counts each task of S, each task that one
+//    of S gave, and those that the run began with. If it is as large as S, then S is all of these: it has the first
+//    tasks, and with each task those that it gave. So S is all tasks that there will ever be, and they are done.
 // 2. Somebody says so. Each worker looks at the counts after it has done its last task. One of these looks has the last
 //    full step of all. It reads what every other worker had done, and finds the sums equal. So nobody need look again
-//    before it sleeps. Who says that the work is over finishes the queue, which wakes all.
+//    before it sleeps. The worker that says so finishes the queue, which wakes all.
 //
 // Without the full step the last two workers could both miss what the other did, and sleep for ever. A count of tasks
 // given that is raised after the give, one of tasks done that is raised before the body has ended, or the sums in the
 // other order, would end the run while tasks are left. test_work_model.cpp goes through all interleavings of three
 // workers, with stores that are delayed, and finds what each of these breaks.
 //
-// How workers sleep. Who finds nothing looks for 5 microseconds more and then sleeps by the queue's own waiting:
+// How workers sleep. One that finds nothing looks for 5 microseconds more and then sleeps by the queue's own waiting:
 // kfifo_wait.h says how, and why no wake-up is lost. A list counts as a part of the queue there: a worker looks into
-// the lists after it has announced itself, and who puts a task into a list looks for workers that sleep after that.
+// the lists after it has announced itself, and one that puts a task into a list looks for sleeping workers after that.
 #ifndef KFIFO_WORK_HPP
 #define KFIFO_WORK_HPP
 
@@ -95,8 +95,8 @@ constexpr std::size_t line = 64;
 constexpr std::size_t rounded_up(std::size_t size, std::size_t to) { return (size + to - 1) / to * to; }
 
 // The sizes of the queue of a run. A generation has room for up to 16,384 tasks, less 32 for each worker: few
-// generations are opened for many tasks, and one is cheap enough for a run of few. With a k too small for so many
-// workers there is no queue: it is opened with the least that will do.
+// generations are opened for many tasks, and one is cheap enough for a run of few. A k that is too small for the
+// workers is raised to the least that will do.
 struct Sizes {
     static constexpr std::size_t room = 16384;
 
@@ -324,7 +324,7 @@ template <typename Task> class alignas(2 * line) Worker {
         }
     }
 
-    // Moves tasks of the list into the queue, so many at most, as long as there is room.
+    // Moves tasks of the list into the queue, up to this number, as long as there is room.
     void move_on(std::size_t most) {
         std::lock_guard<std::mutex> lock(mutex);
         move_on_by(pass, most);
@@ -444,7 +444,7 @@ template <typename Task> class alignas(2 * line) Worker {
         }
         kfifo_waiter waiter = kfifo_waiter_of(pool->waits(), KFIFO_WAITS_TAKER, KFIFO_FOREVER);
         for (;;) {
-            // Who has announced itself, and then found nothing, sleeps now.
+            // A worker that has announced itself, and then found nothing, sleeps now.
             report.sleeps += waiter.is_announced && status == KFIFO_EMPTY;
             if (!kfifo_wait_again(&waiter, &status)) return status;
             status = look_into_lists(word, kfifo_take_once(pass, &word));
@@ -497,7 +497,7 @@ template <typename Task> class Pool {
         if (is_open) (void)kfifo_abandon(passes, workers.size());
     }
 
-    // Does all tasks, of which there are so many at first. Throws what a task threw first.
+    // Does all tasks, of which there are `tasks` at first. Throws what a task threw first.
     void work(std::size_t tasks) {
         if (tasks > 1 && workers.size() > 1 && open())
             for (std::size_t i = 1; i < tasks && may_start(); i++) start_worker();

@@ -430,26 +430,26 @@ static void each_request(int of_cells, long *of_open, long *of_close) {
     expect(*of_open > 1 && *of_close > 1, 1, "an open and a close of values or cells ask for memory");
 }
 
-/* A queue grows with the request of this number refused: that give finds no room, and nothing is lost. Later ones grow
-   it after all. Whether that request was made. */
+/* A queue grows with the request of this number refused: that give says so, and nothing is lost. Later ones grow it
+   after all. Whether that request was made. */
 static int grows(int of_cells, long number) {
     static struct any_queue queue;
     enum { GENERATIONS = 20 }; /* one of them has room for 15 to 111 */
     uint64_t given = 0, taken = 0, value = 0, least = GENERATIONS * CAPACITY;
-    long full = 0;
+    long refused = 0;
     kfifo_status status = any_open(&queue, of_cells, 1, CAPACITY, KFIFO_LAST, KFIFO_RESERVE, GENERATIONS, THREADS);
     expect(status, KFIFO_DONE, "an open of a queue that grows");
     refuse(number);
-    while (given < least && full < 10 && !failed) {
+    while (given < least && refused < 10 && !failed) {
         status = gives(&queue, 0, given);
         if (status == KFIFO_DONE) given++;
-        if (status != KFIFO_DONE) expect(status, KFIFO_FULL, "a give that cannot grow");
-        full += status != KFIFO_DONE;
+        if (status != KFIFO_DONE) expect(status, KFIFO_NO_MEMORY, "a give that cannot grow");
+        refused += status != KFIFO_DONE;
     }
     int met = requests >= number;
     refuse(0);
     expect((long)given, (long)least, "how many values a queue that grows has room for");
-    expect(full <= met, 1, "gives that found no room");
+    expect(refused <= met, 1, "gives that found no memory");
     for (; taken < given && !failed; taken++) {
         expect(takes(&queue, 1, &value), KFIFO_DONE, "a take of what has grown");
         expect((long)value, (long)taken, "a value of what has grown");

@@ -14,7 +14,7 @@ use std::fmt::{self, Debug, Display, Formatter};
 pub enum OpenError {
     /// k is not 1 to 64.
     KOutOfRange,
-    /// The capacity is 0, or greater than a generation has room for with this k and so many threads
+    /// The capacity is 0, or greater than a generation has room for with this k and number of threads
     /// ([`Queue::new`](crate::Queue::new)). A queue that grows has several generations
     /// ([`Options::grows`](crate::Options::grows)).
     CapacityOutOfRange,
@@ -73,9 +73,11 @@ impl Error for OpenError {}
 /// ```
 #[derive(Clone, Copy, PartialEq, Eq)]
 pub enum PushError<T> {
-    /// As many values as the queue was opened for, or more, are in it or in the hands of calls. Of a queue that grows:
-    /// it has as many generations as it may have, or there was no memory for the next one.
+    /// As many values as the queue was opened for, or more, are in it or in the hands of calls. A queue that grows also
+    /// has as many generations as it may have.
     Full(T),
+    /// Of a queue that grows: there was no memory for its next generation.
+    OutOfMemory(T),
     /// Of [`Handle::push_once`](crate::Handle::push_once) alone: the call used up its 65,535 rounds, and another thread
     /// changed the queue in each of them. This is rare.
     Busy(T),
@@ -100,6 +102,7 @@ impl<T> PushError<T> {
     pub fn into_inner(self) -> T {
         match self {
             PushError::Full(value)
+            | PushError::OutOfMemory(value)
             | PushError::Busy(value)
             | PushError::Worn(value)
             | PushError::TimedOut(value)
@@ -121,13 +124,17 @@ impl<T> PushError<T> {
     pub fn may_retry(&self) -> bool {
         match self {
             PushError::Full(_) | PushError::Busy(_) => true,
-            PushError::Worn(_) | PushError::TimedOut(_) | PushError::Finished(_) => false,
+            PushError::OutOfMemory(_)
+            | PushError::Worn(_)
+            | PushError::TimedOut(_)
+            | PushError::Finished(_) => false,
         }
     }
 
     fn text(&self) -> &'static str {
         match self {
             PushError::Full(_) => "the queue was full",
+            PushError::OutOfMemory(_) => "there was no memory for the queue to grow",
             PushError::Busy(_) => "the call used up its rounds",
             PushError::Worn(_) => "the versions of the queue are used up",
             PushError::TimedOut(_) => "the time was up",
@@ -141,6 +148,7 @@ impl<T> Debug for PushError<T> {
     fn fmt(&self, f: &mut Formatter<'_>) -> fmt::Result {
         f.write_str(match self {
             PushError::Full(_) => "Full(..)",
+            PushError::OutOfMemory(_) => "OutOfMemory(..)",
             PushError::Busy(_) => "Busy(..)",
             PushError::Worn(_) => "Worn(..)",
             PushError::TimedOut(_) => "TimedOut(..)",

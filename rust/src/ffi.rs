@@ -158,11 +158,11 @@ impl LeftCells {
     }
 }
 
-/// What a queue of values carries: 64 bits, some of which may never have been written. The library copies them and looks
-/// at none.
+/// What a queue of values carries: 64 bits, some of which may never have been written. The library copies them and
+/// looks at none.
 pub(crate) type Value = MaybeUninit<u64>;
 
-// Of the calls by a pass of cells the library promises, and has proved:
+// What the library promises, and has proved, of the calls by a pass of cells:
 //
 // - `open_cells`: DONE opens the passes, of a queue with room for `capacity` values. A cell has `size` bytes. It
 //   begins at a multiple of `alignment`, as `CellAt` says, in a block that is there while somebody has a cell of it, or
@@ -181,7 +181,7 @@ pub(crate) type Value = MaybeUninit<u64>;
 //   its order, until it returns EMPTY. They are there until `free_left`. NO_MEMORY does nothing. LOST closes the
 //   passes, and the cells are gone.
 //
-// Of those by a pass of values:
+// And of those by a pass of values:
 //
 // - `open_values`: DONE opens the passes, of a queue with room for `capacity` values.
 // - `give`: DONE puts the value into the queue. After anything else it is not there.
@@ -190,7 +190,7 @@ pub(crate) type Value = MaybeUninit<u64>;
 // - `close_values`: DONE writes the values that are in the queue. There is room for `values_room` of them, else it does
 //   nothing.
 //
-// Of the caller they require that one thread at a time uses a pass, and that it is open.
+// They require of the caller that one thread at a time uses a pass, and that it is open.
 unsafe extern "C" {
     pub(crate) fn kfifo_c_open_cells(
         k: u32,
@@ -204,6 +204,7 @@ unsafe extern "C" {
         threads: usize,
     ) -> u32;
     pub(crate) fn kfifo_c_reserve(pass: *mut Pass, cell: *mut CellAt) -> u32;
+    pub(crate) fn kfifo_c_why_no_cell(pass: *mut Pass) -> u32;
     pub(crate) fn kfifo_c_publish(pass: *mut Pass) -> u32;
     pub(crate) fn kfifo_c_cancel(pass: *mut Pass) -> u32;
     pub(crate) fn kfifo_c_receive(pass: *mut Pass, cell: *mut CellAt) -> u32;

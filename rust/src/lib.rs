@@ -147,8 +147,8 @@ impl<T> Queue<T> {
     /// oldest, 1 to 64. There is that much room whatever the handles keep for themselves between their calls. With k of
     /// 8 to 64 threads seldom meet; with k of 1 values come out in their order.
     ///
-    /// The greatest capacity is `threads * (1022 * k / threads - 32)`, divided downwards: for one thread, 990 with k of 1
-    /// and 65,376 with k of 64. With k of 1, at most 30 threads have one. A queue that grows has room for more.
+    /// The greatest capacity is `threads * (1022 * k / threads - 32)`, divided downwards: for one thread, 990 with k of
+    /// 1 and 65,376 with k of 64. With k of 1, at most 30 threads have one. A queue that grows has room for more.
     ///
     /// Cost: it asks for all memory of a generation here, about `(capacity + 32 * threads) * (size_of::<T>() + 30)`
     /// bytes, and `640 * threads * threads` more. The words of the queue are written.
@@ -201,7 +201,7 @@ impl<T> Queue<T> {
         })
     }
 
-    /// How many values the queue has room for at least, as it was opened: one that grows has so many in each
+    /// How many values the queue has room for at least, as it was opened: one that grows has room for that many in each
     /// generation.
     ///
     /// Cost: a read.
@@ -443,8 +443,8 @@ impl<T> Handle<T> {
         }
     }
 
-    /// Takes one of the k oldest values. It never waits or locks, and allocates only where more generations are opened
-    /// during the call than the queue has places.
+    /// Takes one of the k oldest values. It never waits or locks, and allocates only where nine old generations are there
+    /// that growth has not opened.
     ///
     /// Cost: as [`Handle::push`]. One that returns `Empty` has looked at all k slots of a segment.
     ///

@@ -279,7 +279,7 @@ impl<T> Shared<T> {
         self.waits.state.load(Ordering::SeqCst) & ffi::IS_FINISHED != 0
     }
 
-    /// Puts a value into the queue, and wakes who waits for it. DONE: the value is the queue's now.
+    /// Puts a value into the queue, and wakes a thread that waits for it. DONE: the value is the queue's now.
     ///
     /// # Safety
     ///
@@ -348,6 +348,10 @@ impl<T> Shared<T> {
         let pass = self.passes.at(number);
         // SAFETY: the pass is of an open queue, and the caller says that nobody else uses it.
         let status = unsafe { ffi::kfifo_c_reserve(pass, cell) };
+        if status == ffi::FULL {
+            // SAFETY: as of `reserve_cell`.
+            return unsafe { ffi::kfifo_c_why_no_cell(pass) };
+        }
         if status != ffi::DONE {
             return status;
         }
@@ -366,7 +370,7 @@ impl<T> Shared<T> {
         status
     }
 
-    /// One look for a value. It wakes who waits for room, unless it found one: then the caller does so.
+    /// One look for a value. It wakes a thread that waits for room, unless it found a value: then the caller does so.
     ///
     /// # Safety
     ///
@@ -500,6 +504,7 @@ impl<T> Shared<T> {
         let value = ManuallyDrop::into_inner(value);
         Err(match status {
             ffi::FULL => PushError::Full(value),
+            ffi::NO_MEMORY => PushError::OutOfMemory(value),
             ffi::BUSY => PushError::Busy(value),
             ffi::TIMED_OUT => PushError::TimedOut(value),
             ffi::FINISHED => PushError::Finished(value),

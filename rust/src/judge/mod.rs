@@ -97,7 +97,7 @@ impl From<Result<(), PushError<u32>>> for Put {
     fn from(result: Result<(), PushError<u32>>) -> Put {
         match result {
             Ok(()) => Put::Done,
-            Err(PushError::Full(_)) => Put::Full,
+            Err(PushError::Full(_) | PushError::OutOfMemory(_)) => Put::Full,
             Err(PushError::Busy(_) | PushError::TimedOut(_)) => Put::Busy,
             Err(PushError::Worn(_) | PushError::Finished(_)) => Put::Worn,
         }

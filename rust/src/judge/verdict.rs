@@ -50,11 +50,11 @@ pub struct Call {
     pub thread: u32,
     /// What it was to do.
     pub op: Op,
-    /// The item of a put, 1 to [`MAX_ITEM`], or the item that a get got. Of other calls it is not read.
+    /// The item of a put, 1 to [`MAX_ITEM`], or the item that a get got. In other calls it is not read.
     pub item: u64,
     /// When it began.
     pub first: u64,
-    /// When it ended. Of an unfinished call it is not read.
+    /// When it ended. In an unfinished call it is not read.
     pub last: u64,
     /// What it returned.
     pub answer: Answer,
@@ -196,7 +196,7 @@ pub enum Fault {
     Log {
         /// The number of the fault, 1 to 8, as `docs/JUDGE.md` has it; 0 where it has none.
         number: u32,
-        /// The line of the log, from 1; 0 where it has none. Of calls it is the line in their CSV.
+        /// The line of the log, from 1; 0 where it has none. For calls it is the line in their CSV.
         place: u64,
         /// The line that says which.
         text: String,

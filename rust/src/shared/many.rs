@@ -4,7 +4,8 @@ use crate::error::PopError;
 use crate::ffi;
 use std::sync::atomic::Ordering;
 
-/// The pops of a call. When it is dropped, also by a panic, the last cell is released, and who waits for room is woken.
+/// The pops of a call. When it is dropped, also by a panic, the last cell is released, and threads that wait for room
+/// are woken.
 struct Pops<'a, T> {
     shared: &'a Shared<T>,
     number: usize,
@@ -25,7 +26,7 @@ impl<T> Drop for Pops<'_, T> {
 }
 
 impl<T> Shared<T> {
-    /// Wakes a thread that waits for room for each of so many values that were taken.
+    /// Wakes a thread that waits for room, for each of the values that were taken.
     fn wake_for_rooms(&self, taken: usize) {
         let waiting = self.waits.state.load(Ordering::SeqCst) / ffi::GIVER;
         for _ in 0..taken.min(waiting as usize) {

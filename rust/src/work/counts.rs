@@ -13,8 +13,8 @@
 //! other way round it would be wrong: a task may be given and done between the two.
 //!
 //! Why somebody says so. A worker counts a task as done, and then looks for the next. At the first look that finds
-//! nothing it puts a fence before it adds up. Of the last such fences of all workers one comes last, and before it come
-//! all counts. So a worker that has added up need not do so again until it has done another task: it sleeps, and the
+//! nothing it puts a fence before it adds up. One of the workers' last such fences comes last, and all counts come
+//! before it. So a worker that has added up need not do so again until it has done another task: it sleeps, and the
 //! one that finds the end wakes it.
 //!
 //! `tests/work_model.rs` goes through all interleavings of a model of these steps.
@@ -48,8 +48,8 @@ impl Counts {
         })
     }
 
-    /// A worker has given that many tasks, or is about to. Release: who reads the count of a task that is done finds
-    /// what its body gave.
+    /// A worker has given that many tasks, or is about to. Release: a thread that reads the count of a task that is
+    /// done finds what its body gave.
     pub(crate) fn set_given(&self, worker: usize, tasks: u64) {
         self.workers[worker].given.store(tasks, Ordering::Release);
     }

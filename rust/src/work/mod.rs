@@ -110,7 +110,7 @@ impl Options {
         })
     }
 
-    /// The sizes of the queue for so many workers.
+    /// The sizes of the queue for this number of workers.
     fn sizes<E>(&self, workers: usize) -> Result<Sizes, Cause<E>> {
         if !(1..=64).contains(&self.k) {
             return Err(Cause::KOutOfRange);

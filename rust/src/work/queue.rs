@@ -44,8 +44,8 @@ pub(crate) struct Sizes {
 }
 
 impl Sizes {
-    /// The sizes for k, 1 to 64, and so many workers, 1 to 64. With a k too small for so many there is no queue: it is
-    /// opened with the least that will do.
+    /// The sizes for k and this number of workers, both 1 to 64. A k that is too small for the workers is raised to the
+    /// least that will do.
     pub(crate) fn of(k: u32, workers: usize) -> Sizes {
         let options = Options::default();
         let passes = workers as u32;
@@ -234,7 +234,7 @@ impl Queue {
     /// As of `put`.
     #[cold]
     pub(crate) unsafe fn refill(&self, pass: usize) {
-        // Who has the lock moves them, or gives more.
+        // The worker that has the lock moves them, or gives more.
         if let Ok(mut list) = self.list.try_lock() {
             // SAFETY: as the caller says.
             unsafe { self.move_some(pass, &mut list) };

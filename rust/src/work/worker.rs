@@ -154,7 +154,7 @@ impl<'a, T> More<'a, T> {
     /// ```
     pub fn give(&mut self, task: T) -> Result<(), GiveError<T>> {
         let value = self.nodes.pack(task).map_err(GiveError)?;
-        // Before it is given: who takes it and has done it finds this count.
+        // Before it is given: the worker that takes it and has done it finds this count.
         self.given += 1;
         self.shared.counts.set_given(self.number, self.given);
         // SAFETY: the pass is this worker's, and so this thread's.
