@@ -947,8 +947,8 @@ static inline void *kfifo_place_of(const kfifo_cell_at *at, uint32_t size, uint3
    divides the size. `last`, `reserve` and `generations` are as in kfifo_open_values_with. The queue has 32 cells more
    for each thread, which that one may keep for itself. Returns what kfifo_open_values_with does; BAD_LAYOUT of a size
    or an alignment that there is not.
-   Cost: the memory of a generation is asked for here: that of (capacity + 32 * threads) cells, and some 50 bytes for
-   each. A reserve that opens a generation asks for as much again.
+   Cost: the memory of a generation is asked for here: that of (capacity + 32 * threads) cells, some 30 bytes for each
+   of these, and 4,000 for each thread. A reserve that opens a generation asks for as much again.
 
        kfifo_handle growing[2];
        if (kfifo_open_cells_with(1, 8, 64, 64, KFIFO_LAST, KFIFO_RESERVE, 100, growing, 2) != KFIFO_DONE)

@@ -1193,8 +1193,8 @@ template <typename T> class ValueQueue {
     // with a greater k threads get in each other's way less. The greatest capacity is
     // threads * (1022 * k / threads - 32), divided downwards: with k = 1 a queue has at most 30 threads. Throws Error
     // where there is no such queue, and std::bad_alloc.
-    // Cost: the memory of a generation is asked for here: that of (capacity + 32 * threads) values of T, and some 50
-    // bytes for each. The words of the queue are written.
+    // Cost: the memory of a generation is asked for here: that of (capacity + 32 * threads) values of T, some 30 bytes
+    // for each of these, and 4,000 for each thread. The words of the queue are written.
     //
     //     kfifo::ValueQueue<std::string> queue(1, 512, 2); // k, capacity, threads
     ValueQueue(std::uint32_t k, std::uint32_t capacity, std::size_t threads)

@@ -151,7 +151,7 @@ impl<T> Queue<T> {
     /// 1 and 65,376 with k of 64. With k of 1, at most 30 threads have one. A queue that grows has room for more.
     ///
     /// Cost: it asks for all memory of a generation here, about `(capacity + 32 * threads) * (size_of::<T>() + 30)`
-    /// bytes, and `640 * threads * threads` more. The words of the queue are written.
+    /// bytes, and `4000 * threads` more. The words of the queue are written.
     ///
     /// ```
     /// let queue = kfifo::Queue::<u64>::new(4, 1024, 8)?; // k, capacity, threads
@@ -443,8 +443,8 @@ impl<T> Handle<T> {
         }
     }
 
-    /// Takes one of the k oldest values. It never waits or locks, and allocates only where nine old generations are there
-    /// that growth has not opened.
+    /// Takes one of the k oldest values. It never waits or locks, and allocates only where nine old generations are
+    /// there that growth has not opened.
     ///
     /// Cost: as [`Handle::push`]. One that returns `Empty` has looked at all k slots of a segment.
     ///
