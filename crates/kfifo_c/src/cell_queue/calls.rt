@@ -110,8 +110,8 @@ pub extern "C" fn kfifo_c_release(pass: &mut CellHandle) -> u32
 }
 
 /// Why the last reserve of the handle that found no cell was refused: returns NO_MEMORY where it would have opened a
-/// generation, and memory was missing for that, as `RenewingHandle::lacks_memory`; else FULL. Returns BAD_CALL where the
-/// handle is closed or of another kind.
+/// generation, and memory was missing for that, as `RenewingHandle::lacks_memory`; else FULL. Returns BAD_CALL where
+/// the handle is closed or of another kind.
 #[unsafe(no_mangle)]
 pub extern "C" fn kfifo_c_why_no_cell(pass: &mut CellHandle) -> u32
     ensures why { MatchOption pass.old.held.value (result ≡ 6) (λ _. (result ≡ 1) ⊎ (result ≡ 7)) }
@@ -127,8 +127,8 @@ pub extern "C" fn kfifo_c_why_no_cell(pass: &mut CellHandle) -> u32
     FULL
 }
 
-/// About how many cells are in the queue of the handle, as `RenewingHandle::len`. Returns 0 where the handle is closed or of
-/// another kind.
+/// About how many cells are in the queue of the handle, as `RenewingHandle::len`. Returns 0 where the handle is closed
+/// or of another kind.
 #[unsafe(no_mangle)]
 pub extern "C" fn kfifo_c_cells_len(pass: &mut CellHandle) -> usize
     ensures counted { (counted : Option ℕ) × (result ≡ count_of counted)

@@ -51,8 +51,8 @@ pub extern "C" fn kfifo_c_take(pass: &mut ValueHandle, value: &mut u64) -> u32
 }
 
 /// Why the last give of the handle that found no room was refused: returns NO_MEMORY where it would have opened a
-/// generation, and memory was missing for that, as `RenewingHandle::lacks_memory`; else FULL. Returns BAD_CALL where the
-/// handle is closed or of another kind.
+/// generation, and memory was missing for that, as `RenewingHandle::lacks_memory`; else FULL. Returns BAD_CALL where
+/// the handle is closed or of another kind.
 #[unsafe(no_mangle)]
 pub extern "C" fn kfifo_c_why_no_room(pass: &mut ValueHandle) -> u32
     ensures why { MatchOption pass.old.held.value (result ≡ 6) (λ _. (result ≡ 1) ⊎ (result ≡ 7)) }
@@ -68,8 +68,8 @@ pub extern "C" fn kfifo_c_why_no_room(pass: &mut ValueHandle) -> u32
     FULL
 }
 
-/// About how many values are in the queue of the handle, as `RenewingHandle::len`. Returns 0 where the handle is closed or of
-/// another kind.
+/// About how many values are in the queue of the handle, as `RenewingHandle::len`. Returns 0 where the handle is closed
+/// or of another kind.
 #[unsafe(no_mangle)]
 pub extern "C" fn kfifo_c_values_len(pass: &mut ValueHandle) -> usize
     ensures counted { (counted : Option ℕ) × (result ≡ count_of counted)
