@@ -2,11 +2,11 @@
 use Rattle.std.proofs.Common.{◌≡◌, ◌≤◌, ⊎_elim, ℕ, zero, suc, List, [], ◌∷◌, ◌++◌, All, map, refl, sym, ap, ◌∙◌, subst, arith, inl, inr}
 use Rattle.std.proofs.lemmas.List.Elements.{All-cons, All-nil}
 use mathlib.Core.List.{IsPrefix}
-use Rattle.kfifo_live.specs.Pass.{HasNoEvent, OpenQueue}
+use Rattle.kfifo_live.specs.Pass.{OpenQueue}
 use Rattle.kfifo_live.specs.Tokens.{new_token_passes}
 use Rattle.kfifo_pool.specs.Pooled.{Pooled, new_handle, new_handles}
 use Rattle.kfifo_renewing.specs.declared.change.Change.{Change}
-use Rattle.kfifo_renewing.specs.Renewing.{HeldIn, IsNew, LeavesGone}
+use Rattle.kfifo_renewing.specs.Renewing.{HeldIn, IsNew, IsUntouched, LeavesGone}
 use Rattle.kfifo_renewing.proofs.Histories.{left-later, made-later}
 use Rattle.kfifo_renewing.proofs.Parts.{all-next}
 
@@ -53,17 +53,17 @@ module _ {T : Type 0} where
   all-kept P log (h ∷ hs) kept (inr (left, free, l)) all = all-kept P log hs kept l (all-next P h hs (h ∷ hs) refl all).1
 
   -- a new generation is new after an earlier one too, and as more of the history is seen
-  pub new-later : (n m : ℕ) (xs ys : List Change) (h : HeldIn T) → n ≤ m → IsPrefix xs ys → IsNew m xs h → IsNew n ys h
-  new-later n m xs ys h up p new =
+  pub new-later : (t n m : ℕ) (xs ys : List Change) (h : HeldIn T) → n ≤ m → IsPrefix xs ys → IsNew t m xs h → IsNew t n ys h
+  new-later t n m xs ys h up p new =
       (let above = new.0 in omega (arith, up, above), made-later xs ys h.number h.handle.held.pass.pass.table p new.1, new.2)
 
-  -- the handles of an opening have begun no call
+  -- the handles of an opening are untouched
   unused_from : (q : OpenQueue) (first count : ℕ)
-      → All (λ (h : Pooled T). HasNoEvent h.held.pass.pass) (map new_handle (new_token_passes q first count))
-  unused_from q first zero = All-nil (λ (h : Pooled T). HasNoEvent h.held.pass.pass)
+      → All (λ (h : Pooled T). IsUntouched h) (map new_handle (new_token_passes q first count))
+  unused_from q first zero = All-nil (λ (h : Pooled T). IsUntouched h)
   unused_from q first (suc count) =
-      All-cons (λ (h : Pooled T). HasNoEvent h.held.pass.pass) _ (map new_handle (new_token_passes q (suc first) count)) refl
+      All-cons (λ (h : Pooled T). IsUntouched h) _ (map new_handle (new_token_passes q (suc first) count)) (refl, refl)
       (unused_from q (suc first) count)
 
-  pub new_unused : (q : OpenQueue) (count : ℕ) → All (λ (h : Pooled T). HasNoEvent h.held.pass.pass) (new_handles q count)
+  pub new_unused : (q : OpenQueue) (count : ℕ) → All (λ (h : Pooled T). IsUntouched h) (new_handles q count)
   new_unused q count = unused_from q 0 count

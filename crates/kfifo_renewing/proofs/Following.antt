@@ -130,7 +130,7 @@ module _ {T : Type 0} where
     joined = [];
     keeps = leaves-refl new.seen (all_of old);
     all = ap (λ (g : Generations T). all_of g) is ∙ sym (append-nil (all_of old));
-    all_new = All-nil (IsNew old.number new.seen);
+    all_new = All-nil (IsNew old.thread old.number new.seen);
   }
 
   -- what holds of a handle holds after a look, and after a call in the newest generation
@@ -204,12 +204,12 @@ module _ {T : Type 0} where
     joined = [];
     keeps = leaves-refl g.seen (all_of g);
     all = sym (append-nil (all_of g));
-    all_new = All-nil (IsNew g.number g.seen);
+    all_new = All-nil (IsNew g.thread g.number g.seen);
   }
 
   pub follows-trans : (a b c : Generations T) → Follows a b → Follows b c → Follows a c
   follows-trans a b c f g =
-      let P = IsNew a.number c.seen in
+      let P = IsNew a.thread a.number c.seen in
       let s = leaves-split c.seen f.kept f.joined g.kept (subst (λ l. LeavesGone c.seen l g.kept) f.all g.keeps) in
       record {
         later = later-trans a b c f.later g.later;
@@ -220,8 +220,11 @@ module _ {T : Type 0} where
         all = g.all ∙ ap (λ l. l ++ g.joined) s.2 ∙ append_assoc s.0 s.1 g.joined;
         all_new = All-append P s.1 g.joined
             (all-kept P c.seen f.joined s.1 s.4
-            (All-weaker (IsNew a.number b.seen) P (λ h new. new-later a.number a.number b.seen c.seen h (omega arith) g.later.seen new) f.joined f.all_new))
-            (All-weaker (IsNew b.number c.seen) P (λ h new. new-later a.number b.number c.seen c.seen h f.up ([], append-nil c.seen) new) g.joined g.all_new);
+            (All-weaker (IsNew a.thread a.number b.seen) P
+            (λ h new. new-later a.thread a.number a.number b.seen c.seen h (omega arith) g.later.seen new) f.joined f.all_new))
+            (All-weaker (IsNew b.thread b.number c.seen) P
+            (λ h new. new-later a.thread a.number b.number c.seen c.seen h f.up ([], append-nil c.seen)
+            (subst (λ t. IsNew t b.number c.seen h) f.later.thread new)) g.joined g.all_new);
       }
 
   -- some of the older ones fewer
@@ -238,13 +241,13 @@ module _ {T : Type 0} where
         keeps = leaves-append new.seen old.older new.older last (record { handle = new.newest; number = new.number } ∷ []) older
             (inl ([], same, refl));
         all = sym (append-nil (all_of new));
-        all_new = All-nil (IsNew old.number new.seen);
+        all_new = All-nil (IsNew old.thread old.number new.seen);
       }
 
   -- generations more, the newest of which is the handle's newest then
   pub follows-jump : (old new : Generations T) (between : List (HeldIn T)) → IsLater old new → old.number ≤ new.number
       → new.older ≡ all_of old ++ between
-      → All (IsNew old.number new.seen) (between ++ record { handle = new.newest; number = new.number } ∷ []) → Follows old new
+      → All (IsNew old.thread old.number new.seen) (between ++ record { handle = new.newest; number = new.number } ∷ []) → Follows old new
   follows-jump old new between later up older all_new =
       let last : List (HeldIn T) = record { handle = new.newest; number = new.number } ∷ [] in
       record {

@@ -4,10 +4,10 @@ use Rattle.std.specs.List.{Contains}
 use Rattle.atomic_table.specs.Seated.{TableId}
 use Rattle.logbook.specs.Pages.{Book}
 use Rattle.kfifo_pool.specs.Pooled.{Pooled}
-use Rattle.kfifo_live.specs.Pass.{HasNoEvent, IsPassOf, IsSamePass}
+use Rattle.kfifo_live.specs.Pass.{IsPassOf, IsSamePass}
 use Rattle.kfifo_live.specs.declared.view.Opening.{Opening}
 use Rattle.kfifo_renewing.specs.History.{HasLeft, HasRisen, IsGone, IsMade, IsPlaced, WasNewest, place_count}
-use Rattle.kfifo_renewing.specs.Renewing.{FindsEmpty, HeldIn, IsOpenedAs, Numbered}
+use Rattle.kfifo_renewing.specs.Renewing.{FindsEmpty, HeldIn, IsFresh, IsOpenedAs, Numbered}
 use Rattle.kfifo_renewing.specs.declared.change.Change.{Change}
 
 -- a part in a generation: the handle there, and the number and the place of the generation
@@ -54,9 +54,9 @@ module _ {T : Type 0} where
   abbrev pub held_by : List (PartView T) → List (HeldIn T)
   held_by = map held_in
 
-  -- a part in which its thread has begun no call, in a generation that comes after this number
-  abbrev pub IsUnused : ℕ → PartView T → Type 0
-  IsUnused number p = (number < p.number) × HasNoEvent p.handle.held.pass.pass
+  -- a part of this thread, with a fresh handle, in a generation that comes after this number
+  abbrev pub IsUnused : ℕ → ℕ → PartView T → Type 0
+  IsUnused thread number p = (number < p.number) × IsFresh thread p.handle
 
   -- one of these parts is in the generation with this number
   abbrev pub HasNumber : List (PartView T) → ℕ → Type 0

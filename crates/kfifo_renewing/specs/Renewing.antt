@@ -25,7 +25,7 @@ use Rattle.kfifo_live.specs.declared.payload.opening.TheConstants.{MOST_TOKENS}
 use Rattle.kfifo_live.specs.declared.tokens.sizes.Sizes.{Sizes}
 use Rattle.kfifo_live.specs.declared.tokens.sizes.SizesFault.{SizesFault}
 use Rattle.kfifo_live.specs.declared.view.Opening.{Opening}
-use Rattle.kfifo_pool.specs.Pooled.{GivesOne, Pooled, ReceivesOne, no_cells}
+use Rattle.kfifo_pool.specs.Pooled.{GivesOne, Pooled, ReceivesOne, new_handle, no_cells}
 use Rattle.kfifo_renewing.specs.History.{HasLeft, IsGone, IsMade, NewestWas, WasNewest, newest_of, place_count}
 use Rattle.kfifo_renewing.specs.History.{sight_of}
 use Rattle.kfifo_renewing.specs.declared.change.Change.{Change}
@@ -228,10 +228,18 @@ module _ {T : Type 0} where
   LeavesGone log (h ∷ hs) kept = ((rest : List (HeldIn T)) × (kept ≡ h ∷ rest) × LeavesGone log hs rest)
       ⊎ (HasLeft log h.number × (h.handle.cells ≡ no_cells) × LeavesGone log hs kept)
 
-  -- a handle in a generation that comes after this number, in which its thread has begun no call
-  abbrev pub IsNew : ℕ → List Change → HeldIn T → Type 0
-  IsNew number log h = (number < h.number) × IsMade log h.number h.handle.held.pass.pass.table
-      × HasNoEvent h.handle.held.pass.pass
+  -- a handle with the first starts, without free tokens or cells, whose thread has begun no call
+  abbrev pub IsUntouched : Pooled T → Type 0
+  IsUntouched h = (h ≡ new_handle h.held.pass) × HasNoEvent h.held.pass.pass
+
+  -- such a handle of this thread
+  abbrev pub IsFresh : ℕ → Pooled T → Type 0
+  IsFresh thread h = IsUntouched h × (h.held.pass.pass.thread ≡ thread)
+
+  -- such a handle of this thread, in a generation that comes after this number
+  abbrev pub IsNew : ℕ → ℕ → List Change → HeldIn T → Type 0
+  IsNew thread number log h = (number < h.number) × IsMade log h.number h.handle.held.pass.pass.table
+      × IsFresh thread h.handle
 
   -- A handle follows others. It keeps what it has joined as it is, but for generations that have left their places, and
   -- joins some later ones. Nothing is done in any of them
@@ -242,16 +250,16 @@ module _ {T : Type 0} where
     pub joined : List (HeldIn T)
     pub keeps : LeavesGone new.seen (all_of old) kept
     pub all : all_of new ≡ kept ++ joined
-    pub all_new : All (IsNew old.number new.seen) joined
+    pub all_new : All (IsNew old.thread old.number new.seen) joined
 
   -- what `len` did: the handle followed others, and counted at most one value for each slot of its generations
   abbrev pub Counts : ℕ → Generations T → Generations T → Type 0
   Counts count old new = Follows old new × (count ≤ length (all_of new) * slots_of new.opened)
 
-  -- a handle that has joined one generation alone, the first, of this queue, in this history
+  -- a handle that has joined one generation alone, the first, of this queue, in this history, and is fresh there
   abbrev pub HasOne : OpenQueue → Book → Generations T → Type 0
   HasOne q book g = (g.opened ≡ q.opened) × (g.book ≡ book) × (g.older ≡ []) × (g.number ≡ 0)
-      × IsPassOf q g.newest.held.pass.pass
+      × IsPassOf q g.newest.held.pass.pass × IsFresh g.thread g.newest
 
   -- handles of all threads, in their order, that have joined one generation, the same each, which has this opening, in
   -- one history

@@ -1,9 +1,9 @@
 //! A generation: a queue of payloads, with the handles that wait in it for their threads.
 ghost use Rattle.std.specs.Prelude.{◌≡◌, ◌<◌, ◌≤◌, ◌+◌, ◌++◌, [], ◌∷◌, All, IfOk, IfSome, length, map, true};
 ghost use Rattle.std.specs.Prelude.{vec_capacity};
-ghost use Rattle.kfifo_live.specs.Pass.{HasNoEvent, IsPassOf};
+ghost use Rattle.kfifo_live.specs.Pass.{IsPassOf};
 ghost use Rattle.kfifo_renewing.specs.History.{IsMade};
-ghost use Rattle.kfifo_renewing.specs.Renewing.{Numbered, other_threads, without};
+ghost use Rattle.kfifo_renewing.specs.Renewing.{IsFresh, IsUntouched, Numbered, other_threads, without};
 
 use crate::history::{History, Next};
 use crate::memory::CellMemory;
@@ -49,7 +49,7 @@ impl<T: Drop> Fits for Waiting<T> {
     type Tag = PooledQueue<T>;
 
     ghost fits = { λ queue waiting. IsPassOf queue waiting.handle.inner.held.pass.pass
-        × (waiting.is_unused ≡ true → HasNoEvent waiting.handle.inner.held.pass.pass) };
+        × (waiting.is_unused ≡ true → IsUntouched waiting.handle.inner) };
 }
 
 /// A queue of payloads with its number and what it says of the next one, the handles that wait in it, and how many
@@ -87,7 +87,7 @@ fn seat_all<T: Drop>(
     queue: &PooledQueue<T>,
     handles: Vec<PooledHandle<T>>,
 ) -> Result<Vec<Counted<Option<Waiting<T>>>>, AllocError>
-    requires { All (λ h. IsPassOf queue.now h.held.pass.pass × HasNoEvent h.held.pass.pass) handles.items }
+    requires { All (λ h. IsPassOf queue.now h.held.pass.pass × IsUntouched h) handles.items }
     ensures { IfOk result (λ waiting. All (λ q. q ≡ queue.now) waiting.items) }
 {
     let mut waiting = Vec::with_capacity(alloc, handles.len())?;
@@ -146,7 +146,7 @@ impl<T: Drop> Generation<T> {
         history: History,
         memory: CellMemory,
     ) -> Result<Generation<T>, AllocError>
-        requires handles { All (λ h. IsPassOf queue h.held.pass.pass × HasNoEvent h.held.pass.pass) handles.items }
+        requires handles { All (λ h. IsPassOf queue h.held.pass.pass × IsUntouched h) handles.items }
         requires number { IsMade history.log next.number queue.table × (next.book ≡ history.book) }
         ensures { IfOk result (λ g. (g.queue ≡ queue) × (g.number ≡ next.number) × (g.book ≡ history.book)) }
     {
@@ -200,7 +200,7 @@ impl<T: Drop> Generation<T> {
 
     /// The handle of this thread, unless its thread has it already, or has given it back.
     pub(crate) fn take_handle(&self, thread: u32) -> Option<PooledHandle<T>>
-        ensures { IfSome result (λ h. IsPassOf self.now.queue h.held.pass.pass × HasNoEvent h.held.pass.pass) }
+        ensures { IfSome result (λ h. IsPassOf self.now.queue h.held.pass.pass × IsFresh thread h) }
     {
         let place = self.waiting.get(thread as usize)?;
         let (found, claim) = place.turn(FREE, TAKEN);
@@ -211,7 +211,8 @@ impl<T: Drop> Generation<T> {
         let waiting = claim.put(None, FREE)?;
         let is_unused = waiting.is_unused;
         let handle = waiting.into_handle();
-        if is_unused {
+        // In its place waits the handle of this thread. No clause says so, and a look does.
+        if is_unused && handle.pass().thread() == thread {
             return Some(handle);
         }
         self.give_back(thread, handle, false);
@@ -222,7 +223,7 @@ impl<T: Drop> Generation<T> {
     /// no call with it.
     pub(crate) fn give_back(&self, thread: u32, handle: PooledHandle<T>, is_unused: bool)
         requires of { IsPassOf self.now.queue handle.held.pass.pass }
-        requires unused { is_unused ≡ true → HasNoEvent handle.held.pass.pass }
+        requires unused { is_unused ≡ true → IsUntouched handle }
     {
         let Some(place) = self.waiting.get(thread as usize) else {
             return;

@@ -3,12 +3,13 @@ ghost use Rattle.std.specs.Prelude.{◌≡◌, ◌<◌, ◌≤◌, ◌+◌, ◌*
 ghost use Rattle.std.specs.Prelude.{vec_capacity, vec_len};
 ghost use Rattle.std.specs.Ptr.{as_ptr};
 ghost use mathlib.Core.List.{IsPrefix};
-ghost use Rattle.kfifo_live.specs.Pass.{HasNoEvent, IsPassOf};
+ghost use Rattle.kfifo_live.specs.Pass.{IsPassOf};
 ghost use Rattle.kfifo_live.specs.declared.view.Opening.{Opening};
 ghost use Rattle.kfifo_renewing.specs.History.{HasRisen, WasNewest, place_count};
 ghost use Rattle.kfifo_renewing.specs.Joining.{AreAmong, AreSameParts, HasJoined, IsPart, IsUnused, held_by};
 ghost use Rattle.kfifo_renewing.specs.Renewing.{Counts, Follows, Generations, GivesToNewest, GoesOn, HasAll, HeldIn};
-ghost use Rattle.kfifo_renewing.specs.Renewing.{IsAtNewest, IsBehind, IsLater, IsOpenedAs, LeavesGone, LooksAgain};
+ghost use Rattle.kfifo_renewing.specs.Renewing.{IsAtNewest, IsBehind, IsFresh, IsLater, IsOpenedAs, IsUntouched};
+ghost use Rattle.kfifo_renewing.specs.Renewing.{LeavesGone, LooksAgain};
 ghost use Rattle.kfifo_renewing.specs.Renewing.{TakesBy, TakesFirst, TakesFromOldest, TakesNewest, TakesOldest};
 ghost use Rattle.kfifo_renewing.specs.Renewing.{TriesAgain, TriesToGive, all_of, opening_in, slots_of, with_older};
 ghost use Rattle.kfifo_renewing.specs.Renewing.{with_seen};
@@ -107,10 +108,12 @@ impl<T: Drop, K: Kind<T>> RenewingHandle<T, K> {
         requires first { (generation.value.number ≡ 0) × (newest.number ≡ 0) }
         requires part { IsPart history.log newest }
         requires of { IsPassOf generation.value.queue newest.handle.held.pass.pass }
+        requires fresh { IsFresh thread newest.handle }
         requires risen { HasRisen history.log }
         ensures same { IfOk result (λ h. (h.opened ≡ opening_in shared.value) × (h.thread ≡ thread)
             × (h.book ≡ history.book)) }
         ensures one { IfOk result (λ h. (h.older ≡ []) × (h.newest ≡ newest.handle) × (h.number ≡ 0)) }
+        ensures fresh { IfOk result (λ h. IsFresh h.thread h.newest) }
     {
         let room = shared.most_older().saturating_add(KEPT);
         let room = room.min(shared.places().count());
@@ -165,7 +168,7 @@ impl<T: Drop, K: Kind<T>> RenewingHandle<T, K> {
         ensures of { IfSome result (λ r. IsOpenedAs self.now.opened r.1.handle
             × IsPassOf r.0.value.queue r.1.handle.held.pass.pass × (r.0.value.book ≡ self.now.book)) }
         ensures part { IfSome result (λ r. (r.0.value.number ≡ number) × (r.1.number ≡ number)
-            × IsPart history.new.log r.1 × HasNoEvent r.1.handle.held.pass.pass) }
+            × IsPart history.new.log r.1 × IsFresh self.now.thread r.1.handle) }
     {
         if !self.shared.places().has(place, number, history) {
             return None;
@@ -192,7 +195,7 @@ impl<T: Drop, K: Kind<T>> RenewingHandle<T, K> {
             × IsPassOf r.0.value.queue r.1.handle.held.pass.pass × (r.0.value.book ≡ self.now.book)) }
         ensures part { IfSome result (λ r. (r.0.value.number ≡ number) × (r.1.number ≡ number)
             × IsPart history.new.log r.1 × (self.now.number < number)
-            × HasNoEvent r.1.handle.held.pass.pass) }
+            × IsFresh self.now.thread r.1.handle) }
     {
         let number = u32::try_from(number).ok()?;
         if number <= self.number() {
@@ -216,7 +219,7 @@ impl<T: Drop, K: Kind<T>> RenewingHandle<T, K> {
         ensures opened { All (λ p. IsOpenedAs self.now.opened p.handle) between.new.items }
         ensures parts { All (IsPart history.new.log) between.new.items }
         ensures below { All (λ p. p.number < end) between.new.items }
-        ensures unused { All (IsUnused self.now.number) between.new.items }
+        ensures unused { All (IsUnused self.now.thread self.now.number) between.new.items }
         ensures all { result ≡ true → AreAmong self.now.number end between.new.items history.old.log history.new.log }
     {
         let mut number = self.number();
@@ -288,7 +291,8 @@ impl<T: Drop, K: Kind<T>> RenewingHandle<T, K> {
         requires opened { All (λ p. IsOpenedAs self.old.opened p.handle) between.items }
         requires parts { All (IsPart history.now.log) between.items }
         requires below { All (λ p. p.number < generation.value.number) between.items }
-        requires unused { HasNoEvent newest.handle.held.pass.pass × All (IsUnused self.old.number) between.items }
+        requires unused { IsFresh self.old.thread newest.handle
+            × All (IsUnused self.old.thread self.old.number) between.items }
         requires all { AreAmong self.old.number generation.value.number between.items self.old.seen history.now.log }
         ensures { Follows self.old self.new }
     {
@@ -563,13 +567,18 @@ impl<T: Drop, K: Kind<T>> RenewingHandle<T, K> {
         let generation: &Generation<T> = &self.generation;
         let later = generation.next().look(&self.newest, &mut self.history);
         // One test for both.
+        // What is rare goes out of line, and its answer into a local: written where the result is to be, it would keep
+        // each result in memory, copied from place to place.
         if later + self.older.len() as u64 != 0 {
-            return self.take_late();
+            let taken = self.take_late();
+            return taken;
         }
-        // What is rare goes out of line, and leaves one test of what was taken.
         match self.newest.take::<K>(generation) {
             Taken::Got(got) => Taken::Got(got),
-            taken => self.look_again(taken),
+            taken => {
+                let taken = self.look_again(taken);
+                taken
+            }
         }
     }
 
@@ -679,7 +688,7 @@ fn make_room<T: Drop>(older: &mut Vec<Leaving<Joined<T>>>, count: usize) -> bool
 
 /// Leaves these generations, in which their thread has begun no call and which it may join again.
 fn leave_unused<T: Drop>(parts: &mut Vec<Leaving<Joined<T>>>)
-    requires { All (λ p. HasNoEvent p.handle.held.pass.pass) parts.old.items }
+    requires { All (λ p. IsUntouched p.handle) parts.old.items }
     ensures { parts.new.items ≡ [] }
 {
     while let Some(part) = parts.pop() {

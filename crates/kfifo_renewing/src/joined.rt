@@ -1,9 +1,9 @@
 //! A generation that a handle has joined.
 ghost use Rattle.std.specs.Prelude.{◌≡◌, ◌↔◌, IfSome, false, true};
-ghost use Rattle.kfifo_live.specs.Pass.{HasNoEvent, IsPassOf};
+ghost use Rattle.kfifo_live.specs.Pass.{IsPassOf};
 ghost use Rattle.kfifo_pool.specs.Pooled.{GivesOne, no_cells};
 ghost use Rattle.kfifo_renewing.specs.Joining.{FoundEmpty, IsSamePart, PartView};
-ghost use Rattle.kfifo_renewing.specs.Renewing.{FindsEmpty, TakesThere};
+ghost use Rattle.kfifo_renewing.specs.Renewing.{FindsEmpty, IsFresh, IsUntouched, TakesThere};
 
 use crate::generation::Generation;
 use crate::kind::Kind;
@@ -50,7 +50,7 @@ impl<T: Drop> Joined<T> {
         thread: u32,
     ) -> Option<Leaving<Joined<T>>>
         ensures of { IfSome result (λ p. IsPassOf generation.value.queue p.handle.held.pass.pass
-            × HasNoEvent p.handle.held.pass.pass) }
+            × IsFresh thread p.handle) }
         ensures at { IfSome result (λ p. (p.number ≡ generation.value.number) × (p.place ≡ place)) }
     {
         let handle = generation.take_handle(thread)?;
@@ -112,7 +112,7 @@ impl<T: Drop> Leave for Joined<T> {
 impl<T: Drop> Leaving<Joined<T>> {
     /// Leaves the generation, in which its thread has begun no call and which it may join again.
     pub(crate) fn leave_unused(self)
-        requires { HasNoEvent self.handle.held.pass.pass }
+        requires { IsUntouched self.handle }
     {
         let mut part = self.into_part();
         part.end_giving();

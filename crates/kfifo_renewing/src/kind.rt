@@ -1,11 +1,11 @@
 //! What the generations of a queue hold: payloads, or the tokens of cells.
 ghost use Rattle.std.specs.Prelude.{◌≡◌, Bool, All, IfOk, false, true};
 ghost use Rattle.kfifo_live.specs.Calls.{IsDisturbed};
-ghost use Rattle.kfifo_live.specs.Pass.{HasNoEvent, IsPassOf, IsSamePass};
+ghost use Rattle.kfifo_live.specs.Pass.{IsPassOf, IsSamePass};
 ghost use Rattle.kfifo_live.specs.declared.payload.Taken.{Taken as HasTaken};
 ghost use Rattle.kfifo_pool.specs.Pooled.{Pooled, ReceivesOne};
 ghost use Rattle.kfifo_renewing.specs.Memory.{ReceivesAt};
-ghost use Rattle.kfifo_renewing.specs.Renewing.{AreInRange, FindsEmpty, TakesThere, opening_with};
+ghost use Rattle.kfifo_renewing.specs.Renewing.{AreInRange, FindsEmpty, IsUntouched, TakesThere, opening_with};
 
 use crate::memory::{CellAt, CellMemory};
 use kfifo_live::{Sizes, Taken};
@@ -34,7 +34,7 @@ pub trait Kind<T: Drop> {
     ) -> Result<(PooledQueue<T>, Vec<PooledHandle<T>>), AllocError>
         requires { AreInRange sizes.now }
         ensures opened { IfOk result (λ r. r.0.opened ≡ opening_with bare sizes.now) }
-        ensures of { IfOk result (λ r. All (λ h. IsPassOf r.0 h.held.pass.pass × HasNoEvent h.held.pass.pass) r.1.items) };
+        ensures of { IfOk result (λ r. All (λ h. IsPassOf r.0 h.held.pass.pass × IsUntouched h) r.1.items) };
 
     /// Takes from a generation, whose queue this is, and whose cells lie in this memory.
     fn take(

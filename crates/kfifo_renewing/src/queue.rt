@@ -2,7 +2,7 @@
 ghost use Rattle.std.specs.Prelude.{◌≡◌, ◌<◌, ◌≤◌, ◌*◌, ◌++◌, ◌⊎◌, ◌↔◌, All, IfOk, IfSome, IsErrOf, ℕ, List, [], ◌∷◌};
 ghost use Rattle.std.specs.Prelude.{◌+◌, false, length, map, true};
 ghost use Rattle.kfifo_live.specs.Capacities.{sizes_fault};
-ghost use Rattle.kfifo_live.specs.Pass.{HasNoEvent, IsPassOf};
+ghost use Rattle.kfifo_live.specs.Pass.{IsPassOf};
 ghost use Rattle.kfifo_live.specs.Refusals.{IsOutOf};
 ghost use Rattle.kfifo_live.specs.Schedule.{count_up};
 ghost use Rattle.kfifo_live.specs.declared.fault.OpenFault.TheVariants.{ThreadsOutOfRange, TokensOutOfRange};
@@ -17,7 +17,7 @@ ghost use Rattle.kfifo_renewing.specs.Joining.{held_by};
 ghost use Rattle.kfifo_renewing.specs.Renewing.{AreInRange, ClosesAll, ClosesEach, Generations, HasOne, HaveOne};
 ghost use Rattle.kfifo_renewing.specs.Renewing.{Gathers, HasBadGenerations, HasBadReserve, HasBadThreads};
 ghost use Rattle.kfifo_renewing.specs.Renewing.{HasBadTokens, IsOfLineage, IsPlan, OpensOrRefuses};
-ghost use Rattle.kfifo_renewing.specs.Renewing.{IsOpenedAs, OpensFor, RefusesFor, WereLeft, generations_for};
+ghost use Rattle.kfifo_renewing.specs.Renewing.{IsOpenedAs, IsUntouched, OpensFor, RefusesFor, WereLeft, generations_for};
 ghost use Rattle.kfifo_renewing.specs.Renewing.{opening_again, opening_with};
 ghost use Rattle.kfifo_renewing.specs.Renewing.{sizes_again};
 ghost use Rattle.kfifo_renewing.specs.declared.queue.TheConstants.{DEFAULT_RESERVE};
@@ -248,7 +248,7 @@ fn open_parts<T: Drop, K: Kind<T>>(
 ) -> Result<(PooledQueue<T>, Vec<PooledHandle<T>>, CellMemory), AllocError>
     requires { AreInRange sizes.now }
     ensures opened { IfOk result (λ r. r.0.opened ≡ opening_with K.bare sizes.now) }
-    ensures of { IfOk result (λ r. All (λ h. IsPassOf r.0 h.held.pass.pass × HasNoEvent h.held.pass.pass) r.1.items) }
+    ensures of { IfOk result (λ r. All (λ h. IsPassOf r.0 h.held.pass.pass × IsUntouched h) r.1.items) }
     ensures room { IfOk result
         (λ r. sizes.now.threads * sizes.now.tokens * layout.size + layout.alignment ≤ 8 * r.2) }
 {

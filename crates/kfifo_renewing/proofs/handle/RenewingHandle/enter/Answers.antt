@@ -2,7 +2,7 @@
 use Rattle.std.proofs.Common.{◌≡◌, ◌<◌, rules, sym, ap, ◌∙◌, subst}
 use Rattle.kfifo_renewing.specs.declared.change.Change.TheVariants as C
 use Rattle.kfifo_renewing.specs.History.{IsMade, IsPlaced, place_count}
-use Rattle.kfifo_renewing.specs.Renewing.{Numbered}
+use Rattle.kfifo_renewing.specs.Renewing.{Generations, Numbered}
 use Rattle.kfifo_renewing.proofs.Histories.{contains-later, made-later}
 use Rattle.kfifo_renewing.proofs.handle.RenewingHandle.enter.Goals as goal
 
@@ -25,5 +25,5 @@ returns-clause-part g c =
         placed = subst (λ n. IsPlaced log n joined.place) (sym same) (subst (IsPlaced log c.args.number) (sym c.in_ok-joined.ensures.at.1)
             (contains-later c.has.new.history.log log (C.Placed c.args.number c.args.place) c.learn.ensures.2 c.if-not-has.ensures.finds));
       },
-      c.in_ok-joined.ensures.of.1,
+      (c.in_ok-joined.ensures.of.1.0, c.in_ok-joined.ensures.of.1.1 ∙ ap (λ (v : Generations g.row.T.Denot). v.thread) c.self.view_is),
     )

@@ -71,7 +71,7 @@ returns-in_default-reserve-clause-below g c =
 
 pub returns-in_default-reserve-clause-unused : goal.returns-in_default-reserve-clause-unused
 returns-in_default-reserve-clause-unused g c =
-    subst (All (IsUnused {T = g.row.T.Denot} c.args.self.now.number)) (sym c.reserve.ensures.items) c.loop.invariant.unused
+    subst (All (IsUnused {T = g.row.T.Denot} c.args.self.now.thread c.args.self.now.number)) (sym c.reserve.ensures.items) c.loop.invariant.unused
 
 pub loop-preserved : goal.loop-preserved
 loop-preserved g c =
@@ -96,5 +96,5 @@ loop-preserved g c =
       below = each (λ (p : PartView T). p.number < c.args.end) i.below
           (omega (arith, entered.part.1, c.in-Some.ensures.between.2));
       from = let low = i.from in omega (arith, low, above);
-      unused = each (IsUnused c.args.self.now.number) i.unused (let low = i.from in omega (arith, low, above, entered.part.1), entered.part.3);
+      unused = each (IsUnused c.args.self.now.thread c.args.self.now.number) i.unused (let low = i.from in omega (arith, low, above, entered.part.1), entered.part.3);
     }

@@ -15,5 +15,5 @@ invariant-loop g l = record {
   parts : All (IsPart l.history.log) l.between.items;
   below : All (λ p. p.number < l.fn.end) l.between.items;
   from : l.fn.self.number ≤ l.number;
-  unused : All (IsUnused l.fn.self.number) l.between.items;
+  unused : All (IsUnused l.fn.self.thread l.fn.self.number) l.between.items;
 }

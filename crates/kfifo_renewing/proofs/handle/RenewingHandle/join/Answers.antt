@@ -3,10 +3,10 @@ use Rattle.std.proofs.Common.{◌≡◌, ◌<◌, ◌∷◌, [], ◌++◌, All, 
 use Rattle.std.proofs.lemmas.List.{append-nil, map-append}
 use Rattle.std.proofs.lemmas.List.Elements.{All-map, All-push}
 use mathlib.Core.List.{IsPrefix}
-use Rattle.kfifo_live.specs.Pass.{HasNoEvent, IsPassOf}
+use Rattle.kfifo_live.specs.Pass.{IsPassOf}
 use Rattle.kfifo_renewing.specs.History.{IsMade, WasNewest, newest_of}
 use Rattle.kfifo_renewing.specs.Joining.{AreAmong, IsPart, PartView, held_by, held_in}
-use Rattle.kfifo_renewing.specs.Renewing.{Generations, HeldIn, IsNew, IsOpenedAs, LeavesGone, all_of, opening_in}
+use Rattle.kfifo_renewing.specs.Renewing.{Generations, HeldIn, IsFresh, IsNew, IsOpenedAs, LeavesGone, all_of, opening_in}
 use Rattle.kfifo_renewing.proofs.Histories.{risen-from}
 use Rattle.kfifo_renewing.proofs.Joining.{all-moved, among-later, joined-more, part-later, parts-later}
 use Rattle.kfifo_renewing.proofs.Departures.{leaves-refl}
@@ -56,7 +56,7 @@ returns g c =
     let next = c.args.generation.value in
     let k = c.replace-before.new.dest in
     let between = c.args.between.items in
-    let P : HeldIn T → Type 0 = IsNew now.number log in
+    let P : HeldIn T → Type 0 = IsNew now.thread now.number log in
     let seen = ap (λ (h : Generations T). h.seen) view_is in
     let more = subst (λ l. IsPrefix l log) seen c.learn.ensures.2 in
     let parts = parts-later c.args.history.now.log log between c.learn.ensures.3 c.requires.parts in
@@ -68,7 +68,7 @@ returns g c =
     let last : P (record { handle = k.handle; number = next.number }) = (
       c.requires.later,
       subst (λ n. IsMade log n k.handle.held.pass.pass.table) number part.made,
-      subst (λ (p : PartView T). HasNoEvent p.handle.held.pass.pass) (sym c.replace-before.ensures.after) c.requires.unused.0,
+      subst (λ (p : PartView T). IsFresh now.thread p.handle) (sym c.replace-before.ensures.after) c.requires.unused.0,
     ) in
     follows-jump now _ (held_by between) (record {
       opened = ap (λ (h : Generations T). h.opened) view_is;
@@ -87,7 +87,7 @@ returns g c =
     (All-push P (held_by between) (record { handle = k.handle; number = next.number }) each last)
 
 pub leave_unused-requires : goal.leave_unused-requires
-leave_unused-requires g c i d inside = (c.requires.unused.1 i d inside).1
+leave_unused-requires g c i d inside = (c.requires.unused.1 i d inside).1.0
 
 pub returns-then-not-make_room : goal.returns-then-not-make_room
 returns-then-not-make_room g c =

@@ -17,7 +17,7 @@ returns-then-not-enter_below g c =
     (follows-refl c.args.self.now)
 
 pub leave_unused-requires : goal.leave_unused-requires
-leave_unused-requires g c i d inside = (c.enter_below.ensures.unused i d inside).1
+leave_unused-requires g c i d inside = (c.enter_below.ensures.unused i d inside).1.0
 
 pub join-requires-clause-part : goal.join-requires-clause-part
 join-requires-clause-part g c =

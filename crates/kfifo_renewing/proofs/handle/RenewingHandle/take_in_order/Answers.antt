@@ -41,15 +41,15 @@ returns-then-later-len-ne0 g c =
           log c.self.inside.generation.value c.self.inside.newest c.self.inside.older.items i,
     ) in
     let h = c.self.inside.newest.handle in
-    let r = c.take_late.result in
-    let end = c.take_late.new.self in
+    let r = c.take_late-taken.result in
+    let end = c.take_late-taken.new.self in
     let is = same-but-seen new h now (ap (λ (v : Generations T). v.opened) c.self.view_is)
     (ap (λ (v : Generations T). v.thread) c.self.view_is)
     (c.look-later.ensures.book ∙ ap (λ (v : Generations T). v.book) c.self.view_is)
     (ap (λ (v : Generations T). v.older) c.self.view_is) (ap (λ (v : Generations T). v.number) c.self.view_is) in
     let here = is ∙ ap (λ (x : Pooled T). with_newest (with_seen now new) x) (ap (λ (v : Generations T). v.newest) c.self.view_is) in
     takes-from-after R r now (with_seen now new) end (looked-follows found new now looked)
-    (subst (λ (v : Generations T). TakesBy R r v end) here c.take_late.ensures)
+    (subst (λ (v : Generations T). TakesBy R r v end) here c.take_late-taken.ensures)
 
 pub invariant_of-self-in-Got : goal.invariant_of-self-in-Got
 invariant_of-self-in-Got g c = (
@@ -144,9 +144,9 @@ returns-in_default g c =
     (ap (λ (v : Generations T). v.thread) c.self.view_is)
     (c.look-later.ensures.book ∙ ap (λ (v : Generations T). v.book) c.self.view_is)
     (ap (λ (v : Generations T). v.older) c.self.view_is) (ap (λ (v : Generations T). v.number) c.self.view_is) in
-    let end = c.look_again.new.self in
-    let r = c.look_again.result in
+    let end = c.look_again-taken.new.self in
+    let r = c.look_again-taken.result in
     took-other R c.take.result r now end found new h looked none all alone takes
-    (subst (λ (v : Generations T). end ≡ with_seen v end.seen) is c.look_again.ensures.same)
-    (subst (λ (v : Generations T). IsLater v end) is c.look_again.ensures.later)
-    (subst (λ (v : Generations T). LooksAgain c.take.result r v end) is c.look_again.ensures.looks)
+    (subst (λ (v : Generations T). end ≡ with_seen v end.seen) is c.look_again-taken.ensures.same)
+    (subst (λ (v : Generations T). IsLater v end) is c.look_again-taken.ensures.later)
+    (subst (λ (v : Generations T). LooksAgain c.take.result r v end) is c.look_again-taken.ensures.looks)

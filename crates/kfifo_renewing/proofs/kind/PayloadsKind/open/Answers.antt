@@ -1,7 +1,7 @@
--- The handles of an opening have begun no call.
+-- The handles of an opening are untouched.
 use Rattle.std.proofs.Common.{All, sym, subst}
-use Rattle.kfifo_live.specs.Pass.{HasNoEvent}
 use Rattle.kfifo_pool.specs.Pooled.{Pooled}
+use Rattle.kfifo_renewing.specs.Renewing.{IsUntouched}
 use Rattle.kfifo_renewing.proofs.Departures.{new_unused}
 use Rattle.kfifo_renewing.proofs.kind.PayloadsKind.open.Goals as goal
 
@@ -10,6 +10,6 @@ returns-clause-of g c i d inside =
     let T = g.row.T.Denot in
     let ensures = c.in_ok-opened.ensures in (
       ensures.of i d inside,
-      subst (All (λ (h : Pooled T). HasNoEvent h.held.pass.pass)) (sym ensures.handles)
+      subst (All (λ (h : Pooled T). IsUntouched h)) (sym ensures.handles)
           (new_unused {T = T} c.in_ok-opened.opened.0 c.args.sizes.now.threads) i d inside,
     )
