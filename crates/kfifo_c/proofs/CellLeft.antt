@@ -1,17 +1,7 @@
 -- The cells that are left of a queue, from one on.
-use Rattle.std.proofs.Common.{Option, Some, None, refl, ◌≡◌, ◌<◌, ◌≤◌, ◌+◌, ◌++◌, ◌∷◌, [], ℕ, List, length, drop, get_or, ap, sym, ◌∙◌, arith}
+use Rattle.std.proofs.Common.{◌≡◌, ◌<◌, ◌≤◌, ◌+◌, ◌++◌, ◌∷◌, [], ℕ, List, length, drop, get_or, ap, sym, ◌∙◌, arith}
 use Rattle.std.proofs.lemmas.List.{drop_all, drop_more, drop-append-le}
-use Rattle.kfifo_c.specs.CellLeft.{LeftSeated, left_holds_of}
 use Rattle.kfifo_c.specs.CellQueues.{all_cells}
-
--- what is held, by the number of its handle
-pub something : (o : Option LeftSeated) → ¬ (left_holds_of o ≡ 0) → (x : LeftSeated) × (o ≡ Some x)
-something (Some x) some = (x, refl)
-something None some = absurd (some refl)
-
-pub nothing_at : (o : Option LeftSeated) → left_holds_of o ≡ 0 → o ≡ None
-nothing_at None none = refl
-nothing_at (Some x) none = absurd (omega (arith, none))
 
 -- those of a generation and of the later ones
 split : (gs : List (List ℕ)) (g c : ℕ) → g < length gs → c ≤ length (get_or gs g [])

@@ -3,10 +3,8 @@ use Rattle.std.proofs.Common.{◌≡◌, ◌+◌, ◌*◌, ◌<◌, ◌≤◌, �
 use Rattle.std.proofs.Common.{length, map, take, get_or, refl, sym, ap, subst, ◌∙◌, arith, rules}
 use Rattle.std.specs.Prelude.{◌==◌}
 use Rattle.std.specs.List.{list_any}
-use Rattle.std.proofs.lemmas.List.{take_more, length-map, length-append}
+use Rattle.std.proofs.lemmas.List.{length-map, length-append}
 use Rattle.std.proofs.lemmas.List.Elements.{All-cons, All-head, All-nil, All-tail}
-use Rattle.std.proofs.Math.ListN.{set, get_or-map as get_or_map}
-use Rattle.std.proofs.Math.Seq.{map-set_same}
 use Rattle.kfifo_words.specs.declared.shape.Shape.{Shape}
 use Rattle.kfifo_words.specs.Words.{head_of}
 use Rattle.kfifo_words.specs.Ring.{next_segment, slot_at}
@@ -14,26 +12,17 @@ use Rattle.kfifo_live.specs.Pass.{OpenQueue, PassView, IsPassOf, IsComplete, Clo
 use Rattle.kfifo_live.specs.Left.{item_in, slots_left, segments_left, items_left}
 use Rattle.kfifo_c.specs.declared.handle.Handle.{Handle}
 use Rattle.kfifo_c.specs.Seats.{Seated}
-use Rattle.kfifo_c.specs.Handles.{all_fields, behind, fields_of}
+use Rattle.kfifo_c.specs.Behind.{items_in}
+use Rattle.kfifo_c.specs.Handles.{items_behind}
 use Rattle.kfifo_c.specs.Exports.{passes_in, numbers_in, BeginsWith, HasEach, IsOpenOf, MayClose, OneQueue, AreTheirs}
-
--- a handle gets back what was behind it
-pub put_back : (hs : List Handle) (i : ℕ) (h d : Handle) → h.held.value ≡ (get_or hs i d).held.value → behind (set hs i h) ≡ behind hs
-put_back hs i h d e = map-set_same (λ handle. handle.held.value) hs i h d e
-
--- and the fields stay as they were
-pub same_fields : (hs : List Handle) (i : ℕ) (h d : Handle) → fields_of h ≡ fields_of (get_or hs i d) → all_fields (set hs i h) ≡ all_fields hs
-same_fields hs i h d e = map-set_same (λ handle. fields_of handle) hs i h d e
+use Rattle.kfifo_c.proofs.HandleLists.{items, next_behind}
 
 -- the next handle of a list
-pub next_behind : (hs : List Handle) (os : List (Option Seated)) (i : ℕ) (d : Handle) (o : Option Seated) → behind hs ≡ os → i < length hs
-    → (get_or hs i d).held.value ≡ o
+pub next_items : (hs : List Handle) (os : List (Option Seated)) (i : ℕ) (d : Handle) (o : Option Seated) → items_behind hs ≡ os
+    → i < length hs → items_in (get_or hs i d).held.value ≡ o
     → take (i + 1) os ≡ take i os ++ o ∷ []
-next_behind hs os i d o e below is =
-    let below' : i < length (behind hs) = subst (λ (n : ℕ). i < n) (sym (length-map hs (λ handle. handle.held.value))) below in
-    ap (λ (xs : List (Option Seated)). take (i + 1) xs) (sym e) ∙ take_more (behind hs) i d.held.value below'
-    ∙ ap (λ (x : Option Seated). take i (behind hs) ++ x ∷ []) (get_or_map (λ handle. handle.held.value) hs i d ∙ is)
-    ∙ ap (λ (xs : List (Option Seated)). take i xs ++ o ∷ []) e
+next_items hs os i d o e below is =
+    subst (λ (xs : List (Option Seated)). take (i + 1) xs ≡ take i xs ++ o ∷ []) e (next_behind items hs i d o below is)
 
 pub passes_more : (os : List (Option Seated)) (s : Seated) → passes_in (os ++ Some s ∷ []) ≡ passes_in os ++ s.pass ∷ []
 passes_more [] s = refl

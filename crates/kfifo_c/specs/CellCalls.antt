@@ -1,4 +1,4 @@
--- What C is told of the calls with cells. c/kfifo.h has the same numbers.
+-- What C is told of the calls with cells. c/include/kfifo.h has the same numbers.
 use Rattle.std.specs.Prelude.{◌≡◌, ℕ, Option, Some, None, [], ◌∷◌}
 use Rattle.kfifo_live.specs.declared.payload.Given.{Given}
 use Rattle.kfifo_live.specs.declared.payload.Given.TheVariants as G

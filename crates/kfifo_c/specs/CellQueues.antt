@@ -1,7 +1,8 @@
 -- What C is told of a cell's layout, and what closing a queue of cells says of its handles.
-use Rattle.std.specs.Prelude.{◌≡◌, ℕ, ◌%◌, ◌==◌, ◌&&◌, Bool, not, Option, Some, None, List, [], ◌∷◌, ◌++◌, map, length}
+use Rattle.std.specs.Prelude.{◌≡◌, ℕ, ◌%◌, ◌==◌, ◌&&◌, Bool, not, Option, Some, List, [], ◌∷◌, ◌++◌}
 use Rattle.kfifo_renewing.specs.Cells.{LeavesCells}
 use Rattle.kfifo_renewing.specs.Renewing.{Gathers, HeldIn}
+use Rattle.kfifo_c.specs.AllHandles.{AreAll}
 use Rattle.kfifo_c.specs.CellLeft.{LeftSeated}
 use Rattle.kfifo_c.specs.CellSeats.{CellSeated}
 
@@ -9,19 +10,6 @@ use Rattle.kfifo_c.specs.CellSeats.{CellSeated}
 -- that divide 4,096, and the size is a multiple of it
 abbrev pub is_layout : ℕ → ℕ → Bool
 is_layout size alignment = not (alignment == 0) && (4096 % alignment == 0) && not (size == 0) && (size % alignment == 0)
-
--- the seats behind the open ones of these handles
-abbrev pub cell_seats_in : List (Option CellSeated) → List CellSeated
-cell_seats_in [] = []
-cell_seats_in (None ∷ handles) = cell_seats_in handles
-cell_seats_in (Some seat ∷ handles) = seat ∷ cell_seats_in handles
-
--- these handles are open, and as many as the queue of the last has: that one, and others
-pub record AreAllCells (handles : List (Option CellSeated)) : Type 0 where
-  pub others : List CellSeated
-  pub last : CellSeated
-  pub each_open : handles ≡ map Some (others ++ last ∷ [])
-  pub count : length handles ≡ last.opened.threads
 
 -- the cells of these generations, one generation after the other
 abbrev pub all_cells : List (List ℕ) → List ℕ
@@ -31,7 +19,7 @@ all_cells (cells ∷ generations) = cells ++ all_cells generations
 -- A queue was closed by these handles, and these cells were left in it, those of the oldest generation first: all that
 -- the renewing queue says of a close
 pub record ClosesCells (handles : List (Option CellSeated)) (left : Option LeftSeated) : Type 0 where
-  pub all : AreAllCells handles
+  pub all : AreAll handles
   pub held : List (HeldIn (Unit {0}))
   pub gathers : Gathers all.last held
   pub generations : List (List ℕ)

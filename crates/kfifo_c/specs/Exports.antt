@@ -1,4 +1,4 @@
--- What C gets from a call, and what that says of the pass behind a handle. c/kfifo.h has the same numbers.
+-- What C gets from a call, and what that says of the pass behind a handle. c/include/kfifo.h has the same numbers.
 use Rattle.std.specs.Prelude.{◌≡◌, ℕ, ◌+◌, ◌*◌, ◌^◌, ◌<◌, ◌≤◌, Option, Some, None, IfSome, List, [], ◌∷◌, ◌++◌, map}
 use Rattle.std.specs.Prelude.{length, drop, All, true, ◌==◌, ⊤}
 use Rattle.std.specs.List.{list_any}
@@ -96,11 +96,11 @@ pub record Gets (answer : Answer) (old new : Seated) : Type 0 where
 
 -- A call by a handle. It is not made, and nothing changes, exactly where the handle is closed or the call may not be
 -- made with its arguments. Else what is behind the handle makes it, and is there still
-module _ {A S : Type 0} where
-  abbrev pub Tries : (S → Type 0) → (A → S → S → Type 0) → Option A → Option S → Option S → Type 0
-  Tries may makes None old new = (new ≡ old) × IfSome old (λ seat. ¬ may seat)
-  Tries may makes (Some answer) old new = (seat after : S) × (old ≡ Some seat) × (new ≡ Some after) × may seat
-      × makes answer seat after
+module _ {A S H : Type 0} where
+  abbrev pub Tries : (S → H) → (S → Type 0) → (A → S → S → Type 0) → Option A → Option H → Option H → Type 0
+  Tries kind may makes None old new = (new ≡ old) × ((seat : S) → old ≡ Some (kind seat) → ¬ may seat)
+  Tries kind may makes (Some answer) old new = (seat after : S) × (old ≡ Some (kind seat)) × (new ≡ Some (kind after))
+      × may seat × makes answer seat after
 
 -- how many were counted, and 0 where the call was not made
 abbrev pub count_of : Option ℕ → ℕ

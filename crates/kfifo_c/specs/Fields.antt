@@ -1,5 +1,5 @@
--- What stands in the struct of C's handles, which is one for all kinds of queues. c/kfifo.h has the same numbers.
-use Rattle.std.specs.Prelude.{◌≡◌, ◌==◌, ℕ, Option, is_some}
+-- What stands in the struct of C's handles, one for all kinds of queues. c/include/kfifo.h has the same numbers.
+use Rattle.std.specs.Prelude.{◌≡◌, ℕ}
 use denote.RawPtr.{Ptr}
 
 -- an open handle points to its seat by `inside`
@@ -20,8 +20,3 @@ AreNew address kind size alignment f = (f.address ≡ address) × (f.kind ≡ ki
 -- of a handle that was closed: the numbers
 abbrev pub AreZero : Fields → Type 0
 AreZero f = (f.starts ≡ 0) × (f.kind ≡ 0) × (f.mark ≡ 0) × (f.size ≡ 0) × (f.alignment ≡ 0)
-
--- The handle is of this kind exactly where it is open, and then has no start for a call of items. So a handle of another
--- kind counts as closed
-abbrev pub IsOfKind : {S : Type 0} → ℕ → ℕ → ℕ → Option S → Type 0
-IsOfKind own kind starts handle = ((kind == own) ≡ is_some handle) × (kind ≡ own → starts ≡ 0)

@@ -1,12 +1,25 @@
 -- Handles, as clauses see them.
-use Rattle.std.specs.Prelude.{◌≡◌, ◌<◌, ℕ, Option, None, MatchOption, List, map, length, get_or}
-use Rattle.kfifo_c.specs.declared.handle.Handle.{Handle}
+use Rattle.std.specs.Prelude.{◌≡◌, ◌<◌, ℕ, Option, None, List, map, length, get_or}
+use Rattle.kfifo_c.specs.Behind.{Behind, cells_in, items_in, values_in}
+use Rattle.kfifo_c.specs.CellSeats.{CellSeated}
 use Rattle.kfifo_c.specs.Fields.{AreZero, Fields}
 use Rattle.kfifo_c.specs.Seats.{Seated}
+use Rattle.kfifo_c.specs.ValueSeats.{ValueSeated}
+use Rattle.kfifo_c.specs.declared.handle.Handle.{Handle}
 
 -- what is behind each of these handles
-abbrev pub behind : List Handle → List (Option Seated)
+abbrev pub behind : List Handle → List (Option Behind)
 behind = map (λ handle. handle.held.value)
+
+-- as handles of one kind: one of another kind counts as closed
+abbrev pub items_behind : List Handle → List (Option Seated)
+items_behind handles = map items_in (behind handles)
+
+abbrev pub values_behind : List Handle → List (Option ValueSeated)
+values_behind handles = map values_in (behind handles)
+
+abbrev pub cells_behind : List Handle → List (Option CellSeated)
+cells_behind handles = map cells_in (behind handles)
 
 -- what stands in a handle
 abbrev pub fields_of : Handle → Fields
@@ -28,11 +41,11 @@ all_fields = map (λ handle. fields_of handle)
 abbrev pub IsClosed : Handle → Type 0
 IsClosed handle = (handle.held.value ≡ None) × AreZero (fields_of handle)
 
--- An open handle was closed. One that is closed, or of another kind, is as it was
-abbrev pub WasClosed : Handle → Handle → Type 0
-WasClosed old new = MatchOption old.held.value (new ≡ old) (λ seat. IsClosed new)
+-- A handle of this kind was closed. One that is closed, or of another kind, is as it was
+abbrev pub WasClosed : ℕ → Handle → Handle → Type 0
+WasClosed kind old new = (old.kind ≡ kind → IsClosed new) × (¬ (old.kind ≡ kind) → new ≡ old)
 
 -- each of these was
-abbrev pub WereClosed : List Handle → List Handle → Type 0
-WereClosed old new = (length new ≡ length old)
-    × ((i : ℕ) (d : Handle) → i < length old → WasClosed (get_or old i d) (get_or new i d))
+abbrev pub WereClosed : ℕ → List Handle → List Handle → Type 0
+WereClosed kind old new = (length new ≡ length old)
+    × ((i : ℕ) (d : Handle) → i < length old → WasClosed kind (get_or old i d) (get_or new i d))

@@ -1,8 +1,8 @@
--- A handle's pointer, after what was done by its seat.
+-- A pointer of C's, after what was done by its seat.
 use Rattle.std.specs.Prelude.{Some}
+use Rattle.kfifo_c.specs.Behind.{Behind}
 use Rattle.kfifo_c.specs.declared.held.Held.{Held}
-use Rattle.kfifo_c.specs.Seats.{Seated}
 
 -- the same pointer, with this seat behind it
-abbrev pub held_with : Held → Seated → Held
-held_with held seat = record { at = held.at; value = Some seat }
+abbrev pub held_with : {S : Type 0} → (S → Behind) → Held → S → Held
+held_with behind held seat = record { at = held.at; value = Some (behind seat) }

@@ -1,5 +1,5 @@
 -- What a handle stands for, as clauses see it.
-use Rattle.std.specs.Prelude.{◌<◌, ℕ, Option, Some, None}
+use Rattle.std.specs.Prelude.{◌<◌, ℕ}
 use Rattle.kfifo_live.specs.Pass.{OpenQueue, PassView, IsPassOf}
 use Rattle.kfifo_live.specs.Handles.{first_of}
 
@@ -17,8 +17,3 @@ IsOpenPassOf q p = IsPassOf q p × (p.thread < q.opened.threads)
 -- with a new pass
 abbrev pub seated : OpenQueue → PassView → Seated
 seated q p = record { queue = q; pass = p; put_start = first_of p; get_start = first_of p }
-
--- from how many slots a scan by the handle may begin: k, and from none where it is closed
-abbrev pub starts_of : Option Seated → ℕ
-starts_of None = 0
-starts_of (Some seat) = seat.queue.opened.shape.k

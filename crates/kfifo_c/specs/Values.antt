@@ -1,10 +1,13 @@
--- What C is told of the calls with values, and what closing says of the handles. c/kfifo.h has the same numbers.
-use Rattle.std.specs.Prelude.{◌≡◌, ℕ, ◌*◌, ◌^◌, ◌≤◌, ◌⊎◌, Option, Some, None, List, [], ◌∷◌, ◌++◌, map, length, drop}
+-- What C is told of the calls with values, and what closing says of handles. c/include/kfifo.h has the same numbers.
+use Rattle.std.specs.Prelude.{◌≡◌, ℕ, ◌*◌, ◌^◌, ◌≤◌, ◌⊎◌, Option, Some, None, List, [], ◌∷◌, ◌++◌, length, drop}
 use Rattle.kfifo_live.specs.declared.payload.Given.{Given}
 use Rattle.kfifo_live.specs.declared.payload.Given.TheVariants as G
 use Rattle.kfifo_live.specs.declared.payload.Taken.{Taken}
 use Rattle.kfifo_live.specs.declared.payload.Taken.TheVariants as K
 use Rattle.kfifo_renewing.specs.Renewing.{ClosesAll, Follows, all_of}
+use Rattle.kfifo_c.specs.AllHandles.{AreAll}
+use Rattle.kfifo_c.specs.Behind.{Behind}
+use Rattle.kfifo_c.specs.Behind as B
 use Rattle.kfifo_c.specs.ValueSeats.{ValueSeated}
 
 module _ {T : Type 0} where
@@ -31,26 +34,13 @@ value_after old (Some (K.Got value)) = value
 value_after old other = old
 
 -- the last of these handles may have followed others, if it is open; each of the others is as it was
-abbrev pub LastFollows : List (Option ValueSeated) → List (Option ValueSeated) → Type 0
-LastFollows old new = (new ≡ old) ⊎ ((others : List (Option ValueSeated)) × (was : ValueSeated) × (is : ValueSeated)
-    × (old ≡ others ++ Some was ∷ []) × (new ≡ others ++ Some is ∷ []) × Follows was is)
+abbrev pub LastFollows : List (Option Behind) → List (Option Behind) → Type 0
+LastFollows old new = (new ≡ old) ⊎ ((others : List (Option Behind)) × (was : ValueSeated) × (is : ValueSeated)
+    × (old ≡ others ++ Some (B.Values was) ∷ []) × (new ≡ others ++ Some (B.Values is) ∷ []) × Follows was is)
 
 -- room for a value of each slot of each generation that the handle has joined
 abbrev pub room_for : ValueSeated → ℕ
 room_for seat = length (all_of seat) * (seat.opened.shape.n * seat.opened.shape.k)
-
--- the seats behind the open ones of these handles
-abbrev pub seats_in : List (Option ValueSeated) → List ValueSeated
-seats_in [] = []
-seats_in (None ∷ handles) = seats_in handles
-seats_in (Some seat ∷ handles) = seat ∷ seats_in handles
-
--- these handles are open, and as many as the queue of the last has: that one, and others
-pub record AreAll (handles : List (Option ValueSeated)) : Type 0 where
-  pub others : List ValueSeated
-  pub last : ValueSeated
-  pub each_open : handles ≡ map Some (others ++ last ∷ [])
-  pub count : length handles ≡ last.opened.threads
 
 -- a close by these handles needs so much room, where they are all; it is none where no number of 64 bits is so great
 abbrev pub NeedsRoom : Option ℕ → List (Option ValueSeated) → Type 0

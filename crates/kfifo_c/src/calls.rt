@@ -2,11 +2,14 @@
 ghost use Rattle.std.specs.Prelude.{◌≡◌, ℕ, None, Option, All, ⊤};
 ghost use Rattle.kfifo_model.specs.declared.calls.Answer.{Answer as Answered};
 ghost use Rattle.kfifo_machine.specs.declared.event.Begin.TheVariants.{Enqueue, Dequeue};
+ghost use Rattle.kfifo_c.specs.Behind.{Items};
 ghost use Rattle.kfifo_c.specs.Exports.{Tries, MayEnqueue, MayDequeue, MayPut, MayRead, CalledFrom, Puts, Gets};
 ghost use Rattle.kfifo_c.specs.Exports.{HasCounted, HasRead, count_of, number_of, item_after, read_number, word_after};
 ghost use Rattle.kfifo_c.specs.Handles.{WereClosed, fields_of};
 
 use crate::handle::Handle;
+use crate::handles::abandon;
+use crate::seat::Seat;
 use crate::status::{BAD_CALL, DONE, status};
 use kfifo_model::{Answer, MAX_ITEM};
 use std::alloc::Global;
@@ -17,7 +20,7 @@ use std::alloc::Global;
 #[unsafe(no_mangle)]
 pub extern "C" fn kfifo_c_enqueue(pass: &mut Handle, item: u32, start: u32, turns: u16) -> u32
     ensures answer { (answer : Option Answered) × (result ≡ number_of answer)
-        × Tries (MayEnqueue item start turns) (CalledFrom (Enqueue item start turns)) answer pass.old.held.value
+        × Tries Items (MayEnqueue item start turns) (CalledFrom (Enqueue item start turns)) answer pass.old.held.value
         pass.new.held.value }
     ensures fields { fields_of pass.new ≡ fields_of pass.old }
 {
@@ -26,7 +29,7 @@ pub extern "C" fn kfifo_c_enqueue(pass: &mut Handle, item: u32, start: u32, turn
     if item < 1 || item > MAX_ITEM || !pass.has_start(start) {
         return BAD_CALL;
     }
-    let answer = pass.held.seat_mut().enqueue(item, start, turns);
+    let answer = pass.held.seat_mut::<Seat>().enqueue(item, start, turns);
     status(answer)
 }
 
@@ -36,14 +39,14 @@ pub extern "C" fn kfifo_c_enqueue(pass: &mut Handle, item: u32, start: u32, turn
 #[unsafe(no_mangle)]
 pub extern "C" fn kfifo_c_dequeue(pass: &mut Handle, item: &mut u32, start: u32, turns: u16) -> u32
     ensures answer { (answer : Option Answered) × (result ≡ number_of answer) × (item.new ≡ item_after item.old answer)
-        × Tries (MayDequeue start turns) (CalledFrom (Dequeue start turns)) answer pass.old.held.value
+        × Tries Items (MayDequeue start turns) (CalledFrom (Dequeue start turns)) answer pass.old.held.value
         pass.new.held.value }
     ensures fields { fields_of pass.new ≡ fields_of pass.old }
 {
     if !pass.has_start(start) {
         return BAD_CALL;
     }
-    let answer = pass.held.seat_mut().dequeue(start, turns);
+    let answer = pass.held.seat_mut::<Seat>().dequeue(start, turns);
     if let Some(Answer::Got(taken)) = answer {
         *item = taken;
     }
@@ -56,13 +59,13 @@ pub extern "C" fn kfifo_c_dequeue(pass: &mut Handle, item: &mut u32, start: u32,
 #[unsafe(no_mangle)]
 pub extern "C" fn kfifo_c_put(pass: &mut Handle, item: u32) -> u32
     ensures answer { (answer : Option Answered) × (result ≡ number_of answer)
-        × Tries (MayPut item) (Puts item) answer pass.old.held.value pass.new.held.value }
+        × Tries Items (MayPut item) (Puts item) answer pass.old.held.value pass.new.held.value }
     ensures fields { fields_of pass.new ≡ fields_of pass.old }
 {
     if item < 1 || item > MAX_ITEM || pass.starts == 0 {
         return BAD_CALL;
     }
-    let answer = pass.held.seat_mut().put(item);
+    let answer = pass.held.seat_mut::<Seat>().put(item);
     status(Some(answer))
 }
 
@@ -72,13 +75,13 @@ pub extern "C" fn kfifo_c_put(pass: &mut Handle, item: u32) -> u32
 #[unsafe(no_mangle)]
 pub extern "C" fn kfifo_c_get(pass: &mut Handle, item: &mut u32) -> u32
     ensures answer { (answer : Option Answered) × (result ≡ number_of answer) × (item.new ≡ item_after item.old answer)
-        × Tries (λ _. ⊤) Gets answer pass.old.held.value pass.new.held.value }
+        × Tries Items (λ _. ⊤) Gets answer pass.old.held.value pass.new.held.value }
     ensures fields { fields_of pass.new ≡ fields_of pass.old }
 {
     if pass.starts == 0 {
         return BAD_CALL;
     }
-    let answer = pass.held.seat_mut().get();
+    let answer = pass.held.seat_mut::<Seat>().get();
     if let Answer::Got(got) = answer {
         *item = got;
     }
@@ -90,13 +93,13 @@ pub extern "C" fn kfifo_c_get(pass: &mut Handle, item: &mut u32) -> u32
 #[unsafe(no_mangle)]
 pub extern "C" fn kfifo_c_word(pass: &mut Handle, index: usize, word: &mut u64) -> u32
     ensures read { (read : Option ℕ) × (result ≡ read_number read) × (word.new ≡ word_after word.old read)
-        × Tries (MayRead index) (HasRead index) read pass.old.held.value pass.new.held.value }
+        × Tries Items (MayRead index) (HasRead index) read pass.old.held.value pass.new.held.value }
     ensures fields { fields_of pass.new ≡ fields_of pass.old }
 {
     if pass.starts == 0 {
         return BAD_CALL;
     }
-    match pass.held.seat_mut().word(index) {
+    match pass.held.seat_mut::<Seat>().word(index) {
         Some(bits) => {
             *word = bits;
             DONE
@@ -110,21 +113,19 @@ pub extern "C" fn kfifo_c_word(pass: &mut Handle, index: usize, word: &mut u64) 
 #[unsafe(no_mangle)]
 pub extern "C" fn kfifo_c_len(pass: &mut Handle) -> usize
     ensures counted { (counted : Option ℕ) × (result ≡ count_of counted)
-        × Tries (λ _. ⊤) HasCounted counted pass.old.held.value pass.new.held.value }
+        × Tries Items (λ _. ⊤) HasCounted counted pass.old.held.value pass.new.held.value }
     ensures fields { fields_of pass.new ≡ fields_of pass.old }
 {
     if pass.starts == 0 {
         return 0;
     }
-    pass.held.seat_mut().len()
+    pass.held.seat_mut::<Seat>().len()
 }
 
 /// Closes these handles. With the last open handle of a queue the queue goes, and the items that are left in it.
 #[unsafe(no_mangle)]
 pub extern "C" fn kfifo_c_abandon(alloc: Global, passes: &mut [Handle])
-    ensures { WereClosed passes.old passes.new }
+    ensures { WereClosed 1 passes.old passes.new }
 {
-    for pass in passes.iter_mut() {
-        let _seat = pass.take(alloc);
-    }
+    abandon::<Seat>(alloc, passes);
 }

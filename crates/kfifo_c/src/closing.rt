@@ -3,11 +3,12 @@ ghost use Rattle.std.specs.Prelude.{◌≡◌, ◌⊎◌, ◌↔◌, ◌≤◌, 
 ghost use Rattle.std.specs.Prelude.{length, drop};
 ghost use Rattle.std.specs.List.{list_any};
 ghost use Rattle.kfifo_live.specs.Pass.{OpenQueue};
-ghost use Rattle.kfifo_c.specs.Handles.{IsClosed, WereClosed, all_fields, behind};
+ghost use Rattle.kfifo_c.specs.Handles.{IsClosed, WereClosed, all_fields, behind, items_behind};
 ghost use Rattle.kfifo_c.specs.Exports.{AreOfOneQueue, AreTheirs, BeginsWith, HasEach, MayClose, ClosesInto};
 ghost use Rattle.kfifo_c.specs.Exports.{numbers_in, passes_in};
 
 use crate::handle::Handle;
+use crate::seat::Seat;
 use crate::status::{BAD_CALL, DONE, LOST, NO_MEMORY};
 use kfifo_live::{Pass, Queue, close};
 use std::alloc::{AllocError, Global};
@@ -18,8 +19,8 @@ fn first_queue(handles: &mut [Handle]) -> Result<Option<(Arc<Queue, Global>, u32
     ensures same { behind handles.new ≡ behind handles.old }
     ensures fields { all_fields handles.new ≡ all_fields handles.old }
     ensures first { IfOk result (λ found.
-        MatchOption found (¬ ((queue : OpenQueue) × BeginsWith queue (behind handles.old)))
-        (λ found. BeginsWith found.0.value (behind handles.old) × (found.1 ≡ found.0.value.opened.threads))) }
+        MatchOption found (¬ ((queue : OpenQueue) × BeginsWith queue (items_behind handles.old)))
+        (λ found. BeginsWith found.0.value (items_behind handles.old) × (found.1 ≡ found.0.value.opened.threads))) }
 {
     let Some(first) = handles.first_mut() else {
         return Ok(None);
@@ -27,7 +28,7 @@ fn first_queue(handles: &mut [Handle]) -> Result<Option<(Arc<Queue, Global>, u32
     if first.starts == 0 {
         return Ok(None);
     }
-    let seat = first.held.seat_mut();
+    let seat = first.held.seat_mut::<Seat>();
     let threads = seat.threads();
     let queue = seat.share()?;
     Ok(Some((queue, threads)))
@@ -37,12 +38,12 @@ fn first_queue(handles: &mut [Handle]) -> Result<Option<(Arc<Queue, Global>, u32
 fn numbers(alloc: Global, handles: &mut [Handle]) -> Result<Vec<u32>, AllocError>
     ensures same { behind handles.new ≡ behind handles.old }
     ensures fields { all_fields handles.new ≡ all_fields handles.old }
-    ensures numbers { IfOk result (λ numbers. numbers.items ≡ numbers_in (behind handles.old)) }
+    ensures numbers { IfOk result (λ numbers. numbers.items ≡ numbers_in (items_behind handles.old)) }
 {
     let mut numbers = Vec::with_capacity(alloc, handles.len())?;
     for handle in handles.iter_mut() {
         if handle.starts != 0 {
-            numbers.push(handle.held.seat_mut().thread())?;
+            numbers.push(handle.held.seat_mut::<Seat>().thread())?;
         }
     }
     Ok(numbers)
@@ -76,12 +77,12 @@ fn ready(
     handles: &mut [Handle],
     room: usize,
 ) -> Result<Option<Arc<Queue, Global>>, AllocError>
-    requires { AreOfOneQueue (behind handles.old) }
+    requires { AreOfOneQueue (items_behind handles.old) }
     ensures same { behind handles.new ≡ behind handles.old }
     ensures fields { all_fields handles.new ≡ all_fields handles.old }
     ensures may { IfOk result (λ found.
-        MatchOption found (¬ ((queue : OpenQueue) × MayClose queue (behind handles.old) room))
-        (λ queue. MayClose queue.value (behind handles.old) room)) }
+        MatchOption found (¬ ((queue : OpenQueue) × MayClose queue (items_behind handles.old) room))
+        (λ queue. MayClose queue.value (items_behind handles.old) room)) }
 {
     let Some((queue, threads)) = first_queue(handles)? else {
         return Ok(None);
@@ -103,13 +104,13 @@ fn ready(
 /// The passes behind the open ones of these handles, which are then closed.
 fn take_all(alloc: Global, handles: &mut [Handle]) -> Result<Vec<Pass>, AllocError>
     ensures refused { IsErr result → handles.new ≡ handles.old }
-    ensures closed { IfOk result (λ _. WereClosed handles.old handles.new) }
-    ensures taken { IfOk result (λ passes. passes.items ≡ passes_in (behind handles.old)) }
-    ensures of { IfOk result (λ _. AreTheirs (behind handles.old)) }
+    ensures closed { IfOk result (λ _. WereClosed 1 handles.old handles.new) }
+    ensures taken { IfOk result (λ passes. passes.items ≡ passes_in (items_behind handles.old)) }
+    ensures of { IfOk result (λ _. AreTheirs (items_behind handles.old)) }
 {
     let mut passes = Vec::with_capacity(alloc, handles.len())?;
     for handle in handles.iter_mut() {
-        if let Some(seat) = handle.take(alloc) {
+        if let Some(seat) = handle.take::<Seat>(alloc) {
             let seat = Box::into_inner(seat);
             passes.push_reserved(seat.into_pass());
         }
@@ -136,15 +137,15 @@ pub extern "C" fn kfifo_c_close(
     items: &mut [u32],
     count: &mut usize,
 ) -> u32
-    requires { AreOfOneQueue (behind passes.old) }
+    requires { AreOfOneQueue (items_behind passes.old) }
     ensures answers { (result ≡ 0) ⊎ (result ≡ 6) ⊎ (result ≡ 7) ⊎ (result ≡ 9) }
-    ensures bad { result ≡ 6 → ¬ ((queue : OpenQueue) × MayClose queue (behind passes.old) (length items.old)) }
+    ensures bad { result ≡ 6 → ¬ ((queue : OpenQueue) × MayClose queue (items_behind passes.old) (length items.old)) }
     ensures may { (result ≡ 0) ⊎ (result ≡ 9) → (queue : OpenQueue)
-        × MayClose queue (behind passes.old) (length items.old) }
+        × MayClose queue (items_behind passes.old) (length items.old) }
     ensures nothing { (result ≡ 6) ⊎ (result ≡ 7) → (behind passes.new ≡ behind passes.old)
         × (all_fields passes.new ≡ all_fields passes.old) }
     ensures closed { (result ≡ 0) ⊎ (result ≡ 9) → All IsClosed passes.new }
-    ensures done { result ≡ 0 → ClosesInto (behind passes.old) items.old items.new count.new }
+    ensures done { result ≡ 0 → ClosesInto (items_behind passes.old) items.old items.new count.new }
     ensures kept { (result ≡ 6) ⊎ (result ≡ 7) ⊎ (result ≡ 9) → (items.new ≡ items.old) × (count.new ≡ count.old) }
 {
     let queue = match ready(alloc, passes, items.len()) {

@@ -1,18 +1,15 @@
 //! What C holds for each thread.
-ghost use Rattle.std.specs.Prelude.{◌≡◌, ◌≢◌, ◌<◌, ◌↔◌, Some, None, IsTrue, MatchOption};
+ghost use Rattle.std.specs.Prelude.{◌≡◌, ◌<◌, ◌↔◌, Some, IsTrue, MatchOption};
+ghost use Rattle.kfifo_c.specs.Behind.{kind_of, starts_of};
 ghost use Rattle.kfifo_c.specs.Fields.{AreNew};
-ghost use Rattle.kfifo_c.specs.Seats.{starts_of};
 
 use crate::address::no_address;
 use crate::held::Held;
-use crate::kind::ITEMS;
-use crate::loose::Loose;
-use crate::seat::Seat;
+use crate::seating::Seating;
 use std::alloc::Global;
 use std::mem::replace;
 
-/// A handle of C's: closed, of another kind, or open with a seat behind it. All bytes 0 is a closed one. The struct is
-/// the same for all kinds.
+/// A handle of C's, closed or open with a seat behind it. All bytes 0 is a closed one.
 #[repr(C)]
 #[derive(Drop)]
 pub struct Handle {
@@ -30,7 +27,7 @@ pub struct Handle {
     /// Of a cell, in bytes, and 0 of another kind.
     pub alignment: u32,
     pub ghost starts_are: { starts ≡ starts_of held.value },
-    pub ghost kind_is: { starts ≢ 0 → kind ≡ 1 },
+    pub ghost kind_is: { kind ≡ kind_of held.value },
 }
 
 impl Handle {
@@ -51,20 +48,25 @@ impl Handle {
         }
     }
 
-    /// A handle with this seat behind it, of a queue at this address.
-    pub(crate) fn of(seat: Box<Seat, Global>, address: *mut u8) -> Handle
-        ensures seat { result.held.value ≡ Some seat.value }
-        ensures fields { AreNew address 1 0 0 (fields_of result) }
+    /// A handle with this seat behind it, of a queue at this address whose cells have this size and alignment.
+    pub(crate) fn of<S: Seating>(
+        seat: Box<S, Global>,
+        address: *mut u8,
+        size: u32,
+        alignment: u32,
+    ) -> Handle
+        ensures seat { result.held.value ≡ Some (S.behind seat.value) }
+        ensures fields { AreNew address S.KIND size alignment (fields_of result) }
     {
-        let starts = seat.k();
+        let starts = seat.starts();
         Handle {
-            held: Held::of(Loose::of(seat)),
+            held: Held::of(seat),
             address,
             starts,
-            kind: ITEMS,
+            kind: S::KIND,
             mark: 0,
-            size: 0,
-            alignment: 0,
+            size,
+            alignment,
         }
     }
 
@@ -76,16 +78,16 @@ impl Handle {
         start < self.starts
     }
 
-    /// The seat behind the handle, which is then closed. A handle with none stays as it is.
-    pub(crate) fn take(&mut self, alloc: Global) -> Option<Box<Seat, Global>>
-        ensures value { MatchOption result (self.old.held.value ≡ None)
-            (λ seat. self.old.held.value ≡ Some seat.value) }
-        ensures closed { WasClosed self.old self.new }
+    /// The seat behind a handle of this kind, which is then closed. Another handle stays as it is.
+    pub(crate) fn take<S: Seating>(&mut self, alloc: Global) -> Option<Box<S, Global>>
+        ensures value { MatchOption result (¬ (self.old.kind ≡ S.KIND))
+            (λ seat. self.old.held.value ≡ Some (S.behind seat.value)) }
+        ensures closed { WasClosed S.KIND self.old self.new }
     {
-        if self.starts == 0 {
+        if self.kind != S::KIND {
             return None;
         }
         let Handle { held, .. } = replace(self, Handle::closed());
-        Some(held.into_loose(alloc).into_box())
+        Some(held.into_seat(alloc))
     }
 }

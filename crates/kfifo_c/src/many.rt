@@ -2,6 +2,7 @@
 ghost use Rattle.std.specs.Prelude.{◌≡◌, ◌++◌, ◌↔◌, ℕ, ⊤, None, Option, List, IsTrue, drop, length};
 ghost use Rattle.kfifo_model.specs.declared.calls.Answer.{Answer as Answered};
 ghost use Rattle.kfifo_model.specs.declared.calls.Answer.TheVariants.{Done, Got};
+ghost use Rattle.kfifo_c.specs.Behind.{Items};
 ghost use Rattle.kfifo_c.specs.Exports.{Tries, Puts, Gets, number_of};
 ghost use Rattle.kfifo_c.specs.Many.{AreItems, GivesEach, TakesEach, last_number};
 ghost use Rattle.kfifo_c.specs.Handles.{fields_of};
@@ -75,7 +76,7 @@ impl Seat {
 #[unsafe(no_mangle)]
 pub extern "C" fn kfifo_c_put_many(pass: &mut Handle, items: &[u32], put: &mut usize) -> u32
     ensures answer { (last : Option (Option Answered)) × (result ≡ last_number number_of last)
-        × Tries (λ _. AreItems items.now) (GivesEach Puts Done items.now put.new) last pass.old.held.value
+        × Tries Items (λ _. AreItems items.now) (GivesEach Puts Done items.now put.new) last pass.old.held.value
         pass.new.held.value }
     ensures fields { fields_of pass.new ≡ fields_of pass.old }
 {
@@ -83,7 +84,7 @@ pub extern "C" fn kfifo_c_put_many(pass: &mut Handle, items: &[u32], put: &mut u
         *put = 0;
         return BAD_CALL;
     }
-    pass.held.seat_mut().put_each(items, put)
+    pass.held.seat_mut::<Seat>().put_each(items, put)
 }
 
 /// Takes items out of the queue of the handle, one after the other as `kfifo_c_get`, until these are written or a get
@@ -93,7 +94,7 @@ pub extern "C" fn kfifo_c_put_many(pass: &mut Handle, items: &[u32], put: &mut u
 pub extern "C" fn kfifo_c_get_many(pass: &mut Handle, items: &mut [u32], got: &mut usize) -> u32
     ensures answer { (last : Option (Option Answered)) × (taken : List ℕ) × (result ≡ last_number number_of last)
         × (items.new ≡ taken ++ drop (length taken) items.old) × (got.new ≡ length taken)
-        × Tries (λ _. ⊤) (TakesEach Gets Got (length items.old) taken) last pass.old.held.value
+        × Tries Items (λ _. ⊤) (TakesEach Gets Got (length items.old) taken) last pass.old.held.value
         pass.new.held.value }
     ensures fields { fields_of pass.new ≡ fields_of pass.old }
 {
@@ -101,5 +102,5 @@ pub extern "C" fn kfifo_c_get_many(pass: &mut Handle, items: &mut [u32], got: &m
         *got = 0;
         return BAD_CALL;
     }
-    pass.held.seat_mut().get_each(items, got)
+    pass.held.seat_mut::<Seat>().get_each(items, got)
 }

@@ -8,11 +8,12 @@ ghost use Rattle.kfifo_live.specs.Refusals.{RefusesThreads};
 ghost use Rattle.kfifo_live.specs.declared.fault.OpenFault.TheVariants.{TokensOutOfRange};
 ghost use Rattle.kfifo_c.specs.Seats.{IsOpenPassOf};
 ghost use Rattle.kfifo_c.specs.Fields.{AreNew};
-ghost use Rattle.kfifo_c.specs.Handles.{behind, fields_of};
+ghost use Rattle.kfifo_c.specs.Handles.{fields_of, items_behind};
 ghost use Rattle.kfifo_c.specs.Exports.{seats_of, Opens, OpensSizes, shape_number};
 
 use crate::address::no_address;
 use crate::handle::Handle;
+use crate::handles::put_all;
 use crate::seat::Seat;
 use crate::shape::shape_of;
 use crate::status::{BAD_THREADS, DONE, open_status, shape_status};
@@ -65,19 +66,6 @@ fn address_of_all(seats: &[Box<Seat, Global>]) -> *mut u8 {
     }
 }
 
-/// Puts the seats behind the handles, the last seat first.
-fn put_all(handles: &mut [Handle], mut seats: Vec<Box<Seat, Global>>, address: *mut u8)
-    requires { length seats.items ≡ length handles.old }
-    ensures behind { behind handles.new ≡ map Some (reverse (map (λ seat. seat.value) seats.items)) }
-    ensures fields { All (λ handle. AreNew address 1 0 0 (fields_of handle)) handles.new }
-{
-    for handle in handles.iter_mut() {
-        if let Some(seat) = seats.pop() {
-            *handle = Handle::of(seat, address);
-        }
-    }
-}
-
 /// Opens a queue for as many threads as there are handles, as `Queue::open`, and puts a pass behind each, in their
 /// order. What was behind them is lost. A refusal does nothing: BAD_K, BAD_SEGMENTS, BAD_LAST or BAD_PROBES where there
 /// is no such shape, BAD_THREADS where the handles are not 1 to 64, NO_MEMORY where an allocation failed.
@@ -90,7 +78,7 @@ pub extern "C" fn kfifo_c_open(
     last: u64,
     passes: &mut [Handle],
 ) -> u32
-    ensures ok { result ≡ 0 → OpensSizes k segments last probes (length passes.old) (behind passes.new) }
+    ensures ok { result ≡ 0 → OpensSizes k segments last probes (length passes.old) (items_behind passes.new) }
     ensures fields { result ≡ 0 → (address : Ptr) × All (λ pass. AreNew address 1 0 0 (fields_of pass)) passes.new }
     ensures refused { result ≢ 0 → passes.new ≡ passes.old }
     ensures shape { IfSome (fault_of k segments last probes) (λ fault. result ≡ shape_number fault) }
@@ -110,7 +98,7 @@ pub extern "C" fn kfifo_c_open(
     match open_seats(alloc, shape, passes.len() as u32) {
         Ok(seats) => {
             let address = address_of_all(seats.as_slice());
-            put_all(passes, seats, address);
+            put_all(passes, seats, address, 0, 0);
             DONE
         }
         Err(fault) => open_status(fault),

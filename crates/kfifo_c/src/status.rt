@@ -1,4 +1,4 @@
-//! The numbers that C gets: the members of `enum kfifo_status` in `c/kfifo.h`.
+//! The numbers that C gets: the members of `enum kfifo_status` in `c/include/kfifo.h`.
 ghost use Rattle.std.specs.Prelude.{◌≡◌};
 ghost use Rattle.kfifo_c.specs.Exports.{number_of, shape_number, open_number};
 ghost use Rattle.kfifo_c.specs.Openings.{renew_number, sizes_number};

@@ -6,13 +6,16 @@ ghost use Rattle.kfifo_renewing.specs.Cells.{CallsOnce, ReceivesOldest};
 ghost use Rattle.kfifo_renewing.specs.Renewing.{Counts};
 ghost use Rattle.kfifo_renewing.specs.declared.cells.CellCall.TheVariants.{Cancel, Publish, Release};
 ghost use Rattle.kfifo_renewing.specs.declared.memory.CellAt.{CellAt as HasCellAt};
+ghost use Rattle.kfifo_c.specs.Behind.{Cells, cells_in};
 ghost use Rattle.kfifo_c.specs.Exports.{Tries, count_of};
 ghost use Rattle.kfifo_c.specs.Values.{taken_number};
 ghost use Rattle.kfifo_c.specs.CellCalls.{ReservesAt, call_number, cell_after, cell_after_reserve, reservation_number};
-ghost use Rattle.kfifo_c.specs.CellHandles.{WereClosed, fields_of};
+ghost use Rattle.kfifo_c.specs.Handles.{WereClosed, fields_of};
 
-use crate::cell_queue::handle::CellHandle;
+use crate::cell_queue::seat::CellSeat;
 use crate::cell_queue::status::call_status;
+use crate::handle::Handle;
+use crate::handles::abandon;
 use crate::kind::CELLS;
 use crate::status::{BAD_CALL, DONE, FULL, NO_MEMORY};
 use crate::value_queue::status::{GOT, taken_status};
@@ -24,16 +27,16 @@ use std::alloc::Global;
 /// one is reserved already, it is that one. Writes where the cell lies, and returns DONE. Returns FULL, and writes
 /// nothing, where no cell is free; BAD_CALL, with nothing done, where the handle is closed or of another kind.
 #[unsafe(no_mangle)]
-pub extern "C" fn kfifo_c_reserve(pass: &mut CellHandle, cell: &mut CellAt) -> u32
+pub extern "C" fn kfifo_c_reserve(pass: &mut Handle, cell: &mut CellAt) -> u32
     ensures answer { (answer : Option (Option HasCellAt)) × (result ≡ reservation_number answer)
         × (cell.new ≡ cell_after_reserve cell.old answer)
-        × Tries (λ _. ⊤) ReservesAt answer pass.old.held.value pass.new.held.value }
+        × Tries Cells (λ _. ⊤) ReservesAt answer pass.old.held.value pass.new.held.value }
     ensures fields { fields_of pass.new ≡ fields_of pass.old }
 {
     if pass.kind != CELLS {
         return BAD_CALL;
     }
-    let Some(reserved) = pass.held.seat_mut().reserve() else {
+    let Some(reserved) = pass.held.seat_mut::<CellSeat>().reserve() else {
         return FULL;
     };
     *cell = reserved;
@@ -45,30 +48,30 @@ pub extern "C" fn kfifo_c_reserve(pass: &mut CellHandle, cell: &mut CellAt) -> u
 /// one of the next generation. Returns BAD_CALL, with nothing done, where none is reserved, or the handle is closed or
 /// of another kind.
 #[unsafe(no_mangle)]
-pub extern "C" fn kfifo_c_publish(pass: &mut CellHandle) -> u32
+pub extern "C" fn kfifo_c_publish(pass: &mut Handle) -> u32
     ensures answer { (answer : Option (HasGiven (Unit {0}))) × (result ≡ call_number answer)
-        × Tries (λ _. ⊤) (CallsOnce Publish) answer pass.old.held.value pass.new.held.value }
+        × Tries Cells (λ _. ⊤) (CallsOnce Publish) answer pass.old.held.value pass.new.held.value }
     ensures fields { fields_of pass.new ≡ fields_of pass.old }
 {
     if pass.kind != CELLS {
         return BAD_CALL;
     }
-    let given = pass.held.seat_mut().publish();
+    let given = pass.held.seat_mut::<CellSeat>().publish();
     call_status(&given)
 }
 
 /// Gives the cell that is reserved back, so that any handle may reserve it, and returns DONE. Returns BAD_CALL, with
 /// nothing done, where none is reserved, or the handle is closed or of another kind.
 #[unsafe(no_mangle)]
-pub extern "C" fn kfifo_c_cancel(pass: &mut CellHandle) -> u32
+pub extern "C" fn kfifo_c_cancel(pass: &mut Handle) -> u32
     ensures answer { (answer : Option (HasGiven (Unit {0}))) × (result ≡ call_number answer)
-        × Tries (λ _. ⊤) (CallsOnce Cancel) answer pass.old.held.value pass.new.held.value }
+        × Tries Cells (λ _. ⊤) (CallsOnce Cancel) answer pass.old.held.value pass.new.held.value }
     ensures fields { fields_of pass.new ≡ fields_of pass.old }
 {
     if pass.kind != CELLS {
         return BAD_CALL;
     }
-    let given = pass.held.seat_mut().cancel();
+    let given = pass.held.seat_mut::<CellSeat>().cancel();
     call_status(&given)
 }
 
@@ -77,16 +80,16 @@ pub extern "C" fn kfifo_c_cancel(pass: &mut CellHandle) -> u32
 /// writes where the cell lies that it got, which is the handle's alone until its next `receive` or `release`. Returns
 /// BAD_CALL, with nothing done, where the handle is closed or of another kind.
 #[unsafe(no_mangle)]
-pub extern "C" fn kfifo_c_receive(pass: &mut CellHandle, cell: &mut CellAt) -> u32
+pub extern "C" fn kfifo_c_receive(pass: &mut Handle, cell: &mut CellAt) -> u32
     ensures answer { (answer : Option (HasTaken HasCellAt)) × (result ≡ taken_number answer)
         × (cell.new ≡ cell_after cell.old answer)
-        × Tries (λ _. ⊤) ReceivesOldest answer pass.old.held.value pass.new.held.value }
+        × Tries Cells (λ _. ⊤) ReceivesOldest answer pass.old.held.value pass.new.held.value }
     ensures fields { fields_of pass.new ≡ fields_of pass.old }
 {
     if pass.kind != CELLS {
         return BAD_CALL;
     }
-    let taken = pass.held.seat_mut().receive();
+    let taken = pass.held.seat_mut::<CellSeat>().receive();
     if let Taken::Got(got) = taken {
         *cell = got;
         return GOT;
@@ -97,15 +100,15 @@ pub extern "C" fn kfifo_c_receive(pass: &mut CellHandle, cell: &mut CellAt) -> u
 /// Releases the cell that was received, so that any handle may reserve it, and returns DONE. Returns BAD_CALL, with
 /// nothing done, where none was received, it was released, or the handle is closed or of another kind.
 #[unsafe(no_mangle)]
-pub extern "C" fn kfifo_c_release(pass: &mut CellHandle) -> u32
+pub extern "C" fn kfifo_c_release(pass: &mut Handle) -> u32
     ensures answer { (answer : Option (HasGiven (Unit {0}))) × (result ≡ call_number answer)
-        × Tries (λ _. ⊤) (CallsOnce Release) answer pass.old.held.value pass.new.held.value }
+        × Tries Cells (λ _. ⊤) (CallsOnce Release) answer pass.old.held.value pass.new.held.value }
     ensures fields { fields_of pass.new ≡ fields_of pass.old }
 {
     if pass.kind != CELLS {
         return BAD_CALL;
     }
-    let given = pass.held.seat_mut().release();
+    let given = pass.held.seat_mut::<CellSeat>().release();
     call_status(&given)
 }
 
@@ -113,15 +116,15 @@ pub extern "C" fn kfifo_c_release(pass: &mut CellHandle) -> u32
 /// generation, and memory was missing for that, as `RenewingHandle::lacks_memory`; else FULL. Returns BAD_CALL where
 /// the handle is closed or of another kind.
 #[unsafe(no_mangle)]
-pub extern "C" fn kfifo_c_why_no_cell(pass: &mut CellHandle) -> u32
-    ensures why { MatchOption pass.old.held.value (result ≡ 6) (λ _. (result ≡ 1) ⊎ (result ≡ 7)) }
+pub extern "C" fn kfifo_c_why_no_cell(pass: &mut Handle) -> u32
+    ensures why { MatchOption (cells_in pass.old.held.value) (result ≡ 6) (λ _. (result ≡ 1) ⊎ (result ≡ 7)) }
     ensures same { pass.new.held.value ≡ pass.old.held.value }
     ensures fields { fields_of pass.new ≡ fields_of pass.old }
 {
     if pass.kind != CELLS {
         return BAD_CALL;
     }
-    if pass.held.seat_mut().lacks_memory() {
+    if pass.held.seat_mut::<CellSeat>().lacks_memory() {
         return NO_MEMORY;
     }
     FULL
@@ -130,24 +133,22 @@ pub extern "C" fn kfifo_c_why_no_cell(pass: &mut CellHandle) -> u32
 /// About how many cells are in the queue of the handle, as `RenewingHandle::len`. Returns 0 where the handle is closed
 /// or of another kind.
 #[unsafe(no_mangle)]
-pub extern "C" fn kfifo_c_cells_len(pass: &mut CellHandle) -> usize
+pub extern "C" fn kfifo_c_cells_len(pass: &mut Handle) -> usize
     ensures counted { (counted : Option ℕ) × (result ≡ count_of counted)
-        × Tries (λ _. ⊤) Counts counted pass.old.held.value pass.new.held.value }
+        × Tries Cells (λ _. ⊤) Counts counted pass.old.held.value pass.new.held.value }
     ensures fields { fields_of pass.new ≡ fields_of pass.old }
 {
     if pass.kind != CELLS {
         return 0;
     }
-    pass.held.seat_mut().len()
+    pass.held.seat_mut::<CellSeat>().len()
 }
 
 /// Closes these handles. With the last open handle of a queue the queue goes, with the memory of its cells, and what
 /// is left in them is lost.
 #[unsafe(no_mangle)]
-pub extern "C" fn kfifo_c_abandon_cells(alloc: Global, passes: &mut [CellHandle])
-    ensures { WereClosed passes.old passes.new }
+pub extern "C" fn kfifo_c_abandon_cells(alloc: Global, passes: &mut [Handle])
+    ensures { WereClosed 3 passes.old passes.new }
 {
-    for pass in passes.iter_mut() {
-        let _seat = pass.take(alloc);
-    }
+    abandon::<CellSeat>(alloc, passes);
 }

@@ -1,13 +1,12 @@
 //! What C holds of the cells that were left in a closed queue.
 ghost use Rattle.std.specs.Prelude.{◌≡◌, ⊤, None, Option, Some, MatchOption};
 ghost use Rattle.kfifo_renewing.specs.declared.memory.CellAt.{CellAt as HasCellAt};
+ghost use Rattle.kfifo_c.specs.Behind.{Left, left_holds_of, left_in};
 ghost use Rattle.kfifo_c.specs.CellCalls.{TakesNext, cell_after_reserve, next_number};
-ghost use Rattle.kfifo_c.specs.CellLeft.{left_holds_of};
 ghost use Rattle.kfifo_c.specs.Exports.{Tries};
 
-use crate::cell_queue::left_held::LeftHeld;
 use crate::cell_queue::left_seat::LeftSeat;
-use crate::loose::Loose;
+use crate::held::Held;
 use crate::status::{BAD_CALL, DONE, EMPTY};
 use kfifo_renewing::CellAt;
 use std::alloc::Global;
@@ -17,7 +16,7 @@ use std::mem::replace;
 #[repr(C)]
 #[derive(Drop)]
 pub struct LeftHandle {
-    pub(crate) held: LeftHeld,
+    pub(crate) held: Held,
     // 1, and 0 where there is nothing.
     pub(crate) holds: u32,
     pub ghost holds_are: { holds ≡ left_holds_of held.value },
@@ -29,31 +28,31 @@ impl LeftHandle {
         ensures { result.held.value ≡ None }
     {
         LeftHandle {
-            held: LeftHeld::empty(),
+            held: Held::empty(),
             holds: 0,
         }
     }
 
     /// These cells.
     pub(crate) fn of(seat: Box<LeftSeat, Global>) -> LeftHandle
-        ensures { result.held.value ≡ Some seat.value }
+        ensures { result.held.value ≡ Some (Left seat.value) }
     {
         LeftHandle {
-            held: LeftHeld::of(Loose::of(seat)),
+            held: Held::of(seat),
             holds: 1,
         }
     }
 
     /// The cells, of which nothing is held any more.
     pub(crate) fn take(&mut self, alloc: Global) -> Option<Box<LeftSeat, Global>>
-        ensures value { MatchOption result (self.old.held.value ≡ None) (λ seat. self.old.held.value ≡ Some seat.value) }
+        ensures value { MatchOption result (left_in self.old.held.value ≡ None) (λ seat. self.old.held.value ≡ Some (Left seat.value)) }
         ensures closed { self.new.held.value ≡ None }
     {
         let LeftHandle { held, holds } = replace(self, LeftHandle::closed());
         if holds == 0 {
             return None;
         }
-        Some(held.into_loose(alloc).into_box())
+        Some(held.into_seat(alloc))
     }
 }
 
@@ -64,12 +63,12 @@ impl LeftHandle {
 pub extern "C" fn kfifo_c_next_left(left: &mut LeftHandle, cell: &mut CellAt) -> u32
     ensures { (answer : Option (Option HasCellAt)) × (result ≡ next_number answer)
         × (cell.new ≡ cell_after_reserve cell.old answer)
-        × Tries (λ _. ⊤) TakesNext answer left.old.held.value left.new.held.value }
+        × Tries Left (λ _. ⊤) TakesNext answer left.old.held.value left.new.held.value }
 {
     if left.holds == 0 {
         return BAD_CALL;
     }
-    let Some(next) = left.held.seat_mut().take_next() else {
+    let Some(next) = left.held.seat_mut::<LeftSeat>().take_next() else {
         return EMPTY;
     };
     *cell = next;

@@ -3,14 +3,15 @@ ghost use Rattle.std.specs.Prelude.{◌≡◌, ◌≢◌, None, Some, IfSome, If
 ghost use denote.RawPtr.{Ptr};
 ghost use Rattle.kfifo_live.specs.Capacities.{sizes_fault};
 ghost use Rattle.kfifo_renewing.specs.Renewing.{HaveOne, opening_with, sizes_again};
-ghost use Rattle.kfifo_c.specs.CellHandles.{cells_behind, fields_of};
+ghost use Rattle.kfifo_c.specs.Handles.{cells_behind, fields_of};
 ghost use Rattle.kfifo_c.specs.CellQueues.{is_layout as layout_fits};
 ghost use Rattle.kfifo_c.specs.Fields.{AreNew};
 ghost use Rattle.kfifo_c.specs.Openings.{IsAnswer, OpensAll, RefusesBad, sizes_number};
 
 use crate::address::no_address;
-use crate::cell_queue::handle::CellHandle;
 use crate::cell_queue::seat::CellSeat;
+use crate::handle::Handle;
+use crate::handles::put_all;
 use crate::status::{BAD_LAYOUT, BAD_THREADS, DONE, renew_status, sizes_status};
 use kfifo_live::{OpenFault, Sizes};
 use kfifo_renewing::{CellLayout, Cells, RenewFault, Renewals, RenewingHandle, open_cells_with};
@@ -72,25 +73,6 @@ fn address_of_all(seats: &[Box<CellSeat, Global>]) -> *mut u8 {
     }
 }
 
-/// Puts the seats behind the handles, the last seat first.
-fn put_all(
-    handles: &mut [CellHandle],
-    mut seats: Vec<Box<CellSeat, Global>>,
-    address: *mut u8,
-    size: u32,
-    alignment: u32,
-)
-    requires { length seats.items ≡ length handles.old }
-    ensures behind { cells_behind handles.new ≡ map Some (reverse (map (λ seat. seat.value) seats.items)) }
-    ensures fields { All (λ handle. AreNew address 3 size alignment (fields_of handle)) handles.new }
-{
-    for handle in handles.iter_mut() {
-        if let Some(seat) = seats.pop() {
-            *handle = CellHandle::of(seat, address, size, alignment);
-        }
-    }
-}
-
 /// Opens a queue with room for so many cells, for as many threads as there are handles, as
 /// `kfifo_renewing::open_cells_with`, and puts a handle of it behind each, in their order. Each cell has memory of this
 /// size and alignment, in bytes, which stand in each handle until it is closed. With fewer versions left than the
@@ -110,7 +92,7 @@ pub extern "C" fn kfifo_c_open_cells(
     last: u64,
     reserve: u64,
     generations: u32,
-    passes: &mut [CellHandle],
+    passes: &mut [Handle],
 ) -> u32
     ensures ok { result ≡ 0 → OpensAll true k capacity last (length passes.old) (cells_behind passes.new) }
     ensures fields { result ≡ 0 → (address : Ptr)

@@ -3,13 +3,16 @@ ghost use Rattle.std.specs.Prelude.{◌≡◌, ◌⊎◌, ℕ, ⊤, MatchOption,
 ghost use Rattle.kfifo_live.specs.declared.payload.Given.{Given as HasGiven};
 ghost use Rattle.kfifo_live.specs.declared.payload.Taken.{Taken as HasTaken};
 ghost use Rattle.kfifo_renewing.specs.Renewing.{Counts, GivesToNewest, TakesFromOldest};
+ghost use Rattle.kfifo_c.specs.Behind.{Values, values_in};
 ghost use Rattle.kfifo_c.specs.Exports.{Tries, count_of};
 ghost use Rattle.kfifo_c.specs.Values.{given_number, taken_number, value_after};
-ghost use Rattle.kfifo_c.specs.ValueHandles.{WereClosed, fields_of};
+ghost use Rattle.kfifo_c.specs.Handles.{WereClosed, fields_of};
 
+use crate::handle::Handle;
+use crate::handles::abandon;
 use crate::kind::VALUES;
 use crate::status::{BAD_CALL, FULL, NO_MEMORY};
-use crate::value_queue::handle::ValueHandle;
+use crate::value_queue::seat::ValueSeat;
 use crate::value_queue::status::{GOT, given_status, nothing_status};
 use kfifo_live::Taken;
 use std::alloc::Global;
@@ -17,15 +20,15 @@ use std::alloc::Global;
 /// Gives a value to the queue of the handle, as `RenewingHandle::give`, and returns its answer's number. Returns
 /// BAD_CALL, with nothing done, where the handle is closed or of another kind.
 #[unsafe(no_mangle)]
-pub extern "C" fn kfifo_c_give(pass: &mut ValueHandle, value: u64) -> u32
+pub extern "C" fn kfifo_c_give(pass: &mut Handle, value: u64) -> u32
     ensures answer { (answer : Option (HasGiven ℕ)) × (result ≡ given_number answer)
-        × Tries (λ _. ⊤) (GivesToNewest value) answer pass.old.held.value pass.new.held.value }
+        × Tries Values (λ _. ⊤) (GivesToNewest value) answer pass.old.held.value pass.new.held.value }
     ensures fields { fields_of pass.new ≡ fields_of pass.old }
 {
     if pass.kind != VALUES {
         return BAD_CALL;
     }
-    let given = pass.held.seat_mut().give(value);
+    let given = pass.held.seat_mut::<ValueSeat>().give(value);
     given_status(&given)
 }
 
@@ -33,16 +36,16 @@ pub extern "C" fn kfifo_c_give(pass: &mut ValueHandle, value: u64) -> u32
 /// `RenewingHandle::take`, writes the value if there is one, and returns its answer's number. Returns BAD_CALL, with
 /// nothing done, where the handle is closed or of another kind.
 #[unsafe(no_mangle)]
-pub extern "C" fn kfifo_c_take(pass: &mut ValueHandle, value: &mut u64) -> u32
+pub extern "C" fn kfifo_c_take(pass: &mut Handle, value: &mut u64) -> u32
     ensures answer { (answer : Option (HasTaken ℕ)) × (result ≡ taken_number answer)
         × (value.new ≡ value_after value.old answer)
-        × Tries (λ _. ⊤) TakesFromOldest answer pass.old.held.value pass.new.held.value }
+        × Tries Values (λ _. ⊤) TakesFromOldest answer pass.old.held.value pass.new.held.value }
     ensures fields { fields_of pass.new ≡ fields_of pass.old }
 {
     if pass.kind != VALUES {
         return BAD_CALL;
     }
-    let taken = pass.held.seat_mut().take();
+    let taken = pass.held.seat_mut::<ValueSeat>().take();
     if let Taken::Got(got) = taken {
         *value = got;
         return GOT;
@@ -54,15 +57,15 @@ pub extern "C" fn kfifo_c_take(pass: &mut ValueHandle, value: &mut u64) -> u32
 /// generation, and memory was missing for that, as `RenewingHandle::lacks_memory`; else FULL. Returns BAD_CALL where
 /// the handle is closed or of another kind.
 #[unsafe(no_mangle)]
-pub extern "C" fn kfifo_c_why_no_room(pass: &mut ValueHandle) -> u32
-    ensures why { MatchOption pass.old.held.value (result ≡ 6) (λ _. (result ≡ 1) ⊎ (result ≡ 7)) }
+pub extern "C" fn kfifo_c_why_no_room(pass: &mut Handle) -> u32
+    ensures why { MatchOption (values_in pass.old.held.value) (result ≡ 6) (λ _. (result ≡ 1) ⊎ (result ≡ 7)) }
     ensures same { pass.new.held.value ≡ pass.old.held.value }
     ensures fields { fields_of pass.new ≡ fields_of pass.old }
 {
     if pass.kind != VALUES {
         return BAD_CALL;
     }
-    if pass.held.seat_mut().lacks_memory() {
+    if pass.held.seat_mut::<ValueSeat>().lacks_memory() {
         return NO_MEMORY;
     }
     FULL
@@ -71,23 +74,21 @@ pub extern "C" fn kfifo_c_why_no_room(pass: &mut ValueHandle) -> u32
 /// About how many values are in the queue of the handle, as `RenewingHandle::len`. Returns 0 where the handle is closed
 /// or of another kind.
 #[unsafe(no_mangle)]
-pub extern "C" fn kfifo_c_values_len(pass: &mut ValueHandle) -> usize
+pub extern "C" fn kfifo_c_values_len(pass: &mut Handle) -> usize
     ensures counted { (counted : Option ℕ) × (result ≡ count_of counted)
-        × Tries (λ _. ⊤) Counts counted pass.old.held.value pass.new.held.value }
+        × Tries Values (λ _. ⊤) Counts counted pass.old.held.value pass.new.held.value }
     ensures fields { fields_of pass.new ≡ fields_of pass.old }
 {
     if pass.kind != VALUES {
         return 0;
     }
-    pass.held.seat_mut().len()
+    pass.held.seat_mut::<ValueSeat>().len()
 }
 
 /// Closes these handles. With the last open handle of a queue the queue goes, and the values that are left in it.
 #[unsafe(no_mangle)]
-pub extern "C" fn kfifo_c_abandon_values(alloc: Global, passes: &mut [ValueHandle])
-    ensures { WereClosed passes.old passes.new }
+pub extern "C" fn kfifo_c_abandon_values(alloc: Global, passes: &mut [Handle])
+    ensures { WereClosed 2 passes.old passes.new }
 {
-    for pass in passes.iter_mut() {
-        let _seat = pass.take(alloc);
-    }
+    abandon::<ValueSeat>(alloc, passes);
 }

@@ -1,19 +1,21 @@
 //! Closing a queue of values.
 ghost use Rattle.std.specs.Prelude.{◌≡◌, ◌⊎◌, ◌++◌, ◌==◌, List, Option, Some, None, IfOk, IsErr, IsTrue, All};
-ghost use Rattle.std.specs.Prelude.{length, drop};
+ghost use Rattle.std.specs.Prelude.{length, drop, map};
 ghost use Rattle.std.specs.List.{list_all};
-ghost use Rattle.kfifo_c.specs.ValueHandles.{IsClosed, WereClosed, all_fields, values_behind};
-ghost use Rattle.kfifo_c.specs.ValueSeats.{ValueSeated};
-ghost use Rattle.kfifo_c.specs.Values.{ClosesValues, LastFollows, MayCloseValues, NeedsRoom, seats_in};
+ghost use Rattle.kfifo_c.specs.AllHandles.{seats_in};
+ghost use Rattle.kfifo_c.specs.Behind.{Behind, values_in};
+ghost use Rattle.kfifo_c.specs.Handles.{IsClosed, WereClosed, all_fields, behind, values_behind};
+ghost use Rattle.kfifo_c.specs.Values.{ClosesValues, LastFollows, MayCloseValues, NeedsRoom};
 
+use crate::handle::Handle;
 use crate::kind::VALUES;
 use crate::status::{BAD_CALL, DONE, LOST, NO_MEMORY};
-use crate::value_queue::handle::ValueHandle;
+use crate::value_queue::seat::ValueSeat;
 use kfifo_renewing::{RenewingHandle, close};
 use std::alloc::{AllocError, Global};
 
 /// Whether each of these handles is open.
-fn are_open(handles: &[ValueHandle]) -> bool
+fn are_open(handles: &[Handle]) -> bool
     ensures { result ≡ list_all (λ handle. handle.kind == 2) handles.now }
 {
     handles.iter().all(|handle| handle.kind == VALUES)
@@ -21,8 +23,8 @@ fn are_open(handles: &[ValueHandle]) -> bool
 
 /// Room for what may be left in the queue of these handles, if they are all that it has. The last of them follows
 /// others, for which memory may be missing.
-fn room_of(handles: &mut [ValueHandle]) -> Result<Option<usize>, AllocError>
-    ensures follows { LastFollows (values_behind handles.old) (values_behind handles.new) }
+fn room_of(handles: &mut [Handle]) -> Result<Option<usize>, AllocError>
+    ensures follows { LastFollows (behind handles.old) (behind handles.new) }
     ensures fields { all_fields handles.new ≡ all_fields handles.old }
     ensures room { IfOk result (λ room. NeedsRoom room (values_behind handles.new)) }
 {
@@ -33,7 +35,7 @@ fn room_of(handles: &mut [ValueHandle]) -> Result<Option<usize>, AllocError>
     let Some(last) = handles.last_mut() else {
         return Ok(None);
     };
-    let seat = last.held.seat_mut();
+    let seat = last.held.seat_mut::<ValueSeat>();
     if count != seat.threads() as usize {
         return Ok(None);
     }
@@ -45,17 +47,14 @@ fn room_of(handles: &mut [ValueHandle]) -> Result<Option<usize>, AllocError>
 }
 
 /// The open ones of these handles, which are then closed.
-fn take_all(
-    alloc: Global,
-    handles: &mut [ValueHandle],
-) -> Result<Vec<RenewingHandle<u64>>, AllocError>
+fn take_all(alloc: Global, handles: &mut [Handle]) -> Result<Vec<RenewingHandle<u64>>, AllocError>
     ensures refused { IsErr result → handles.new ≡ handles.old }
-    ensures closed { IfOk result (λ _. WereClosed handles.old handles.new) }
+    ensures closed { IfOk result (λ _. WereClosed 2 handles.old handles.new) }
     ensures taken { IfOk result (λ taken. taken.items ≡ seats_in (values_behind handles.old)) }
 {
     let mut taken = Vec::with_capacity(alloc, handles.len())?;
     for handle in handles.iter_mut() {
-        if let Some(seat) = handle.take(alloc) {
+        if let Some(seat) = handle.take::<ValueSeat>(alloc) {
             taken.push_reserved(Box::into_inner(seat).into_handle());
         }
     }
@@ -78,8 +77,8 @@ fn write_values(values: &mut [u64], left: &[u64]) -> bool
 /// How many values a close by these handles needs room for: one of each slot of each generation. Returns 0 where they
 /// are not all that a queue has, or others opened new generations all the time. The last of them follows others.
 #[unsafe(no_mangle)]
-pub extern "C" fn kfifo_c_values_room(passes: &mut [ValueHandle]) -> usize
-    ensures follows { LastFollows (values_behind passes.old) (values_behind passes.new) }
+pub extern "C" fn kfifo_c_values_room(passes: &mut [Handle]) -> usize
+    ensures follows { LastFollows (behind passes.old) (behind passes.new) }
     ensures fields { all_fields passes.new ≡ all_fields passes.old }
     ensures room { (result ≡ 0) ⊎ NeedsRoom (Some result) (values_behind passes.new) }
 {
@@ -97,19 +96,19 @@ pub extern "C" fn kfifo_c_values_room(passes: &mut [ValueHandle]) -> usize
 #[unsafe(no_mangle)]
 pub extern "C" fn kfifo_c_close_values(
     alloc: Global,
-    passes: &mut [ValueHandle],
+    passes: &mut [Handle],
     values: &mut [u64],
     count: &mut usize,
 ) -> u32
     ensures answers { (result ≡ 0) ⊎ (result ≡ 6) ⊎ (result ≡ 7) ⊎ (result ≡ 9) }
     ensures bad { result ≡ 6 → ¬ MayCloseValues (values_behind passes.new) (length values.old) }
-    ensures may { (result ≡ 0) ⊎ (result ≡ 9) → (seats : List (Option ValueSeated))
-        × LastFollows (values_behind passes.old) seats × MayCloseValues seats (length values.old) }
-    ensures nothing { (result ≡ 6) ⊎ (result ≡ 7) → LastFollows (values_behind passes.old) (values_behind passes.new)
+    ensures may { (result ≡ 0) ⊎ (result ≡ 9) → (seats : List (Option Behind))
+        × LastFollows (behind passes.old) seats × MayCloseValues (map values_in seats) (length values.old) }
+    ensures nothing { (result ≡ 6) ⊎ (result ≡ 7) → LastFollows (behind passes.old) (behind passes.new)
         × (all_fields passes.new ≡ all_fields passes.old) }
     ensures closed { (result ≡ 0) ⊎ (result ≡ 9) → All IsClosed passes.new }
-    ensures done { result ≡ 0 → (seats : List (Option ValueSeated)) × LastFollows (values_behind passes.old) seats
-        × ClosesValues seats values.old values.new count.new }
+    ensures done { result ≡ 0 → (seats : List (Option Behind)) × LastFollows (behind passes.old) seats
+        × ClosesValues (map values_in seats) values.old values.new count.new }
     ensures kept { (result ≡ 6) ⊎ (result ≡ 7) ⊎ (result ≡ 9) → (values.new ≡ values.old) × (count.new ≡ count.old) }
 {
     let room = match room_of(passes) {

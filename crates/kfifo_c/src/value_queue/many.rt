@@ -5,14 +5,15 @@ ghost use Rattle.kfifo_live.specs.declared.payload.Given.TheVariants as G;
 ghost use Rattle.kfifo_live.specs.declared.payload.Taken.{Taken as HasTaken};
 ghost use Rattle.kfifo_live.specs.declared.payload.Taken.TheVariants as K;
 ghost use Rattle.kfifo_renewing.specs.Renewing.{GivesToNewest, TakesFromOldest};
+ghost use Rattle.kfifo_c.specs.Behind.{Values, values_in};
 ghost use Rattle.kfifo_c.specs.Exports.{Tries};
 ghost use Rattle.kfifo_c.specs.Many.{GivesEach, TakesEach, last_number};
 ghost use Rattle.kfifo_c.specs.Values.{given_number, taken_number};
-ghost use Rattle.kfifo_c.specs.ValueHandles.{fields_of};
+ghost use Rattle.kfifo_c.specs.Handles.{fields_of};
 
+use crate::handle::Handle;
 use crate::kind::VALUES;
 use crate::status::{BAD_CALL, DONE};
-use crate::value_queue::handle::ValueHandle;
 use crate::value_queue::seat::ValueSeat;
 use crate::value_queue::status::{given_status, nothing_status};
 use kfifo_live::{Given, Taken};
@@ -65,44 +66,36 @@ impl ValueSeat {
 /// DONE. Writes how many were given, and returns the number of the last answer. Returns BAD_CALL, with nothing done,
 /// where the handle is closed or of another kind.
 #[unsafe(no_mangle)]
-pub extern "C" fn kfifo_c_give_many(
-    pass: &mut ValueHandle,
-    values: &[u64],
-    given: &mut usize,
-) -> u32
+pub extern "C" fn kfifo_c_give_many(pass: &mut Handle, values: &[u64], given: &mut usize) -> u32
     ensures answer { (last : Option (Option (HasGiven ℕ))) × (result ≡ last_number given_number last)
-        × Tries (λ _. ⊤) (GivesEach GivesToNewest G.Done values.now given.new) last pass.old.held.value
+        × Tries Values (λ _. ⊤) (GivesEach GivesToNewest G.Done values.now given.new) last pass.old.held.value
         pass.new.held.value }
-    ensures closed { pass.old.held.value ≡ None → given.new ≡ 0 }
+    ensures closed { values_in pass.old.held.value ≡ None → given.new ≡ 0 }
     ensures fields { fields_of pass.new ≡ fields_of pass.old }
 {
     if pass.kind != VALUES {
         *given = 0;
         return BAD_CALL;
     }
-    pass.held.seat_mut().give_each(values, given)
+    pass.held.seat_mut::<ValueSeat>().give_each(values, given)
 }
 
 /// Takes values out of the queue of the handle, one after the other as `kfifo_c_take`, until these are written or a
 /// take comes to no value. Writes how many were taken, and returns DONE where these are all, else the number of the
 /// last answer. Returns BAD_CALL, with nothing done, where the handle is closed or of another kind.
 #[unsafe(no_mangle)]
-pub extern "C" fn kfifo_c_take_many(
-    pass: &mut ValueHandle,
-    values: &mut [u64],
-    taken: &mut usize,
-) -> u32
+pub extern "C" fn kfifo_c_take_many(pass: &mut Handle, values: &mut [u64], taken: &mut usize) -> u32
     ensures answer { (last : Option (Option (HasTaken ℕ))) × (got : List ℕ)
         × (result ≡ last_number taken_number last) × (values.new ≡ got ++ drop (length got) values.old)
         × (taken.new ≡ length got)
-        × Tries (λ _. ⊤) (TakesEach TakesFromOldest K.Got (length values.old) got) last pass.old.held.value
+        × Tries Values (λ _. ⊤) (TakesEach TakesFromOldest K.Got (length values.old) got) last pass.old.held.value
         pass.new.held.value }
-    ensures closed { pass.old.held.value ≡ None → taken.new ≡ 0 }
+    ensures closed { values_in pass.old.held.value ≡ None → taken.new ≡ 0 }
     ensures fields { fields_of pass.new ≡ fields_of pass.old }
 {
     if pass.kind != VALUES {
         *taken = 0;
         return BAD_CALL;
     }
-    pass.held.seat_mut().take_each(values, taken)
+    pass.held.seat_mut::<ValueSeat>().take_each(values, taken)
 }

@@ -5,11 +5,12 @@ ghost use Rattle.kfifo_live.specs.Capacities.{sizes_fault};
 ghost use Rattle.kfifo_renewing.specs.Renewing.{HaveOne, opening_with, sizes_again};
 ghost use Rattle.kfifo_c.specs.Fields.{AreNew};
 ghost use Rattle.kfifo_c.specs.Openings.{IsAnswer, OpensAll, RefusesBad, sizes_number};
-ghost use Rattle.kfifo_c.specs.ValueHandles.{fields_of, values_behind};
+ghost use Rattle.kfifo_c.specs.Handles.{fields_of, values_behind};
 
 use crate::address::no_address;
+use crate::handle::Handle;
+use crate::handles::put_all;
 use crate::status::{BAD_THREADS, DONE, renew_status, sizes_status};
-use crate::value_queue::handle::ValueHandle;
 use crate::value_queue::seat::ValueSeat;
 use kfifo_live::{OpenFault, Sizes};
 use kfifo_renewing::{RenewFault, Renewals, RenewingHandle, open_with};
@@ -62,19 +63,6 @@ fn address_of_all(seats: &[Box<ValueSeat, Global>]) -> *mut u8 {
     }
 }
 
-/// Puts the seats behind the handles, the last seat first.
-fn put_all(handles: &mut [ValueHandle], mut seats: Vec<Box<ValueSeat, Global>>, address: *mut u8)
-    requires { length seats.items ≡ length handles.old }
-    ensures behind { values_behind handles.new ≡ map Some (reverse (map (λ seat. seat.value) seats.items)) }
-    ensures fields { All (λ handle. AreNew address 2 0 0 (fields_of handle)) handles.new }
-{
-    for handle in handles.iter_mut() {
-        if let Some(seat) = seats.pop() {
-            *handle = ValueHandle::of(seat, address);
-        }
-    }
-}
-
 /// Opens a queue with room for so many values, for as many threads as there are handles, as
 /// `kfifo_renewing::open_with`, and puts a handle of it behind each, in their order. With fewer versions left than the
 /// reserve, a generation is followed by the next one; with a reserve of 0 it is not. So is one with no room while there
@@ -90,7 +78,7 @@ pub extern "C" fn kfifo_c_open_values(
     last: u64,
     reserve: u64,
     generations: u32,
-    passes: &mut [ValueHandle],
+    passes: &mut [Handle],
 ) -> u32
     ensures ok { result ≡ 0 → OpensAll false k capacity last (length passes.old) (values_behind passes.new) }
     ensures fields { result ≡ 0 → (address : Ptr) × All (λ pass. AreNew address 2 0 0 (fields_of pass)) passes.new }
@@ -113,7 +101,7 @@ pub extern "C" fn kfifo_c_open_values(
     match open_seats(alloc, sizes, renewals) {
         Ok(seats) => {
             let address = address_of_all(seats.as_slice());
-            put_all(passes, seats, address);
+            put_all(passes, seats, address, 0, 0);
             DONE
         }
         Err(fault) => renew_status(fault),

@@ -1,11 +1,11 @@
 use Rattle.std.proofs.Common.{sym, ap, ◌∙◌}
 use Rattle.kfifo_c.specs.Handles.{fields_of}
-use Rattle.kfifo_c.proofs.Passes.{something}
-use Rattle.kfifo_c.proofs.Closings.{put_back, same_fields}
+use Rattle.kfifo_c.proofs.ByKind.{items_from}
+use Rattle.kfifo_c.proofs.HandleLists.{put_back, same_fields}
 use Rattle.kfifo_c.proofs.closing.first_queue.Goals as goal
 
 pub seat_mut-seat-requires : goal.seat_mut-seat-requires
-seat_mut-seat-requires c = something _ (λ e. c.if-first-eq0.false (c.in-Some.first.now.starts_are ∙ e))
+seat_mut-seat-requires c = items_from _ (λ e. c.if-first-eq0.false (c.in-Some.first.now.starts_are ∙ e))
 
 pub returns-in_err-queue-clause-same : goal.returns-in_err-queue-clause-same
 returns-in_err-queue-clause-same c =

@@ -1,16 +1,12 @@
-use Rattle.std.proofs.Common.{◌≡◌, Option, Some, None, IfSome, [], refl, sym, subst, ◌∙◌}
-use Rattle.std.specs.Prelude.{⊤}
-use Rattle.kfifo_c.specs.Seats.{Seated}
-use Rattle.kfifo_c.proofs.Passes.{something, closed_at}
+use Rattle.std.proofs.Common.{Some, None, [], refl, sym, ◌∙◌}
+use Rattle.kfifo_c.proofs.ByKind.{items_from, no_items}
 use Rattle.kfifo_c.proofs.many.kfifo_c_get_many.Goals as goal
 
 pub returns-then-pass-eq0-clause-answer : goal.returns-then-pass-eq0-clause-answer
-returns-then-pass-eq0-clause-answer c =
-    let closed : c.args.pass.now.held.value ≡ None = closed_at _ (sym c.args.pass.now.starts_are ∙ c.if-pass-eq0.true) in
-    (None, [], refl, refl, refl, (refl, subst (λ (o : Option Seated). IfSome o (λ _. ¬ ⊤)) (sym closed) tt))
+returns-then-pass-eq0-clause-answer c = (None, [], refl, refl, refl, (refl, λ seat there _. no_items _ (sym c.args.pass.now.starts_are ∙ c.if-pass-eq0.true) seat there))
 
 pub seat_mut-requires : goal.seat_mut-requires
-seat_mut-requires c = something _ (λ e. c.if-pass-eq0.false (c.args.pass.now.starts_are ∙ e))
+seat_mut-requires c = items_from _ (λ e. c.if-pass-eq0.false (c.args.pass.now.starts_are ∙ e))
 
 pub returns-clause-answer : goal.returns-clause-answer
 returns-clause-answer c =

@@ -1,9 +1,9 @@
 use Rattle.std.proofs.Common.{Some, refl, ◌∙◌}
-use Rattle.kfifo_c.proofs.Passes.{something}
+use Rattle.kfifo_c.proofs.ByKind.{items_from}
 use Rattle.kfifo_c.proofs.many.kfifo_c_put_many.Goals as goal
 
 pub seat_mut-requires : goal.seat_mut-requires
-seat_mut-requires c = something _ (λ e. c.if-pass-eq0.false (c.args.pass.now.starts_are ∙ e))
+seat_mut-requires c = items_from _ (λ e. c.if-pass-eq0.false (c.args.pass.now.starts_are ∙ e))
 
 pub returns-clause-answer : goal.returns-clause-answer
 returns-clause-answer c =

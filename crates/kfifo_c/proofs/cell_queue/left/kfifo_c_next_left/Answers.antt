@@ -1,10 +1,10 @@
 use Rattle.std.proofs.Common.{Some, refl, sym, ap, ◌∙◌}
 use Rattle.kfifo_c.specs.CellCalls.{cell_after_reserve, next_number}
-use Rattle.kfifo_c.proofs.CellLeft.{something}
+use Rattle.kfifo_c.proofs.ByKind.{left_found}
 use Rattle.kfifo_c.proofs.cell_queue.left.kfifo_c_next_left.Goals as goal
 
 pub seat_mut-requires : goal.seat_mut-requires
-seat_mut-requires c = something _ (λ e. c.if-left-eq0.false (c.args.left.now.holds_are ∙ e))
+seat_mut-requires c = left_found _ (λ e. c.if-left-eq0.false (c.args.left.now.holds_are ∙ e))
 
 pub returns-in_default : goal.returns-in_default
 returns-in_default c = (

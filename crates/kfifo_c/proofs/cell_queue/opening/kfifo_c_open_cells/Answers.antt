@@ -1,6 +1,7 @@
 -- What an opening returns once there are sizes for its capacity.
-use Rattle.std.proofs.Common.{◌≡◌, ◌≤◌, arith, length, map, reverse, subst, sym, true, ◌∙◌}
+use Rattle.std.proofs.Common.{◌≡◌, ◌≤◌, ap, arith, length, map, reverse, subst, sym, true, ◌∙◌}
 use Rattle.kfifo_renewing.specs.declared.queue.Renewals.{Renewals}
+use Rattle.kfifo_c.proofs.HandleLists.{cells, read_seats}
 use Rattle.kfifo_c.proofs.Openings.{AreFor, answer_done, answer_refused, never_done, opens_for}
 use Rattle.kfifo_c.proofs.Passes.{length_read}
 use Rattle.kfifo_c.proofs.cell_queue.opening.kfifo_c_open_cells.Goals as goal
@@ -16,7 +17,7 @@ returns-in-Ok-open_seats-clause-ok c = λ _.
       seats = reverse (map (λ seat. seat.value) c.in-Ok-open_seats.seats.items);
       opens = opens_for c.in-Ok.sizes r c.args.k c.args.capacity n c.args.last are c.in-Ok.ensures.room few true _ ok.0
           (length_read (λ seat. seat.value) c.in-Ok-open_seats.seats.items ∙ ok.1);
-      handles_are = c.put_all.ensures.behind;
+      handles_are = ap (map cells.read) c.put_all.ensures.behind ∙ read_seats cells _;
     }
 
 pub returns-in-Ok-open_seats-clause-answer : goal.returns-in-Ok-open_seats-clause-answer

@@ -1,13 +1,25 @@
-use Rattle.std.proofs.Common.{Some, refl}
-use Rattle.kfifo_c.proofs.Turns.{something}
+use Rattle.std.proofs.Common.{Some, refl, sym, ◌∙◌, None}
+use Rattle.kfifo_c.specs.Behind.{Values, values_found}
+use Rattle.kfifo_c.proofs.ByKind.{no_seat}
 use Rattle.kfifo_c.proofs.value_queue.calls.kfifo_c_give.Goals as goal
 
 pub seat_mut-requires : goal.seat_mut-requires
-seat_mut-requires c = something _ 2 _ _ c.args.pass.now.kind_is c.if-pass-ne-VALUES.false
+seat_mut-requires c = values_found _ (sym c.args.pass.now.kind_is ∙ c.if-pass-ne-VALUES.false)
 
 pub returns-clause-answer : goal.returns-clause-answer
 returns-clause-answer c = (
   Some c.give-given.result,
   c.given_status.ensures,
   (c.seat_mut.result.now, c.give-given.new.self, c.seat_mut.ensures.value, refl, tt, c.give-given.ensures),
+)
+
+pub returns-then-pass-ne-VALUES-clause-answer : goal.returns-then-pass-ne-VALUES-clause-answer
+returns-then-pass-ne-VALUES-clause-answer c = (
+  None,
+  refl,
+  (
+    refl,
+    λ seat there _. no_seat Values 2 (λ x. refl) _
+        (λ e. c.if-pass-ne-VALUES.true (c.args.pass.now.kind_is ∙ e)) seat there,
+  ),
 )

@@ -1,36 +1,36 @@
 use Rattle.std.proofs.Common.{◌≡◌, ◌++◌, ◌∷◌, [], length, drop, vec_len, List, ap, sym, subst, ◌∙◌, arith, rules}
 use Rattle.kfifo_renewing.specs.Renewing.{ClosesAll}
-use Rattle.kfifo_c.specs.declared.value_queue.handle.ValueHandle.{ValueHandle}
-use Rattle.kfifo_c.specs.ValueHandles.{IsClosed, all_fields, values_behind}
+use Rattle.kfifo_c.specs.declared.handle.Handle.{Handle}
+use Rattle.kfifo_c.specs.Handles.{all_fields, behind, values_behind}
 use Rattle.kfifo_c.specs.ValueSeats.{ValueSeated}
 use Rattle.kfifo_c.specs.Values.{LastFollows, NeedsRoom}
-use Rattle.kfifo_c.proofs.Turns.{all_closed}
-use Rattle.kfifo_c.proofs.ValueHandles.{closing_last, may_close}
+use Rattle.kfifo_c.proofs.AllHandles.{closing_last, may_close}
+use Rattle.kfifo_c.proofs.HandleLists.{all_closed, values}
 use Rattle.kfifo_c.proofs.value_queue.closing.kfifo_c_close_values.Goals as goal
 
 pub returns-in_default-clause-nothing : goal.returns-in_default-clause-nothing
 returns-in_default-clause-nothing c = λ _.
     let same : c.take_all.new.handles ≡ c.room_of.new.handles = search (rules, c.in_default.ensures.refused) in
-    subst (λ (hs : List ValueHandle). LastFollows (values_behind c.args.passes.now) (values_behind hs)
+    subst (λ (hs : List Handle). LastFollows (behind c.args.passes.now) (behind hs)
     × (all_fields hs ≡ all_fields c.args.passes.now)) (sym same) (c.room_of.ensures.follows, c.room_of.ensures.fields)
 
 pub returns-in_default-close-clause-may : goal.returns-in_default-close-clause-may
 returns-in_default-close-clause-may c = λ _. (
-  values_behind c.room_of.new.handles,
+  behind c.room_of.new.handles,
   c.room_of.ensures.follows,
   may_close _ _ _ _ c.in-Ok-Some.ensures.room c.in-Ok-Some.field-0-is c.if-values-room.false,
 )
 
 pub returns-then-not-write_values-clause-may : goal.returns-then-not-write_values-clause-may
 returns-then-not-write_values-clause-may c = λ _. (
-  values_behind c.room_of.new.handles,
+  behind c.room_of.new.handles,
   c.room_of.ensures.follows,
   may_close _ _ _ _ c.in-Ok-Some.ensures.room c.in-Ok-Some.field-0-is c.if-values-room.false,
 )
 
 pub returns-clause-may : goal.returns-clause-may
 returns-clause-may c = λ _. (
-  values_behind c.room_of.new.handles,
+  behind c.room_of.new.handles,
   c.room_of.ensures.follows,
   may_close _ _ _ _ c.in-Ok-Some.ensures.room c.in-Ok-Some.field-0-is c.if-values-room.false,
 )
@@ -42,7 +42,7 @@ returns-clause-done c = λ _.
     let left = c.in-Ok-close.left.items in let closed = c.in-Ok-close.ensures in
     let last : closed.0 ≡ all.last = closing_last os all closed.1 closed.0 (sym c.in-Ok.ensures.taken ∙ closed.2) in
     let v : vec_len c.in-Ok-close.left ≡ length left = omega arith in (
-      os,
+      behind c.room_of.new.handles,
       c.room_of.ensures.follows,
       record {
         all = all;
@@ -58,19 +58,19 @@ pub returns-in_default-close-clause-closed : goal.returns-in_default-close-claus
 returns-in_default-close-clause-closed c = λ _.
     let os = values_behind c.room_of.new.handles in let closed = c.in-Ok.ensures.closed in
     let all = (subst (λ o. NeedsRoom o os) c.in-Ok-Some.field-0-is c.in-Ok-Some.ensures.room).0 in
-    all_closed (λ h. h.held.value) IsClosed c.room_of.new.handles c.take_all.new.handles (all.others ++ all.last ∷ []) all.each_open
-    closed.0 closed.1
+    all_closed values c.room_of.new.handles c.take_all.new.handles (all.others ++ all.last ∷ []) all.each_open
+    closed
 
 pub returns-then-not-write_values-clause-closed : goal.returns-then-not-write_values-clause-closed
 returns-then-not-write_values-clause-closed c = λ _.
     let os = values_behind c.room_of.new.handles in let closed = c.in-Ok.ensures.closed in
     let all = (subst (λ o. NeedsRoom o os) c.in-Ok-Some.field-0-is c.in-Ok-Some.ensures.room).0 in
-    all_closed (λ h. h.held.value) IsClosed c.room_of.new.handles c.take_all.new.handles (all.others ++ all.last ∷ []) all.each_open
-    closed.0 closed.1
+    all_closed values c.room_of.new.handles c.take_all.new.handles (all.others ++ all.last ∷ []) all.each_open
+    closed
 
 pub returns-clause-closed : goal.returns-clause-closed
 returns-clause-closed c = λ _.
     let os = values_behind c.room_of.new.handles in let closed = c.in-Ok.ensures.closed in
     let all = (subst (λ o. NeedsRoom o os) c.in-Ok-Some.field-0-is c.in-Ok-Some.ensures.room).0 in
-    all_closed (λ h. h.held.value) IsClosed c.room_of.new.handles c.take_all.new.handles (all.others ++ all.last ∷ []) all.each_open
-    closed.0 closed.1
+    all_closed values c.room_of.new.handles c.take_all.new.handles (all.others ++ all.last ∷ []) all.each_open
+    closed

@@ -1,13 +1,13 @@
 use Rattle.std.proofs.Common.{◌≡◌, ◌≤◌, ◌<◌, ℕ, take, get_or, length, vec_capacity}
-use Rattle.kfifo_c.specs.declared.value_queue.handle.ValueHandle.{ValueHandle}
-use Rattle.kfifo_c.specs.ValueHandles.{WasClosed, values_behind}
-use Rattle.kfifo_c.specs.Values.{seats_in}
+use Rattle.kfifo_c.specs.declared.handle.Handle.{Handle}
+use Rattle.kfifo_c.specs.Handles.{WasClosed, values_behind}
+use Rattle.kfifo_c.specs.AllHandles.{seats_in}
 use Rattle.kfifo_c.proofs.value_queue.closing.take_all.Given as goal
 
 abbrev pub invariant-loop-handle : goal.invariant-loop-handle
 invariant-loop-handle l = record {
-  rest : (k : ℕ) (d : ValueHandle) → l.handle-index ≤ k → get_or l.handles k d ≡ get_or l.initial.handles k d;
-  closed : (k : ℕ) (d : ValueHandle) → k < l.handle-index → WasClosed (get_or l.initial.handles k d) (get_or l.handles k d);
+  rest : (k : ℕ) (d : Handle) → l.handle-index ≤ k → get_or l.handles k d ≡ get_or l.initial.handles k d;
+  closed : (k : ℕ) (d : Handle) → k < l.handle-index → WasClosed 2 (get_or l.initial.handles k d) (get_or l.handles k d);
   seats : l.taken.items ≡ seats_in (take l.handle-index (values_behind l.initial.handles));
   few : length l.taken.items ≤ l.handle-index;
   room : length l.initial.handles ≤ vec_capacity l.taken;

@@ -1,16 +1,21 @@
-use Rattle.std.proofs.Common.{◌≡◌, Option, Some, None, IfSome, refl, sym, subst}
-use Rattle.std.specs.Prelude.{⊤}
-use Rattle.kfifo_c.specs.ValueSeats.{ValueSeated}
-use Rattle.kfifo_c.proofs.Turns.{closed_at, something}
+use Rattle.std.proofs.Common.{Some, None, refl, sym, ◌∙◌}
+use Rattle.kfifo_c.specs.Behind.{Values, values_found}
+use Rattle.kfifo_c.proofs.ByKind.{no_seat}
 use Rattle.kfifo_c.proofs.value_queue.many.kfifo_c_give_many.Goals as goal
 
 pub returns-then-pass-ne-VALUES-clause-answer : goal.returns-then-pass-ne-VALUES-clause-answer
-returns-then-pass-ne-VALUES-clause-answer c =
-    let closed : c.args.pass.now.held.value ≡ None = closed_at _ 2 _ _ c.args.pass.now.kind_is c.if-pass-ne-VALUES.true in
-    (None, refl, (refl, subst (λ (o : Option ValueSeated). IfSome o (λ _. ¬ ⊤)) (sym closed) tt))
+returns-then-pass-ne-VALUES-clause-answer c = (
+  None,
+  refl,
+  (
+    refl,
+    λ seat there _. no_seat Values 2 (λ x. refl) _
+        (λ e. c.if-pass-ne-VALUES.true (c.args.pass.now.kind_is ∙ e)) seat there,
+  ),
+)
 
 pub seat_mut-requires : goal.seat_mut-requires
-seat_mut-requires c = something _ 2 _ _ c.args.pass.now.kind_is c.if-pass-ne-VALUES.false
+seat_mut-requires c = values_found _ (sym c.args.pass.now.kind_is ∙ c.if-pass-ne-VALUES.false)
 
 pub returns-clause-answer : goal.returns-clause-answer
 returns-clause-answer c =
