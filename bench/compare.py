@@ -7,6 +7,7 @@ geometric means. Each round runs both, the first one first in every other round.
     bench/compare.py --looking [LIBRARY] ..     compares calls of one library: those that look for threads that wait
                                                 with the exports, which do not
     bench/compare.py --many [LIBRARY] ..        compares 64 values or items at once with as many single calls
+    bench/compare.py --growing [LIBRARY] ..     compares queues of values that may grow with one that cannot
 
 LIBRARY and OTHER are files as c/out/libkfifo.a. The programs are built as bench/run.py builds them, and need the same;
 those of --many need nothing but a compiler. A comparison within one library is of its own calls: a row that misses its
@@ -25,6 +26,8 @@ FOLDERS = [f"{run.OUT}/first", f"{run.OUT}/second"]
 # What calls that look have to keep of the rate of those that do not, and 64 at once of that of single calls: on one
 # thread the second, and elsewhere as much as single calls, within the noise.
 LOOKING_GOAL, MANY_GOAL, LEAST = 0.97, 1.25, 0.97
+# What a queue that may grow has to keep of the rate of one that cannot, and one that grows all the time.
+MAY_GROW_GOAL, GROWS_GOAL = 0.97, 0.8
 MANY = ["values in C", "items in C", "values in C++", "items in C++"]
 SHAPES = [(1, 1024), (4, 256), (16, 64)]
 
@@ -85,15 +88,26 @@ def in_turn(words, others, rounds):
     return found
 
 
+def second(words, workloads):
+    """Yields each of these workloads with its second queue, and the ratios of that one's rates to the first one's."""
+    run.build(words.library and os.path.abspath(words.library))
+    for workload in workloads:
+        if words.only in workload.title:
+            rates = run.measure(workload, words.rounds)
+            yield workload, workload.queues[1], list(run.ratios(rates).values())[1]
+
+
 def looking(words):
     """Yields a title and a label of each workload with calls that look, its ratios, and its goal."""
-    run.build(words.library and os.path.abspath(words.library))
-    for workload in run.workloads(words.milliseconds):
-        if not workload.title.startswith("looking") or words.only not in workload.title:
-            continue
-        rates = run.measure(workload, words.rounds)
-        (_, looks), = list(run.ratios(rates).items())[1:]
-        yield workload.title, run.label(workload.queues[1]), looks, LOOKING_GOAL
+    of = [it for it in run.workloads(words.milliseconds) if it.title.startswith("looking")]
+    for workload, queue, found in second(words, of):
+        yield workload.title, run.label(queue), found, LOOKING_GOAL
+
+
+def growing(words):
+    """The same of queues that may grow."""
+    for workload, (name, k), found in second(words, run.growing(words.milliseconds)):
+        yield workload.title, f"k = {k}", found, MAY_GROW_GOAL if "may" in name else GROWS_GOAL
 
 
 def many(words):
@@ -101,7 +115,7 @@ def many(words):
     library = os.path.abspath(words.library or f"{run.HERE}/../c/out/libkfifo.a")
     os.makedirs(run.OUT, exist_ok=True)
     program = f"{run.OUT}/many"
-    build = [os.environ.get("CXX", "g++"), "-std=c++17", "-O2", f"-I{run.HERE}/../c", f"{run.HERE}/many.cpp"]
+    build = [os.environ.get("CXX", "g++"), "-std=c++17", "-O2", f"-I{run.HERE}/../c/include", f"{run.HERE}/many.cpp"]
     subprocess.run([*build, library, "-o", program, "-pthread"], check=True)
     for threads in (1, 2):
         for what in MANY:
@@ -135,13 +149,15 @@ def main():
     given.add_argument("other", metavar="OTHER", nargs="?")
     given.add_argument("--looking", action="store_true")
     given.add_argument("--many", action="store_true")
+    given.add_argument("--growing", action="store_true")
     given.add_argument("--rounds", type=int, default=15)
     given.add_argument("--milliseconds", type=int, default=50, help="of each run")
     given.add_argument("--only", default="", metavar="WORD", help="the workloads whose title has this word")
     given.add_argument("--out", metavar="FILE", help="where the table goes too")
     words = given.parse_args()
-    if words.looking or words.many:
-        sys.exit(within(words, looking if words.looking else many))
+    for of in (looking, many, growing):
+        if getattr(words, of.__name__):
+            sys.exit(within(words, of))
     if not words.other:
         given.error("it compares two libraries")
     build([words.library, words.other])

@@ -31,7 +31,7 @@ THREADS, TURNS = 4, 8000
 BEFORE = 512
 LEGAL = r"legal for k = \d+\nworst rank \d+\ncalls \d+, items left \d+\n"
 # The evidence against the wrong queues: its kind and its headline, by the log of the calls that it names.
-HEADLINES = HERE.parent / "c/checker/gallery/headlines.csv"
+HEADLINES = HERE.parent / "c/tests/checker/gallery/headlines.csv"
 PLAIN = r"k at least 1\nk at most 1\n"
 
 

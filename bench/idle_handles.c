@@ -8,7 +8,7 @@
 
    The instructions of a take are the difference between 10000 and 30000 rounds, divided by 20000, of what this counts:
 
-       make -C c && gcc -std=c11 -O2 -Ic -o c/out/idle_handles bench/idle_handles.c c/out/libkfifo.a -pthread
+       make -C c && gcc -std=c11 -O2 -Ic/include -o c/out/idle_handles bench/idle_handles.c c/out/libkfifo.a -pthread
        valgrind --tool=callgrind --callgrind-out-file=/dev/null --toggle-collect=kfifo_c_take \
            c/out/idle_handles half 64 2 10000 */
 #define _POSIX_C_SOURCE 200112L

@@ -34,7 +34,7 @@ def build(folder):
     """Builds the program that is measured."""
     program = folder / "judge_calls"
     source = ROOT / "bench/judge_calls.c"
-    words = ["cc", "-O2", "-std=gnu11", "-Wall", "-Wextra", f"-I{ROOT / 'c'}", "-o", program, source, LIBRARY]
+    words = ["cc", "-O2", "-std=gnu11", "-Wall", "-Wextra", f"-I{ROOT / 'c/include'}", "-o", program, source, LIBRARY]
     subprocess.run([str(it) for it in words], check=True)
     return program
 

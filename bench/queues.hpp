@@ -266,7 +266,8 @@ template <typename T> struct MoodycamelWithTokens : Moodycamel<T> {
     }
 };
 
-// This repository's queue of values as a C++ program uses it, of values of so many words.
+// This repository's queue of values as a C++ program uses it, of values of so many words. It may have `grows` times as
+// many.
 template <std::size_t count> struct KfifoValues {
     using Attached = NothingAttached;
     using Queue = kfifo::ValueQueue<Value<count>>;
@@ -274,9 +275,14 @@ template <std::size_t count> struct KfifoValues {
     std::vector<typename Queue::Handle> handles;
 
     // With few slots a segment there is less room than the other queues have.
-    KfifoValues(std::uint32_t k, std::size_t capacity, std::size_t threads)
-        : queue(k, std::uint32_t(std::min(capacity, threads * (1022 * k / threads - 32))), threads) {
+    KfifoValues(std::uint32_t k, std::size_t capacity, std::size_t threads, std::uint32_t grows = 1)
+        : queue(k, std::uint32_t(std::min(capacity, threads * (1022 * k / threads - 32))), threads, options(grows)) {
         for (std::size_t i = 0; i < threads; i++) handles.push_back(queue.handle());
+    }
+    static kfifo::Options options(std::uint32_t grows) {
+        kfifo::Options options;
+        options.grows = grows;
+        return options;
     }
     bool push(std::size_t thread, std::uint32_t item) {
         return handles[thread].give(Value<count>(item)) == kfifo::Put::done;
@@ -368,6 +374,9 @@ int with_queue(const std::string &name, std::uint32_t k, std::size_t capacity, s
     if (name == "kfifo-8") return with(std::make_unique<KfifoValues<1>>(k, capacity, threads));
     if (name == "kfifo-16") return with(std::make_unique<KfifoValues<2>>(k, capacity, threads));
     if (name == "kfifo-64") return with(std::make_unique<KfifoValues<8>>(k, capacity, threads));
+    // It has room for as many, and for 64 times as many if it grows; and it has room for as many once it has grown.
+    if (name == "kfifo-may-grow-16") return with(std::make_unique<KfifoValues<2>>(k, capacity, threads, 64));
+    if (name == "kfifo-grows-16") return with(std::make_unique<KfifoValues<2>>(k, capacity / 64, threads, 64));
     if (name == "kfifo-in-c") return with(std::make_unique<KfifoInC<true, false>>(k, capacity, threads));
     if (name == "kfifo-in-c-looking") return with(std::make_unique<KfifoInC<true, true>>(k, capacity, threads));
     if (name == "kfifo-values-in-c") return with(std::make_unique<KfifoInC<false, false>>(k, capacity, threads));

@@ -72,6 +72,8 @@ NAMES = {
     "kfifo-in-c-looking": "calls that look for waiting threads",
     "kfifo-values-in-c": "plain calls of values",
     "kfifo-values-in-c-looking": "calls of values that look",
+    "kfifo-may-grow-16": "a queue that may grow",
+    "kfifo-grows-16": "a queue that grows",
 }
 # The order that a queue keeps, where it is not FIFO, and what the mark beside a name says.
 ORDERS = {"segmented": "k-relaxed", "moodycamel": "each producer's alone", "moodycamel-tokens": "each producer's alone"}
@@ -85,6 +87,13 @@ ORDERS |= {f"{name}-{size}": order for name, order in ORDERS.items() for size in
 OURS = [("kfifo", 1), ("kfifo", 4), ("kfifo", 16), ("kfifo", 64), ("kfifo-at-random", 16), ("kfifo-at-random", 64)]
 # Calls that look for threads that wait, each after the plain ones that it is compared with.
 LOOKING = [[(name, 16), (f"{name}-looking", 16)] for name in ("kfifo-in-c", "kfifo-values-in-c")]
+# Queues of values that may grow, each after one that cannot. Where takers keep up they do not grow. With more givers
+# than takers they grow all the time.
+MAY_GROW = [[("kfifo-16", k), ("kfifo-may-grow-16", k)] for k in (16, 64)]
+GROWS = [[("kfifo-16", k), ("kfifo-grows-16", k)] for k in (64,)]
+GROWN_CAPACITY = 65_536
+KEEPING_UP = [it for it in CALLS if it[1] < it[2] or it[3]]
+GROWING_CALLS = [("2 producers, 1 consumer", 2, 1, 0), ("3 producers, 1 consumer", 3, 1, 0)]
 # Calls that wait: the producers, the consumers, and the nanoseconds of work between the calls of either.
 WAITING_TITLE = "calls that wait"
 WAITING = [
@@ -179,6 +188,15 @@ def workloads(milliseconds):
     return made
 
 
+def growing(milliseconds):
+    """The workloads of queues that may grow, or that grow, beside one that cannot."""
+    for pairs, calls, capacity in (MAY_GROW, KEEPING_UP, VALUES_CAPACITY), (GROWS, GROWING_CALLS, GROWN_CAPACITY):
+        for pair in pairs:
+            for name, *threads in calls:
+                title = f"{name}, capacity {capacity:,}, {NAMES[pair[1][0]]}"
+                yield Workload(title, pair, capacity, "rates", [*threads, 0, milliseconds])
+
+
 def build(library=None):
     """Builds the queues and the programs over this library, or over that of c/."""
     os.makedirs(OUT, exist_ok=True)
@@ -196,7 +214,7 @@ def build(library=None):
         objects.append(f"{OUT}/{name}.o")
         subprocess.run([*gcc, "-c", f"{HERE}/{name}.c", "-o", objects[-1]], check=True)
     for program in PROGRAMS:
-        words = [os.environ.get("CXX", "g++"), "-std=c++17", "-O2", f"-I{HERE}/../c", f"{HERE}/{program}.cpp"]
+        words = [os.environ.get("CXX", "g++"), "-std=c++17", "-O2", f"-I{HERE}/../c/include", f"{HERE}/{program}.cpp"]
         words += [*objects, library, f"{OUT}/target/release/libarray_queue.a"]
         words += ["-o", f"{OUT}/{program}", "-ltbb", "-lck", "-lcds", "-pthread", "-ldl"]
         subprocess.run(words, check=True)

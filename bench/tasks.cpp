@@ -201,7 +201,7 @@ void print_search(double time, double tasks, const Distances &distances) {
     std::printf("{\"seconds\": %.4f, \"tasks\": %.4f, \"sum\": %llu}\n", time, tasks / double(distances.size()), sum);
 }
 
-// The stacks of pancakes are numbered as those of c/explore.cpp.
+// The stacks of pancakes are numbered as those of c/examples/explore.cpp.
 class Pancakes {
   public:
     explicit Pancakes(int number) : pancakes(number) {

@@ -131,8 +131,8 @@ def build(library):
         cargo("rust_tasks", "-C", f"link-arg={work}", KFIFO_LIB_DIR=os.path.dirname(os.path.abspath(library)))
     else:
         print("The lists in Rust are skipped: librust-rayon-dev is not installed.\n")
-    words = [os.environ.get("CXX", "g++"), "-std=c++17", "-O2", f"-I{HERE}/../c", f"{HERE}/tasks.cpp", work, library]
-    words += [f"{OUT}/target/release/libarray_queue.a", "-o", f"{OUT}/tasks", "-ltbb", "-pthread", "-ldl"]
+    words = [os.environ.get("CXX", "g++"), "-std=c++17", "-O2", f"-I{HERE}/../c/include", f"{HERE}/tasks.cpp"]
+    words += [work, library, f"{OUT}/target/release/libarray_queue.a", "-o", f"{OUT}/tasks", "-ltbb", "-pthread", "-ldl"]
     subprocess.run(words, check=True)
 
 

@@ -108,7 +108,7 @@ fn print_search(time: Duration, tasks: AtomicU64, distances: Vec<AtomicU32>) {
     println!("{{\"seconds\": {seconds:.4}, \"tasks\": {tasks:.4}, \"sum\": {sum}}}");
 }
 
-/// The stacks of some pancakes, 12 at most, numbered as those of `c/explore.cpp`.
+/// The stacks of some pancakes, 12 at most, numbered as those of `c/examples/explore.cpp`.
 struct Explore {
     pancakes: usize,
     /// How many orders each number of pancakes has.

@@ -30,7 +30,7 @@ pub(crate) const BUSY: u8 = 5;
 /// The queue can never again take such a call.
 pub(crate) const WORN: u8 = 6;
 
-/// A call of a log, as C has it: `kfifo_judge_call` in `c/kfifo_judge.h`.
+/// A call of a log, as C has it: `kfifo_judge_call` in `c/include/kfifo_judge.h`.
 #[repr(C)]
 #[derive(Clone, Copy)]
 pub struct LogCall {

@@ -8,7 +8,7 @@ use kfifo_judge::named_call;
 use kfifo_model::{Answer, End, History, LoggedCall, Op};
 use std::alloc::{AllocError, Global};
 
-/// A call that a reason names: `kfifo_judge_named` in `c/kfifo_judge.h`.
+/// A call that a reason names: `kfifo_judge_named` in `c/include/kfifo_judge.h`.
 #[repr(C)]
 #[derive(Clone, Copy)]
 pub struct NamedCall {

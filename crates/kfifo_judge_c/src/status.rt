@@ -1,4 +1,4 @@
-//! The numbers that C gets: the members of `enum kfifo_judge_status` in `c/kfifo_judge.h`.
+//! The numbers that C gets: the members of `enum kfifo_judge_status` in `c/include/kfifo_judge.h`.
 ghost use Rattle.std.specs.Prelude.{◌≡◌};
 ghost use Rattle.kfifo_judge_c.specs.Reports.{judgement_status};
 

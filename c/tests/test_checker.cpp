@@ -305,7 +305,7 @@ const std::map<std::string, unsigned> &shared_faults() {
     static const std::map<std::string, unsigned> faults = [] {
         static const Found kinds[] = {OTHER, NEVER_PUT, TWICE, EMPTY, OVERTAKEN};
         std::map<std::string, unsigned> read;
-        std::ifstream table("checker/faulty_queues.csv");
+        std::ifstream table("tests/checker/faulty_queues.csv");
         std::string line;
         for (std::getline(table, line); std::getline(table, line);) {
             const std::size_t comma = line.find(',');
@@ -329,7 +329,7 @@ bool has_shared_queues() {
         return std::any_of(std::begin(ROWS), std::end(ROWS), [&](const Row &row) { return shared.first == row.name; });
     };
     const bool has = shared_faults().size() >= 5 && std::all_of(shared_faults().begin(), shared_faults().end(), is_row);
-    if (!has) std::puts("checker/faulty_queues.csv: FAILED: it is not there, or has a queue that no row has");
+    if (!has) std::puts("tests/checker/faulty_queues.csv: FAILED: it is not there, or has a queue that no row has");
     return has;
 }
 

@@ -1,6 +1,6 @@
-// A whole test of a queue: build it with kfifo_test.hpp and kfifo_judge.h beside it, and link libkfifo_judge.a.
+// A whole test of a queue. INCLUDE is the folder that has kfifo_test.hpp, its folder kfifo_test, and kfifo_judge.h:
 //
-//     c++ -std=c++17 -O2 -I.. first.cpp libkfifo_judge.a -pthread -o first && ./first
+//     c++ -std=c++17 -O2 -I INCLUDE first.cpp libkfifo_judge.a -pthread -o first && ./first
 #include "kfifo_test.hpp"
 #include "my_queue.hpp"
 

@@ -1,7 +1,7 @@
 /* Two threads hand one value to and fro, and both sleep each time: a wake-up that is lost would hang the test, which
    its caller ends. The looks before a sleep are left out, so this has its own copy of what waits. */
 #define KFIFO_SPIN_NANOSECONDS 0
-#include "wait.c"
+#include "../src/wait.c"
 #include <pthread.h>
 #include <stdio.h>
 #include <stdlib.h>

@@ -373,12 +373,12 @@ void wrong_use() {
 
 // The faults of the gallery have the headlines that the table beside their logs has.
 void gallery() {
-    std::ifstream table("checker/gallery/headlines.csv");
+    std::ifstream table("tests/checker/gallery/headlines.csv");
     std::string line;
     unsigned rows = 0;
     for (std::getline(table, line); std::getline(table, line); rows++) {
         const std::size_t first = line.find(','), second = line.find(',', first + 1);
-        const std::string log = content("checker/gallery/" + line.substr(0, first));
+        const std::string log = content("tests/checker/gallery/" + line.substr(0, first));
         kfifo_judge_report report{};
         kfifo_judge_text(log.data(), log.size(), 1, KFIFO_JUDGE_TRIES, &report);
         const std::string evidence = std::to_string(report.evidence);

@@ -4,6 +4,14 @@
 
 #include "kfifo.hpp"
 
+#include <array>
+#include <chrono>
+#include <cstddef>
+#include <cstdint>
+#include <iterator>
+#include <type_traits>
+#include <utility>
+
 namespace kfifo {
 
 namespace detail {
