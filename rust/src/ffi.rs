@@ -1,4 +1,4 @@
-//! The calls of the library that this crate uses, as `c/kfifo.h` and `c/kfifo_wait.h` declare them.
+//! The calls of the library that this crate uses, as `c/include/kfifo.h` and `c/include/kfifo_wait.h` declare them.
 use std::ffi::{c_int, c_void};
 use std::mem::MaybeUninit;
 use std::sync::atomic::AtomicU32;
@@ -40,7 +40,7 @@ pub(crate) struct Waits {
     after: [u8; 120],
 }
 
-// As in `c/wait.c`.
+// As in `c/src/wait.c`.
 const _: () = assert!(size_of::<Waits>() == 320 && size_of::<Waiter>() == 48);
 
 impl Waits {

@@ -1,7 +1,9 @@
 //! Many values at once.
+use crate::Handle;
 use crate::error::{PopError, PushError};
+use crate::ffi;
+use crate::handle::nanoseconds_of;
 use crate::shared::Looks;
-use crate::{Handle, ffi, nanoseconds_of};
 use std::error::Error;
 use std::fmt::{self, Debug, Display, Formatter};
 use std::iter::{Chain, Once, once};

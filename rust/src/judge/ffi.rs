@@ -1,4 +1,4 @@
-//! The calls of the judge's library, as `c/kfifo_judge.h` declares them.
+//! The calls of the judge's library, as `c/include/kfifo_judge.h` declares them.
 use std::ffi::{c_char, c_int};
 use std::ptr;
 

@@ -164,7 +164,7 @@ fn expect_pass(result: Result<Report, BadOption>) {
 
 /// Checks a queue: makes it by `make`, and has threads put items by `put` and take them by `get`.
 ///
-/// It is for a test: it takes [`Options::time`], 5 seconds. The [module](self) has an example.
+/// It is for a test: it takes [`Options::seconds`], 5 seconds. The [module](self) has an example.
 ///
 /// # Panics
 ///

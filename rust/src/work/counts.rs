@@ -17,7 +17,7 @@
 //! before it. So a worker that has added up need not do so again until it has done another task: it sleeps, and the
 //! one that finds the end wakes it.
 //!
-//! `tests/work_model.rs` goes through all interleavings of a model of these steps.
+//! `tests/work_model` goes through all interleavings of a model of these steps.
 use std::sync::atomic::{AtomicU64, Ordering, fence};
 
 /// What one worker counts. No other one writes this line, nor the one that a processor fetches with it.

@@ -5,9 +5,10 @@
 //! that take move the oldest of them into the queue where that has room again. So the tasks in the queue are older than
 //! those in the list, but for those that are given while the list fills or empties.
 //!
-//! How workers wait is what `c/kfifo_wait.h` describes: one that finds nothing looks for 5 microseconds more, says that
-//! it waits, looks once more, and sleeps. A give looks after it whether anyone waits. A task goes into the queue before
-//! it leaves the list, so a look that finds neither came before a give or a move that still looks for who waits.
+//! How workers wait is what `c/include/kfifo_wait.h` describes: one that finds nothing looks for 5 microseconds more,
+//! says that it waits, looks once more, and sleeps. A give looks after it whether anyone waits. A task goes into the
+//! queue before it leaves the list, so a look that finds neither came before a give or a move that still looks for who
+//! waits.
 use super::error::Cause;
 use crate::Options;
 use crate::ffi::{self, Value};

@@ -1,4 +1,4 @@
-//! Checks crossbeam's queues, for as many seconds each as the argument says. tests/judge.rs runs it where Debian's
+//! Checks crossbeam's queues, for as many seconds each as the argument says. tests/judge runs it where Debian's
 //! crates are installed.
 use crossbeam_queue::{ArrayQueue, SegQueue};
 use kfifo::judge::{Options, check, check_sized};

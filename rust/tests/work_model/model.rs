@@ -1,16 +1,12 @@
-//! A small model of how a run ends: the steps of `src/work` that count, take, give, sleep and wake, over all
-//! interleavings of two and three workers. In none may a worker say that all is done while a task is left, and in none
-//! may one sleep for ever. Then the same with a step left out or misplaced: each of these has to be caught.
-//!
-//! A count goes into memory some time after it was written, as on processors: it waits in a buffer of its worker, which
-//! is written in order, and which a fence or a step on a shared word empties.
+//! The steps from state to state, and all interleavings of them.
+use crate::state::{DONE, GIVEN, Kind, RUN_DONE, State, Step, Worker, Wrong, take_from};
 use std::collections::HashSet;
 
 /// How a task is given, and what it gives: with `depth` 0 nothing, else `WIDTH` tasks of one less.
 const WIDTH: u8 = 2;
 
 #[derive(Clone, Copy, Debug, PartialEq, Eq)]
-enum Fault {
+pub enum Fault {
     None,
     GivenAddedFirst,
     CountedAfterGive,
@@ -28,167 +24,19 @@ enum Fault {
     MoveWakesNobody,
 }
 
-/// Which look it is: the first one after a task, the second one after it says that it waits, or another one.
-#[derive(Clone, Copy, Debug, PartialEq, Eq, Hash)]
-enum Kind {
-    First,
-    Second,
-    Other,
-}
-
-/// Where a worker is: each is one atomic step. What holds the lock of the list is one step, but for a move, during which
-/// it is held.
-#[derive(Clone, Copy, Debug, PartialEq, Eq, Hash)]
-enum Step {
-    CountGiven { depth: u8, left: u8 },
-    Give { depth: u8, left: u8 },
-    CountAfter { depth: u8, left: u8 },
-    SeeOthers { depth: u8, left: u8 },
-    ChangeWord { depth: u8, left: u8 },
-    WakeOne { depth: u8, left: u8 },
-    List { depth: u8, left: u8 },
-    CountDone,
-    DoneEarly { depth: u8, left: u8 },
-    Look,
-    SeeList { kind: Kind },
-    LookIntoList { kind: Kind },
-    MovePut { found: u8 },
-    MovePop { found: u8, moved: u8 },
-    MoveSee { found: u8 },
-    MoveWord { found: u8 },
-    MoveWake { found: u8 },
-    Fence,
-    Add { place: u8, sums: [u8; 2] },
-    SetEnd,
-    EndWord,
-    EndWake,
-    Announce,
-    ReadWord,
-    SecondLook,
-    ReadWordLate,
-    Sleep,
-    Asleep,
-    Retract,
-    Ended,
-}
-
-/// The counts of a worker: the tasks that it gave and did, and the task of the run, which the first worker does.
-const GIVEN: usize = 0;
-const DONE: usize = 1;
-const RUN_DONE: usize = 2;
-
-#[derive(Clone, Copy, PartialEq, Eq, Hash)]
-struct Worker {
-    step: Step,
-    counts: [u8; 3],
-    in_memory: [u8; 3],
-    /// Which counts were raised that are not yet in memory, the first in the lowest two bits: each is its number + 1.
-    buffer: u32,
-    /// Whether the word that it would sleep on is what it read.
-    is_current: bool,
-    is_announced: bool,
-    /// The first worker begins with the task of the run, which gives the first tasks.
-    has_run: bool,
-}
-
-#[derive(Clone, Copy, PartialEq, Eq, Hash)]
-struct State {
-    /// With two workers the third has ended.
-    workers: [Worker; 3],
-    /// How many tasks of each depth wait, in the queue and in the list.
-    queue: [u8; 3],
-    list: [u8; 3],
-    is_locked: bool,
-    is_finished: bool,
-}
-
-/// Takes the deepest task: its depth.
-fn take_from(tasks: &mut [u8; 3]) -> Option<u8> {
-    let depth = (0..3).rev().find(|it| tasks[*it] > 0)?;
-    tasks[depth] -= 1;
-    Some(depth as u8)
-}
-
-/// What is wrong with a state, if anything.
-type Wrong = Option<&'static str>;
-
-impl State {
-    /// The first worker is about to begin the run with this step.
-    fn first(workers: usize, step: Step) -> State {
-        let idle = Worker {
-            step: Step::Look,
-            counts: [0; 3],
-            in_memory: [0; 3],
-            buffer: 0,
-            is_current: false,
-            is_announced: false,
-            has_run: false,
-        };
-        let mut all = [idle; 3];
-        for worker in &mut all[workers..] {
-            worker.step = Step::Ended;
-        }
-        let mut workers = all;
-        workers[0].has_run = true;
-        workers[0].step = step;
-        State {
-            workers,
-            queue: [0; 3],
-            list: [0; 3],
-            is_locked: false,
-            is_finished: false,
-        }
-    }
-
-    fn is_idle(&self) -> bool {
-        self.queue == [0; 3]
-            && self.list == [0; 3]
-            && self.workers.iter().all(|it| {
-                !matches!(
-                    it.step,
-                    Step::CountGiven { .. }
-                        | Step::Give { .. }
-                        | Step::CountAfter { .. }
-                        | Step::SeeOthers { .. }
-                        | Step::ChangeWord { .. }
-                        | Step::WakeOne { .. }
-                        | Step::DoneEarly { .. }
-                        | Step::List { .. }
-                        | Step::MovePut { .. }
-                        | Step::MovePop { .. }
-                        | Step::MoveSee { .. }
-                        | Step::MoveWord { .. }
-                        | Step::MoveWake { .. }
-                )
-            })
-    }
-
-    /// Whether a worker has said that it waits.
-    fn is_waited_for(&self) -> bool {
-        self.workers.iter().any(|it| it.is_announced)
-    }
-
-    fn wrong(&self) -> Wrong {
-        if self.is_finished && !self.is_idle() {
-            return Some("the end is said too early");
-        }
-        None
-    }
-}
-
 /// Which tasks end only when all tasks that were given are taken.
 #[derive(Clone, Copy, Debug, PartialEq, Eq)]
-enum Waits {
+pub enum Waits {
     Nobody,
     Run,
     Others,
 }
 
-struct Model {
-    fault: Fault,
-    waits: Waits,
+pub struct Model {
+    pub fault: Fault,
+    pub waits: Waits,
     /// How many tasks the queue has room for.
-    room: u8,
+    pub room: u8,
 }
 
 impl Model {
@@ -560,7 +408,7 @@ impl Model {
 
     /// Goes through all interleavings of a run with so many first tasks of this depth: how many states there are, and
     /// what is wrong with one of them.
-    fn explore(&self, workers: usize, tasks: u8, depth: u8) -> (usize, Wrong) {
+    pub fn explore(&self, workers: usize, tasks: u8, depth: u8) -> (usize, Wrong) {
         let first = State::first(workers, self.begin_giving(depth, tasks));
         let mut seen = HashSet::from([first]);
         let mut open = vec![first];
@@ -578,64 +426,5 @@ impl Model {
             open.extend(nexts.into_iter().filter(|it| seen.insert(*it)));
         }
         (seen.len(), None)
-    }
-}
-
-/// The workers, the first tasks, how deep these go, the room of the queue, and which tasks wait.
-const RUNS: [(usize, u8, u8, u8, Waits); 10] = [
-    (2, 1, 0, 9, Waits::Nobody),
-    (2, 2, 0, 9, Waits::Run),
-    (2, 1, 1, 9, Waits::Run),
-    (2, 2, 1, 9, Waits::Nobody),
-    (2, 3, 0, 1, Waits::Nobody),
-    (2, 3, 0, 1, Waits::Run),
-    (2, 2, 1, 1, Waits::Run),
-    (3, 1, 0, 9, Waits::Nobody),
-    (3, 2, 0, 9, Waits::Run),
-    (3, 3, 0, 1, Waits::Others),
-];
-
-const FAULTS: [Fault; 14] = [
-    Fault::GivenAddedFirst,
-    Fault::CountedAfterGive,
-    Fault::DoneBeforeGives,
-    Fault::NoFence,
-    Fault::RunNotCounted,
-    Fault::NeverAdds,
-    Fault::NoSecondLook,
-    Fault::WordReadAfterLook,
-    Fault::WordNotChanged,
-    Fault::EndWordNotChanged,
-    Fault::EndWakesNobody,
-    Fault::EndWakesOne,
-    Fault::ListWakesNobody,
-    Fault::MoveWakesNobody,
-];
-
-/// What is wrong with a run of those above, if anything.
-fn wrong_with(fault: Fault) -> Wrong {
-    RUNS.iter()
-        .find_map(|(workers, tasks, depth, room, waits)| {
-            let (room, waits) = (*room, *waits);
-            let model = Model { fault, waits, room };
-            let (states, wrong) = model.explore(*workers, *tasks, *depth);
-            println!(
-                "{fault:?}: {workers} workers, {tasks} tasks, room for {room}: {states} states"
-            );
-            wrong
-        })
-}
-
-#[test]
-fn a_run_ends_in_all_interleavings() {
-    assert_eq!(wrong_with(Fault::None), None);
-}
-
-#[test]
-fn each_fault_is_caught() {
-    for fault in FAULTS {
-        let found = wrong_with(fault);
-        println!("{fault:?}: {found:?}");
-        assert!(found.is_some(), "{fault:?}");
     }
 }
