@@ -121,6 +121,7 @@ several files, with no line after them. What does not apply is null.
                   says them
   order           with --show: the order that was found
   text            what is printed without --json
+  tries           of `undecided`: after how many tries the search gave up
 A file of several that has no verdict has the status `fault`, the fault, and
 what is wrong (words).
 
