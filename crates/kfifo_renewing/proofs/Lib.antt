@@ -11,3 +11,4 @@ pub mod Counting
 pub mod Departures
 pub mod Refusing
 pub mod CellCalls
+pub mod NoCells

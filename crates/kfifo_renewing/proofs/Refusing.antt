@@ -1,5 +1,5 @@
 -- A refusal is the same whatever would have been returned without it.
-use Rattle.std.proofs.Common.{◌≡◌, Err, Ok, IsErrOf, Result, ap}
+use Rattle.std.proofs.Common.{Err, Ok, IsErrOf, Result, ap}
 
 abbrev from_err : {A E : Type 0} → E → Result A E → E
 from_err other (Ok value) = other

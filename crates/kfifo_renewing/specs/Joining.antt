@@ -3,7 +3,7 @@ use Rattle.std.specs.Prelude.{◌≡◌, ◌⊎◌, ◌<◌, ℕ, List, [], ◌�
 use Rattle.std.specs.List.{Contains}
 use Rattle.atomic_table.specs.Seated.{TableId}
 use Rattle.logbook.specs.Pages.{Book}
-use Rattle.kfifo_pool.specs.Pooled.{Pooled}
+use Rattle.kfifo_pool.specs.Pooled.{Pooled, no_cells}
 use Rattle.kfifo_live.specs.Pass.{IsPassOf, IsSamePass}
 use Rattle.kfifo_live.specs.declared.view.Opening.{Opening}
 use Rattle.kfifo_renewing.specs.History.{HasLeft, HasRisen, IsGone, IsMade, IsPlaced, WasNewest, place_count}
@@ -15,6 +15,11 @@ pub record PartView (T : Type 0) : Type 0 where
   pub handle : Pooled T
   pub number : ℕ
   pub place : ℕ
+
+-- the older generations of a handle: its parts in them, and for how many there is room
+pub record OlderView (T : Type 0) : Type 0 where
+  pub items : List (PartView T)
+  pub capacity : ℕ
 
 -- a take of a payload of this type found the queue with this table empty
 abbrev pub FoundEmpty : Type 0 → TableId → Type 0
@@ -35,6 +40,10 @@ module _ {T : Type 0} where
     pub made : IsMade log p.number p.handle.held.pass.pass.table
     pub inside : p.place < place_count
     pub placed : IsPlaced log p.number p.place
+
+  -- the handle of a part has no cell of its generation
+  abbrev pub HasNoCell : PartView T → Type 0
+  HasNoCell p = p.handle.cells ≡ no_cells
 
   -- a part in the same generation, with the same pass
   abbrev pub IsSamePart : PartView T → PartView T → Type 0

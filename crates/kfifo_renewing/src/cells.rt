@@ -1,10 +1,10 @@
 //! Calls of a renewing queue whose generations have cells.
-ghost use Rattle.std.specs.Prelude.{◌≡◌, All, MatchBool, None, false, true};
+ghost use Rattle.std.specs.Prelude.{◌≡◌, MatchBool, None, true};
 ghost use Rattle.kfifo_live.specs.Pass.{IsPassOf, IsSamePass};
 ghost use Rattle.kfifo_pool.specs.Cells.{ReservesCell, cell_in};
 ghost use Rattle.kfifo_renewing.specs.Cells.{CallsCell, CallsFirst, CallsOnce, ReceivesOldest, ReservesNewest};
-ghost use Rattle.kfifo_renewing.specs.Cells.{ReservesOne, TriesToReserve, reserved_in};
-ghost use Rattle.kfifo_renewing.specs.Joining.{AreSameParts, IsSamePart, held_by};
+ghost use Rattle.kfifo_renewing.specs.Cells.{ReservesOne, TriesToReserve};
+ghost use Rattle.kfifo_renewing.specs.Joining.{IsSamePart};
 ghost use Rattle.kfifo_renewing.specs.Memory.{cell_reserved};
 ghost use Rattle.kfifo_renewing.specs.Renewing.{with_older};
 
@@ -53,7 +53,7 @@ fn call_cell(handle: &mut PooledHandle<()>, queue: &PooledQueue<()>, call: CellC
 impl Leaving<Joined<()>> {
     /// The cell that is reserved in the generation.
     #[inline(always)]
-    fn reserved(&self) -> Option<CellAt>
+    pub(crate) fn reserved(&self) -> Option<CellAt>
         ensures { cell_reserved result ≡ cell_in self.now.handle.cells.reserved }
     {
         let cell = self.part.handle.reserved_cell();
@@ -83,42 +83,12 @@ impl Leaving<Joined<()>> {
     }
 
     /// Makes this call in the generation.
-    fn call_here(&mut self, call: CellCall) -> Given<()>
+    pub(crate) fn call_here(&mut self, call: CellCall) -> Given<()>
         requires { self.old.handle.held.pass.pass.opened.bare ≡ true }
         ensures same { IsSamePart self.old self.new }
         ensures calls { CallsCell call result self.old.handle self.new.handle }
     {
         call_cell(&mut self.part.handle, self.part.generation.queue(), call)
-    }
-}
-
-/// Makes this call in the first of these generations in which the handle has such a cell.
-fn call_first(parts: &mut [Leaving<Joined<()>>], call: CellCall) -> Given<()>
-    requires { All (λ p. p.handle.held.pass.pass.opened.bare ≡ true) parts.old }
-    ensures same { AreSameParts parts.old parts.new }
-    ensures calls { CallsFirst call result (held_by parts.old) (held_by parts.new) }
-{
-    let Some((first, rest)) = parts.split_first_mut() else {
-        return Given::NoToken(());
-    };
-    let answer = first.call_here(call);
-    // A handle gives to an older generation only while it has a cell reserved there.
-    first.stop_giving();
-    match answer {
-        Given::NoToken(()) => call_first(rest, call),
-        answer => answer,
-    }
-}
-
-/// The cell that is reserved in the first of these generations that has one.
-#[cold]
-fn first_reserved(parts: &[Leaving<Joined<()>>]) -> Option<CellAt>
-    ensures { cell_reserved result ≡ reserved_in (held_by parts.now) }
-{
-    let (first, rest) = parts.split_first()?;
-    match first.reserved() {
-        Some(cell) => Some(cell),
-        None => first_reserved(rest),
     }
 }
 
@@ -129,32 +99,7 @@ impl RenewingHandle<(), Cells> {
         ensures same { self.new ≡ with_older self.old self.new.older }
         ensures calls { CallsFirst call result self.old.older self.new.older }
     {
-        // There are none but for the time of a change, and then this is all.
-        if self.older.is_empty() {
-            return Given::NoToken(());
-        }
-        self.call_each_older(call)
-    }
-
-    /// The same, where there are older generations.
-    #[cold]
-    #[inline(never)]
-    fn call_each_older(&mut self, call: CellCall) -> Given<()>
-        ensures same { self.new ≡ with_older self.old self.new.older }
-        ensures calls { CallsFirst call result self.old.older self.new.older }
-    {
-        call_first(self.older.as_mut_slice(), call)
-    }
-
-    /// The cell that is reserved in one of the older generations.
-    #[inline(always)]
-    fn reserved_older(&self) -> Option<CellAt>
-        ensures { cell_reserved result ≡ reserved_in self.now.older }
-    {
-        if self.older.is_empty() {
-            return None;
-        }
-        first_reserved(self.older.as_slice())
+        self.older.call(call)
     }
 
     /// Makes this call in the generation in which the handle has such a cell.
@@ -219,7 +164,7 @@ impl RenewingHandle<(), Cells> {
         ensures { ReservesOne (cell_reserved result) self.old self.new }
     {
         // The look at the newest comes before the handle follows others: then that is an older one.
-        match self.reserved_older() {
+        match self.older.reserved() {
             Some(cell) => Some(cell),
             None => match self.newest.reserved() {
                 Some(cell) => Some(cell),

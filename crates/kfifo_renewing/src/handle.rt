@@ -1,17 +1,15 @@
 //! The handle of a queue that does not wear out: how it follows others, and how it takes.
 ghost use Rattle.std.specs.Prelude.{◌≡◌, ◌<◌, ◌≤◌, ◌+◌, ◌*◌, ◌↔◌, true, List, [], All, IfOk, IfSome, MatchBool, length};
-ghost use Rattle.std.specs.Prelude.{vec_capacity, vec_len};
 ghost use Rattle.std.specs.Ptr.{as_ptr};
 ghost use mathlib.Core.List.{IsPrefix};
 ghost use Rattle.kfifo_live.specs.Pass.{IsPassOf};
-ghost use Rattle.kfifo_live.specs.declared.view.Opening.{Opening};
 ghost use Rattle.kfifo_renewing.specs.History.{HasRisen, WasNewest, place_count};
-ghost use Rattle.kfifo_renewing.specs.Joining.{AreAmong, AreSameParts, HasJoined, IsPart, IsUnused, held_by};
-ghost use Rattle.kfifo_renewing.specs.Renewing.{Counts, Follows, Generations, GivesToNewest, GoesOn, HasAll, HeldIn};
+ghost use Rattle.kfifo_renewing.specs.Joining.{AreAmong, HasJoined, IsPart, IsUnused, held_by};
+ghost use Rattle.kfifo_renewing.specs.Renewing.{Counts, Follows, Generations, HasAll, HeldIn};
 ghost use Rattle.kfifo_renewing.specs.Renewing.{IsAtNewest, IsBehind, IsFresh, IsLater, IsOpenedAs, IsUntouched};
 ghost use Rattle.kfifo_renewing.specs.Renewing.{LeavesGone, LooksAgain};
-ghost use Rattle.kfifo_renewing.specs.Renewing.{TakesBy, TakesFirst, TakesFromOldest, TakesNewest, TakesOldest};
-ghost use Rattle.kfifo_renewing.specs.Renewing.{TriesAgain, TriesToGive, all_of, opening_in, slots_of, with_older};
+ghost use Rattle.kfifo_renewing.specs.Renewing.{TakesBy, TakesFirst, TakesNewest, TakesOldest};
+ghost use Rattle.kfifo_renewing.specs.Renewing.{all_of, opening_in, slots_of, with_older};
 ghost use Rattle.kfifo_renewing.specs.Renewing.{with_seen};
 
 use crate::generation::Generation;
@@ -20,8 +18,9 @@ use crate::joined::Joined;
 use crate::kind::{Kind, Payloads};
 use crate::label::PLACES;
 use crate::leaving::Leaving;
+use crate::older::Older;
 use crate::queue::Shared;
-use kfifo_live::{Given, Taken};
+use kfifo_live::Taken;
 use std::alloc::{AllocError, Global};
 use std::marker::{Model, PhantomData};
 use std::mem::replace;
@@ -63,8 +62,8 @@ pub struct RenewingHandle<T: Drop, K: Kind<T> = Payloads> {
     pub(crate) newest: Leaving<Joined<T>>,
     /// The same generation. The handle counts among those that give to it, unless that says that there is a later one.
     pub(crate) generation: Arc<Generation<T>, Global>,
-    /// The generations before it that may still have payloads, the oldest first.
-    pub(crate) older: Vec<Leaving<Joined<T>>>,
+    /// Those before it that may still have values.
+    pub(crate) older: Older<T>,
     /// Room for those that the handle is about to join, so that it seldom needs memory to follow others. Else empty.
     spare: Vec<Leaving<Joined<T>>>,
     thread: u32,
@@ -117,7 +116,7 @@ impl<T: Drop, K: Kind<T>> RenewingHandle<T, K> {
     {
         let room = shared.most_older().saturating_add(KEPT);
         let room = room.min(shared.places().count());
-        let older = Vec::with_capacity(alloc, room)?;
+        let older = Older::new(alloc, room)?;
         let spare = Vec::with_capacity(alloc, room)?;
         newest.start_giving();
         let gives_between_looks = shared.gives_between_looks();
@@ -296,7 +295,7 @@ impl<T: Drop, K: Kind<T>> RenewingHandle<T, K> {
         requires all { AreAmong self.old.number generation.value.number between.items self.old.seen history.now.log }
         ensures { Follows self.old self.new }
     {
-        if !make_room(&mut self.older, between.len()) {
+        if !self.older.make_room(between.len()) {
             leave_unused(&mut between);
             newest.leave_unused();
             self.spare = between;
@@ -305,9 +304,7 @@ impl<T: Drop, K: Kind<T>> RenewingHandle<T, K> {
         self.history.learn(history);
         self.generation = generation;
         let before = replace(&mut self.newest, newest);
-        self.older.push_reserved(before);
-        // There is room for them, so all are moved.
-        let _ = self.older.append(&mut between);
+        self.older.add(before, &mut between);
         self.spare = between;
     }
 
@@ -334,7 +331,7 @@ impl<T: Drop, K: Kind<T>> RenewingHandle<T, K> {
     {
         let mut index = 0;
         while index < self.older.len() {
-            let joined = &self.older[index];
+            let joined = &self.older.parts()[index];
             if joined.has_cell() {
                 index += 1;
                 continue;
@@ -347,8 +344,7 @@ impl<T: Drop, K: Kind<T>> RenewingHandle<T, K> {
                 index += 1;
                 continue;
             }
-            let gone = self.older.remove(index);
-            drop(gone);
+            self.older.leave(index);
         }
     }
 
@@ -360,7 +356,7 @@ impl<T: Drop, K: Kind<T>> RenewingHandle<T, K> {
     {
         self.shared.places().retire_others(
             self.generation.number(),
-            self.older.as_slice(),
+            self.older.parts(),
             &mut self.history,
         );
     }
@@ -492,11 +488,12 @@ impl<T: Drop, K: Kind<T>> RenewingHandle<T, K> {
     }
 
     /// Takes from the first of the older generations that is not found empty. Says whether it found one empty.
+    #[inline(always)]
     fn take_first(&mut self, found_empty: &mut bool) -> Option<Taken<K::Got>>
         ensures same { self.new ≡ with_older self.old self.new.older }
         ensures takes { TakesFirst K.takes result self.old.older self.new.older }
     {
-        take_first::<T, K>(self.older.as_mut_slice(), found_empty)
+        self.older.take_first::<K>(found_empty)
     }
 
     /// Empties the places of the older generations that are over.
@@ -506,7 +503,7 @@ impl<T: Drop, K: Kind<T>> RenewingHandle<T, K> {
     {
         self.shared
             .places()
-            .retire_over(self.older.as_slice(), &mut self.history);
+            .retire_over(self.older.parts(), &mut self.history);
     }
 
     /// What a take returns that came to this in the newest generation: Busy in place of Empty where another one is the
@@ -623,7 +620,9 @@ impl<T: Drop, K: Kind<T>> RenewingHandle<T, K> {
     fn count_all(&self) -> usize
         ensures { result ≤ length (all_of self.now) * slots_of self.now.opened }
     {
-        count_in(self.older.as_slice()).saturating_add(self.generation.queue().len())
+        self.older
+            .count()
+            .saturating_add(self.generation.queue().len())
     }
 
     /// Whether the generation to which this handle gives is that to which another handle of its queue gives, as far as
@@ -657,33 +656,13 @@ impl<T: Drop, K: Kind<T>> RenewingHandle<T, K> {
         let Self {
             shared,
             newest,
-            mut older,
+            older,
             ..
         } = self;
-        older.push(newest)?;
-        Ok((shared, older))
+        let mut all = older.into_parts();
+        all.push(newest)?;
+        Ok((shared, all))
     }
-}
-
-/// About how many values are in these generations.
-fn count_in<T: Drop>(parts: &[Leaving<Joined<T>>]) -> usize
-    ensures { (o : Opening) → All (λ p. IsOpenedAs o p.handle) parts.now → result ≤ length parts.now * slots_of o }
-{
-    let Some((first, rest)) = parts.split_first() else {
-        return 0;
-    };
-    count_in(rest).saturating_add(first.generation().queue().len())
-}
-
-/// Makes room for so many generations, and for one besides. Returns whether there is.
-fn make_room<T: Drop>(older: &mut Vec<Leaving<Joined<T>>>, count: usize) -> bool
-    ensures items { older.new.items ≡ older.old.items }
-    ensures room { result ≡ true → vec_len older.new + count + 1 ≤ vec_capacity older.new }
-{
-    let Some(more) = count.checked_add(1) else {
-        return false;
-    };
-    older.reserve(more).is_ok()
 }
 
 /// Leaves these generations, in which their thread has begun no call and which it may join again.
@@ -701,27 +680,4 @@ fn address_of<T: Drop>(shared: &Shared<T>) -> *mut u8
     ensures { result ≡ as_ptr shared.entry }
 {
     std::ptr::from_ref(shared) as *mut u8
-}
-
-/// Takes from the first of these generations that is not empty. Says whether it found one empty: that one is over if
-/// nobody gave to it any more before that.
-fn take_first<T: Drop, K: Kind<T>>(
-    generations: &mut [Leaving<Joined<T>>],
-    found_empty: &mut bool,
-) -> Option<Taken<K::Got>>
-    requires { All (λ p. p.handle.held.pass.pass.opened.bare ≡ K.bare) generations.old }
-    ensures same { AreSameParts generations.old generations.new }
-    ensures takes { TakesFirst K.takes result (held_by generations.old) (held_by generations.new) }
-{
-    let (first, rest) = generations.split_first_mut()?;
-    // This look comes before the take: a payload that is given after the take would be lost with the generation.
-    let has_givers = first.generation().has_givers();
-    match first.take_here::<K>() {
-        Taken::Empty => {
-            first.set_over(!has_givers);
-            *found_empty = true;
-            take_first::<T, K>(rest, found_empty)
-        }
-        taken => Some(taken),
-    }
 }

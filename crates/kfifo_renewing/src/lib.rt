@@ -14,6 +14,7 @@ mod label;
 mod leaving;
 mod left;
 mod memory;
+mod older;
 mod payloads;
 mod places;
 mod queue;

@@ -1,5 +1,5 @@
 -- What holds of all parts holds of the last one, and of those before it.
-use Rattle.std.proofs.Common.{All, Some}
+use Rattle.std.proofs.Common.{Some}
 use Rattle.std.proofs.lemmas.List.Elements.{All-pop}
 use Rattle.kfifo_renewing.specs.Joining.{PartView}
 use Rattle.kfifo_renewing.specs.Renewing.{IsUntouched}

@@ -1,5 +1,5 @@
 -- The last handle has followed others, and these are its generations.
-use Rattle.std.proofs.Common.{All, Bool, List, sym, ap, ◌∙◌, subst}
+use Rattle.std.proofs.Common.{All, Bool, sym, ap, ◌∙◌, subst}
 use Rattle.kfifo_renewing.specs.Joining.{PartView}
 use Rattle.kfifo_renewing.specs.Renewing.{IsOpenedAs, opening_with}
 use Rattle.kfifo_live.specs.declared.tokens.sizes.Sizes.{Sizes}

@@ -1,5 +1,5 @@
 -- The generation that was the newest is then among the older ones, and behind it those up to the one that is joined.
-use Rattle.std.proofs.Common.{◌≡◌, ◌<◌, ◌∷◌, [], ◌++◌, All, arith, refl, sym, ap, ◌∙◌, subst}
+use Rattle.std.proofs.Common.{◌≡◌, ◌<◌, ◌∷◌, [], ◌++◌, All, arith, slice_index_or, sym, ap, ◌∙◌, subst}
 use Rattle.std.proofs.lemmas.List.{append-nil, map-append}
 use Rattle.std.proofs.lemmas.List.Elements.{All-map, All-push}
 use mathlib.Core.List.{IsPrefix}
@@ -8,9 +8,10 @@ use Rattle.kfifo_renewing.specs.History.{IsMade, WasNewest, newest_of}
 use Rattle.kfifo_renewing.specs.Joining.{AreAmong, IsPart, PartView, held_by, held_in}
 use Rattle.kfifo_renewing.specs.Renewing.{Generations, HeldIn, IsFresh, IsNew, IsOpenedAs, LeavesGone, all_of, opening_in}
 use Rattle.kfifo_renewing.proofs.Histories.{risen-from}
-use Rattle.kfifo_renewing.proofs.Joining.{all-moved, among-later, joined-more, part-later, parts-later}
+use Rattle.kfifo_renewing.proofs.Joining.{among-later, joined-more, part-later, parts-later}
 use Rattle.kfifo_renewing.proofs.Departures.{leaves-refl}
 use Rattle.kfifo_renewing.proofs.Keeping.{kept-risen}
+use Rattle.kfifo_renewing.proofs.NoCells.{fresh-without}
 use Rattle.kfifo_renewing.proofs.Following.{follows-jump, follows-less}
 use Rattle.kfifo_renewing.proofs.handle.RenewingHandle.join.Goals as goal
 
@@ -26,7 +27,7 @@ invariant_of-self-2 g c = (
       let k = c.replace-before.new.dest in
       let after = sym c.replace-before.ensures.after in
       joined-more o s.shared.value.history.book s.history.book c.learn.new.self.book s.history.log log c.learn.ensures.4.0
-      s.generation.value next s.newest k s.older.items c.args.between.items c.append.new.self.items c.self.invariant.0 c.learn.ensures.0
+      s.generation.value next s.newest k s.older.items c.args.between.items c.add.new.self.items c.self.invariant.0 c.learn.ensures.0
       c.learn.ensures.2 c.learn.ensures.4.1 (kept-risen c.learn.ensures.4.0 log c.learn.ensures.4.1)
       (subst (λ (x : Generations T). next.book ≡ x.book) v c.requires.books.1)
       (subst (λ (p : PartView T). IsOpenedAs o p.handle) after (subst (λ (x : Generations T). IsOpenedAs x.opened c.args.newest.handle) v c.requires.of.0))
@@ -40,9 +41,8 @@ invariant_of-self-2 g c = (
       c.requires.below
       (among-later s.generation.value.number next.number c.args.between.items s.history.log seen log c.learn.ensures.3
       (subst (λ (x : Generations T). AreAmong x.number next.number c.args.between.items x.seen seen) v c.requires.all))
-      (all-moved c.append.result c.append.new.self.items c.push_reserved.new.self.items c.make_room.new.older.items s.older.items
-      c.args.between.items s.newest c.replace-before.result c.append.ensures.items (c.append.ensures.succeeds (omega (arith, c.if-not-make_room.ensures.room refl, c.len.ensures, c.push_reserved.ensures.len, c.push_reserved.ensures.capacity)))
-      c.push_reserved.ensures.items c.replace-before.ensures.value c.make_room.ensures.items),
+      (c.add.ensures ∙ ap (λ l. l ++ c.args.between.items) (ap (λ l. l ++ c.replace-before.result ∷ []) c.make_room.ensures.items
+      ∙ ap (λ x. s.older.items ++ x ∷ []) c.replace-before.ensures.value)),
   c.self.invariant.1,
 )
 
@@ -77,14 +77,16 @@ returns g c =
       seen = more;
       risen = risen-from now.seen log more (kept-risen c.learn.ensures.4.0 log c.learn.ensures.4.1);
     }) (let above = c.requires.later in omega (arith, above))
-    (ap held_by (all-moved c.append.result c.append.new.self.items c.push_reserved.new.self.items c.make_room.new.older.items s.older.items
-    between s.newest c.replace-before.result c.append.ensures.items (c.append.ensures.succeeds (omega (arith, c.if-not-make_room.ensures.room refl, c.len.ensures, c.push_reserved.ensures.len, c.push_reserved.ensures.capacity)))
-    c.push_reserved.ensures.items c.replace-before.ensures.value c.make_room.ensures.items)
+    (ap held_by (c.add.ensures ∙ ap (λ l. l ++ between) (ap (λ l. l ++ c.replace-before.result ∷ []) c.make_room.ensures.items
+    ∙ ap (λ x. s.older.items ++ x ∷ []) c.replace-before.ensures.value))
     ∙ map-append (λ (p : PartView T). held_in p) (s.older.items ++ s.newest ∷ []) between
     ∙ ap (λ l. l ++ held_by between) (map-append (λ (p : PartView T). held_in p) s.older.items (s.newest ∷ [])
     ∙ ap (λ n. held_by s.older.items ++ record { handle = s.newest.handle; number = n } ∷ []) c.self.invariant.0.number
     ∙ ap (λ (h : Generations T). all_of h) view_is))
     (All-push P (held_by between) (record { handle = k.handle; number = next.number }) each last)
+
+pub add-requires-clause-none : goal.add-requires-clause-none
+add-requires-clause-none g c i d inside = fresh-without (slice_index_or c.args.between.items i d) (c.requires.unused.1 i d inside).1.0
 
 pub leave_unused-requires : goal.leave_unused-requires
 leave_unused-requires g c i d inside = (c.requires.unused.1 i d inside).1.0
@@ -100,6 +102,6 @@ returns-then-not-make_room g c =
       book = ap (λ (h : Generations T). h.book) view_is;
       seen = ([], append-nil c.args.self.now.seen ∙ sym (ap (λ (h : Generations T). h.seen) view_is));
       risen = omega (arith, ap (λ (h : Generations T). newest_of h.seen) view_is);
-    }) (subst (λ l. LeavesGone c.self.inside.history.log l (held_by c.make_room.new.older.items)) older
-    (leaves-refl c.self.inside.history.log (held_by c.make_room.new.older.items)))
+    }) (subst (λ l. LeavesGone c.self.inside.history.log l (held_by c.make_room.new.self.items)) older
+    (leaves-refl c.self.inside.history.log (held_by c.make_room.new.self.items)))
     (ap (λ (h : Generations T). h.newest) view_is) (ap (λ (h : Generations T). h.number) view_is)

@@ -1,5 +1,5 @@
 -- A generation that has gone is left, and the others stay.
-use Rattle.std.proofs.Common.{◌≡◌, [], Some, slice_get, arith, refl, sym, ap, ◌∙◌, subst}
+use Rattle.std.proofs.Common.{◌≡◌, [], Some, length, slice_get, arith, refl, sym, ap, ◌∙◌, subst}
 use Rattle.std.proofs.lemmas.List.{append-nil}
 use Rattle.kfifo_renewing.specs.History.{HasLeft, IsPlaced}
 use Rattle.kfifo_renewing.specs.Joining.{held_by}
@@ -52,9 +52,9 @@ loop-index-preserved g c =
     let o = opening_in s.shared.value in
     let has = c.has.ensures in
     let new = c.has.new.history.log in
-    let p = c.index-joined.result.now in
-    let without = c.remove-gone.ensures.by_index.2 in
-    let at : slice_get s.older.items c.loop-index.index ≡ Some p = get-at s.older.items c.loop-index.index p p (omega (arith, c.loop-index-test.true, c.len.ensures, s.older.ok.0)) c.index-joined.ensures in
+    let p = c.index-parts-index.result in
+    let without = c.leave.ensures in
+    let at : slice_get s.older.items c.loop-index.index ≡ Some p = subst (λ l. slice_get l c.loop-index.index ≡ Some p) c.parts.ensures (get-at c.parts.result.now c.loop-index.index p p (omega (arith, c.loop-index-test.true, c.len.ensures.count, ap length c.parts.ensures)) c.index-parts-index.is) in
     let left : HasLeft new p.number = subst (HasLeft new) c.number.ensures
     (c.if-has.ensures.finds (subst (λ k. IsPlaced s.history.log c.number.result k) (sym c.place.ensures)
     (subst (λ n. IsPlaced s.history.log n p.place) (sym c.number.ensures) (part-at s.history.log s.older.items c.loop-index.index p i.joined.older_parts at).placed))) in
@@ -67,11 +67,11 @@ loop-index-preserved g c =
       more = prefix-trans c.args.self.now.seen s.history.log new i.more has.later.1;
       newest = i.newest;
       number = i.number;
-      older = leaves-trans new c.args.self.now.older (held_by s.older.items) (held_by c.remove-gone.new.self.items)
+      older = leaves-trans new c.args.self.now.older (held_by s.older.items) (held_by c.leave.new.self.items)
           (leaves-later s.history.log new c.args.self.now.older (held_by s.older.items) has.later.1 i.older)
-          (held-less new s.older.items c.remove-gone.new.self.items c.loop-index.index p without at left (c.has_cell.ensures.0 c.if-has_cell.false));
+          (held-less new s.older.items c.leave.new.self.items c.loop-index.index p without at left (c.has_cell.ensures.0 c.if-has_cell.false));
       joined = joined-less o s.shared.value.history.book c.has.new.history.book new has.kept.0 s.generation.value s.newest s.older.items
-          c.remove-gone.new.self.items c.loop-index.index p then without at has.kept.1 left;
+          c.leave.new.self.items c.loop-index.index p then without at has.kept.1 left;
     }
 
 pub returns-clause-same : goal.returns-clause-same

@@ -11,7 +11,7 @@ invariant_of-result g c = (
       let o = opening_in c.args.shared.value in
       let log = c.args.history.log in
       subst (HasJoined {T = T} o c.args.shared.value.history.book c.args.history.book log c.args.generation.value c.start_giving.new.self)
-      (sym c.in_ok-older.ensures.items)
+      (sym c.in_ok-older.ensures)
       (subst (λ (p : PartView T). HasJoined o c.args.shared.value.history.book c.args.history.book log c.args.generation.value p [])
       (sym c.start_giving.ensures)
       (joined-first o c.args.shared.value.history.book c.args.history.book log c.args.generation.value c.args.newest c.requires.opened

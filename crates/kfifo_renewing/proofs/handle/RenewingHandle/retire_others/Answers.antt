@@ -11,7 +11,7 @@ retire_others-requires-clause-others g c =
     let T = g.row.T.Denot in
     let s = c.self.inside in
     let at = c.number.ensures ∙ ap (λ (v : Numbered). v.number) c.deref-2.ensures in
-    subst (λ (l : List (PartView T)). HasOlder s.history.log l c.number.result) (sym c.as_slice.ensures.value)
+    subst (λ (l : List (PartView T)). HasOlder s.history.log l c.number.result) (sym c.parts.ensures)
     (subst (HasOlder s.history.log s.older.items) (sym at) c.self.invariant.0.all)
 
 pub invariant_of-self : goal.invariant_of-self

@@ -13,7 +13,7 @@ retire_over-requires-clause-below g c =
     let T = g.row.T.Denot in
     let s = c.self.inside in
     let j = c.self.invariant.0 in
-    subst (λ (l : List (PartView T)). All (λ (p : PartView T). p.number < newest_of s.history.log) l) (sym c.as_slice.ensures.value)
+    subst (λ (l : List (PartView T)). All (λ (p : PartView T). p.number < newest_of s.history.log) l) (sym c.parts.ensures)
     (below-newest s.older.items s.generation.value.number (newest_of s.history.log)
     (risen-was s.history.log s.generation.value.number j.risen j.was) j.below)
 

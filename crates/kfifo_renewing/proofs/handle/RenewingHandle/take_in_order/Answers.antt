@@ -95,7 +95,7 @@ returns-in-Got g c =
     let h = c.take.new.self.handle in
     let none : found ≡ 0 = omega (arith, c.if-later-len-ne0.false) in
     let alone = sym (ap (λ (v : Generations T). v.older) c.self.view_is)
-    ∙ ap held_by (nil_from_length c.self.inside.older.items (omega (arith, c.if-later-len-ne0.false, c.len.ensures, c.self.inside.older.ok.0))) in
+    ∙ ap held_by (nil_from_length c.self.inside.older.items (omega (arith, c.if-later-len-ne0.false, c.len.ensures.count))) in
     let all = has-all (opening_in c.self.inside.shared.value) c.self.inside.shared.value.history.book c.look-later.new.history.book
     c.self.inside.generation.value c.self.inside.newest c.self.inside.older.items (with_seen now new)
     (joins-after (opening_in c.self.inside.shared.value) c.self.inside.shared.value.history.book c.self.inside.history.book
@@ -131,7 +131,7 @@ returns-in_default g c =
     let h = c.take.new.self.handle in
     let none : found ≡ 0 = omega (arith, c.if-later-len-ne0.false) in
     let alone = sym (ap (λ (v : Generations T). v.older) c.self.view_is)
-    ∙ ap held_by (nil_from_length c.self.inside.older.items (omega (arith, c.if-later-len-ne0.false, c.len.ensures, c.self.inside.older.ok.0))) in
+    ∙ ap held_by (nil_from_length c.self.inside.older.items (omega (arith, c.if-later-len-ne0.false, c.len.ensures.count))) in
     let all = has-all (opening_in c.self.inside.shared.value) c.self.inside.shared.value.history.book c.look-later.new.history.book
     c.self.inside.generation.value c.self.inside.newest c.self.inside.older.items (with_seen now new)
     (joins-after (opening_in c.self.inside.shared.value) c.self.inside.shared.value.history.book c.self.inside.history.book

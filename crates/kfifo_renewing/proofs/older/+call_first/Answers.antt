@@ -1,10 +1,12 @@
 -- The first of the generations is asked, and where it has no such cell, the others.
-use Rattle.std.proofs.Common.{◌∷◌, List, ap, inl, inr, refl, rules, subst, sym, ◌∙◌}
+use Rattle.std.proofs.Common.{◌∷◌, All, List, ap, drop, inl, inr, refl, rules, subst, sym, true, ◌∙◌}
 use Rattle.kfifo_live.specs.declared.payload.Given.TheVariants as G
 use Rattle.kfifo_renewing.specs.Cells.{CallsCell, CallsFirst}
-use Rattle.kfifo_renewing.specs.Joining.{AreSameParts, IsSamePart, PartView, held_by, held_in}
+use Rattle.kfifo_renewing.specs.Joining.{AreSameParts, HasNoCell, IsSamePart, PartView, held_by, held_in}
 use Rattle.kfifo_renewing.proofs.Joining.{same-refl}
-use Rattle.kfifo_renewing.proofs.cells.+call_first.Goals as goal
+use Rattle.kfifo_renewing.proofs.NoCells.{all-from-ahead, all-from-behind, finds-none}
+use Rattle.kfifo_renewing.proofs.Parts.{bare_rest}
+use Rattle.kfifo_renewing.proofs.older.+call_first.Goals as goal
 
 pub returns-in-NoToken-clause-same : goal.returns-in-NoToken-clause-same
 returns-in-NoToken-clause-same t c =
@@ -49,4 +51,25 @@ returns-in_default-answer t c =
             ap (λ (p : PartView (Unit {0})). p.number) c.stop_giving.ensures ∙ c.call_here-answer.ensures.same.0,
             inr (search rules, called, refl),
           );
+      none = all-from-ahead HasNoCell after rest c.args.with_cells c.if-with_cells-eq0.false
+          (all-from-behind HasNoCell c.in-Some.first.now rest c.args.parts.now c.args.with_cells c.in-Some.ensures.cases.0
+          c.if-with_cells-eq0.false c.requires.none);
     }
+
+pub returns-in-NoToken-clause-none : goal.returns-in-NoToken-clause-none
+returns-in-NoToken-clause-none t c =
+    all-from-ahead HasNoCell c.stop_giving.new.self c.call_first.new.parts c.args.with_cells c.if-with_cells-eq0.false c.call_first.ensures.none
+
+pub returns-then-with_cells-eq0-clause-calls : goal.returns-then-with_cells-eq0-clause-calls
+returns-then-with_cells-eq0-clause-calls t c =
+    finds-none c.args.call c.args.parts.now (subst (λ n. All HasNoCell (drop n c.args.parts.now)) c.if-with_cells-eq0.true c.requires.none)
+
+pub returns-then-with_cells-eq0-clause-same : goal.returns-then-with_cells-eq0-clause-same
+returns-then-with_cells-eq0-clause-same t c = same-refl c.args.parts.now
+
+pub call_first-requires : goal.call_first-requires
+call_first-requires t c =
+    let bare = bare_rest true c.args.parts.now c.in-Some.rest.now c.in-Some.first.now c.in-Some.ensures.cases.0 c.requires.bare in
+    let none = all-from-behind HasNoCell c.in-Some.first.now c.in-Some.rest.now c.args.parts.now c.args.with_cells
+    c.in-Some.ensures.cases.0 c.if-with_cells-eq0.false c.requires.none in
+    search (rules, bare, none)

@@ -6,7 +6,7 @@ use Rattle.kfifo_renewing.specs.Joining.{PartView}
 use Rattle.kfifo_renewing.specs.Renewing.{IsOpenedAs, slots_of}
 use Rattle.kfifo_renewing.proofs.Counting.{counts-more}
 use Rattle.kfifo_renewing.proofs.Parts.{all-next}
-use Rattle.kfifo_renewing.proofs.handle.+count_in.Goals as goal
+use Rattle.kfifo_renewing.proofs.older.+count_in.Goals as goal
 
 pub returns : goal.returns
 returns g t c = λ o all.

@@ -1,11 +1,11 @@
 -- The first of the generations is looked into, and where it is empty, the others.
-use Rattle.std.proofs.Common.{◌∷◌, List, Some, ap, inl, inr, refl, sym, ◌∙◌, subst, rules}
+use Rattle.std.proofs.Common.{◌∷◌, List, Some, ap, drop, inl, inr, refl, sym, ◌∙◌, subst, rules}
 use Rattle.kfifo_live.specs.declared.payload.Taken.TheVariants as K
 use Rattle.kfifo_renewing.specs.Joining.{AreSameParts, IsSamePart, PartView, held_by, held_in}
 use Rattle.kfifo_renewing.specs.Renewing.{TakesFirst, TakesThere}
 use Rattle.kfifo_renewing.proofs.Joining.{same-refl}
 use Rattle.kfifo_renewing.proofs.Parts.{bare_rest}
-use Rattle.kfifo_renewing.proofs.handle.+take_first.Goals as goal
+use Rattle.kfifo_renewing.proofs.older.+take_first.Goals as goal
 
 pub set_over-requires : goal.set_over-requires
 set_over-requires g t c over =
@@ -24,8 +24,8 @@ returns-in-Empty-clause-same g t c =
     let after = c.set_over.new.self in
     let same : IsSamePart c.in_ok-generations.first.now after =
     subst (λ (p : PartView T). IsSamePart c.in_ok-generations.first.now p) (sym c.set_over.ensures) c.take_here.ensures.same in
-    subst (λ l. AreSameParts l (after ∷ c.take_first.new.generations)) (sym c.in_ok-generations.ensures.cases.0)
-    (after, c.take_first.new.generations, refl, same, c.take_first.ensures.same)
+    subst (λ l. AreSameParts l (after ∷ c.take_first-taken.new.generations)) (sym c.in_ok-generations.ensures.cases.0)
+    (after, c.take_first-taken.new.generations, refl, same, c.take_first-taken.ensures.same)
 
 pub returns-in-Empty-clause-takes : goal.returns-in-Empty-clause-takes
 returns-in-Empty-clause-takes g t c =
@@ -35,13 +35,13 @@ returns-in-Empty-clause-takes g t c =
     let took : TakesThere R K.Empty c.in_ok-generations.first.now.handle after.handle =
     subst (λ (p : PartView T). TakesThere R K.Empty c.in_ok-generations.first.now.handle p.handle) (sym c.set_over.ensures)
     (subst (λ t. TakesThere R t c.in_ok-generations.first.now.handle c.take_here.new.self.handle) c.in-Empty.is c.take_here.ensures.takes) in
-    subst (λ (l : List (PartView T)). TakesFirst R c.take_first.result (held_by l) (held_by (after ∷ c.take_first.new.generations)))
+    subst (λ (l : List (PartView T)). TakesFirst R c.take_first-taken.result (held_by l) (held_by (after ∷ c.take_first-taken.new.generations)))
     (sym c.in_ok-generations.ensures.cases.0) (
       held_in after,
-      held_by c.take_first.new.generations,
+      held_by c.take_first-taken.new.generations,
       refl,
       ap (λ (p : PartView T). p.number) c.set_over.ensures ∙ c.take_here.ensures.same.0,
-      inl (took, c.take_first.ensures.takes),
+      inl (took, c.take_first-taken.ensures.takes),
     )
 
 pub returns-in_default-clause-same : goal.returns-in_default-clause-same
@@ -62,8 +62,11 @@ returns-in_default-clause-takes g t c =
       inr (c.take_here.result, refl, search rules, c.take_here.ensures.takes, refl),
     )
 
-pub take_first-requires : goal.take_first-requires
-take_first-requires g t c =
+pub returns-in_default-clause-others : goal.returns-in_default-clause-others
+returns-in_default-clause-others g t c = λ unseen. sym (ap (drop 1) c.in_ok-generations.ensures.cases.0)
+
+pub take_first-taken-requires : goal.take_first-taken-requires
+take_first-taken-requires g t c =
     let rest = bare_rest g.K.Kind.bare c.args.generations.now c.in_ok-generations.rest.now c.in_ok-generations.first.now
     c.in_ok-generations.ensures.cases.0 c.requires in
     search (rules, rest)
