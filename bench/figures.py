@@ -1,7 +1,7 @@
 #!/usr/bin/env python3
 """Says whether docs/PERFORMANCE.md has the figures of docs/bench: that its tables are those which the overviews of
-docs/bench/table.md give and the first one of docs/bench/work.md, and that each decimal in its text is a figure of the
-tables, rounded.
+docs/bench/table.md give, its tables of calls that wait, and the first one of docs/bench/work.md, and that each decimal
+in its text is a figure of the tables, rounded.
 
     bench/figures.py              prints what differs, and ends with the line 'N passed, M failed'
     bench/figures.py --write      writes the tables into the page
@@ -52,6 +52,23 @@ def measured():
     return found
 
 
+def waiting():
+    """Returns the table of calls that wait: the million values a second, and the nanoseconds of a value, by queue."""
+    parts = re.split(r"^### ", (TABLES / "table.md").read_text(), flags=re.M)
+    lines = []
+    for part in parts:
+        title = part.partition("\n")[0]
+        if not title.startswith(f"{run.WAITING_TITLE}: "):
+            continue
+        _, _, *rows = next(tables_of(part))
+        queues, speeds, costs, *_ = zip(*map(cells, rows))
+        if not lines:
+            lines = [f"| Calls that wait | {' | '.join(queues)} |", "|---" * (len(queues) + 1) + "|"]
+        figures = [f"{float(speed):.1f} ({cost})" for speed, cost in zip(speeds, costs)]
+        lines.append(f"| {title.partition(': ')[2]} | {' | '.join(figures)} |")
+    return lines
+
+
 def page_tables():
     """Returns those tables of the page that are made of what was measured, each as its head and its rows."""
     ratios = measured()
@@ -64,8 +81,7 @@ def page_tables():
             figures = [ratios.get(title, {}).get(run.label(it), "") for it in known]
             lines.append(f"| {name} | " + " | ".join(figures) + " |")
         made.append(lines)
-    work = TABLES / "work.md"
-    return [*made, next(tables_of(work.read_text()))] if work.exists() else made
+    return [*made, waiting(), next(tables_of((TABLES / "work.md").read_text()))]
 
 
 def text_of(page):

@@ -418,8 +418,8 @@ def draw_in_queue(rows, folder):
     from matplotlib import pyplot
 
     pyplot.rcParams["svg.hashsalt"] = "kfifo"
-    figure, parts = pyplot.subplots(2, 2, figsize=(9, 6), layout="constrained", sharex=True, sharey=True)
-    names = [textwrap.fill(it.replace(" †", ""), 10) for it in IN_QUEUE_OF.values()]
+    figure, parts = pyplot.subplots(2, 2, figsize=(10.5, 6), layout="constrained", sharex=True, sharey=True)
+    names = [textwrap.fill(it.replace(" †", "").replace("kfifo, ", ""), 10) for it in IN_QUEUE_OF.values()]
     for axes, (title, medians) in zip(parts.flat, rows.items()):
         places = range(len(names))
         for quantile, name, mark in zip(range(len(QUANTILES)), QUANTILES, "osv"):
@@ -428,7 +428,7 @@ def draw_in_queue(rows, folder):
             axes.plot([place] * 2, [times[0], times[2]], color=LOOKS[1][0], linewidth=0.8)
         axes.set_yscale("log")
         axes.set_title(title, fontsize=9)
-        axes.set_xticks(places, names, fontsize=8)
+        axes.set_xticks(places, names, fontsize=7)
         axes.grid(axis="y", linewidth=0.3)
     for axes in parts[:, 0]:
         axes.set_ylabel("nanoseconds in the queue", fontsize=8)
