@@ -69,7 +69,7 @@ module _ {T : Type 0} where
       let next = all-next (IsPart xs) p ps (p ∷ ps) refl all in
       All-cons (IsPart ys) p ps (part-later xs ys p more next.0) (parts-later xs ys ps more next.1)
 
-  part-same : (log : List Change) (p q : PartView T) → IsSamePart p q → IsPart log p → IsPart log q
+  pub part-same : (log : List Change) (p q : PartView T) → IsSamePart p q → IsPart log p → IsPart log q
   part-same log p q same is = record {
     made = subst (λ n. IsMade log n q.handle.held.pass.pass.table) (sym same.0)
         (subst (IsMade log p.number) (sym same.2.0) is.made);

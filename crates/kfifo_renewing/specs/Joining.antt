@@ -1,7 +1,6 @@
 -- What a handle of a renewing queue has joined: parts in generations.
 use Rattle.std.specs.Prelude.{◌≡◌, ◌⊎◌, ◌<◌, ℕ, List, [], ◌∷◌, All, map}
 use Rattle.std.specs.List.{Contains}
-use Rattle.atomic_table.specs.Seated.{TableId}
 use Rattle.logbook.specs.Pages.{Book}
 use Rattle.kfifo_pool.specs.Pooled.{Pooled, no_cells}
 use Rattle.kfifo_live.specs.Pass.{IsPassOf, IsSamePass}
@@ -21,19 +20,6 @@ pub record OlderView (T : Type 0) : Type 0 where
   pub items : List (PartView T)
   pub capacity : ℕ
 
--- a take of a payload of this type found the queue with this table empty
-abbrev pub FoundEmpty : Type 0 → TableId → Type 0
-FoundEmpty T table = (before : Pooled T) × (after : Pooled T) × (before.held.pass.pass.table ≡ table)
-    × FindsEmpty before after
-
--- a take of a payload of this type found the generation with this number empty
-abbrev pub WasFoundEmpty : Type 0 → List Change → ℕ → Type 0
-WasFoundEmpty T log n = (table : TableId) × IsMade log n table × FoundEmpty T table
-
--- the generation with this number may leave its place: it was never the newest, has gone, or was found empty
-abbrev pub MayGo : Type 0 → List Change → ℕ → Type 0
-MayGo T log n = WasNewest log n → IsGone log n ⊎ WasFoundEmpty T log n
-
 module _ {T : Type 0} where
   -- the generation of a part has its number and its place in the history
   pub record IsPart (log : List Change) (p : PartView T) : Type 0 where
@@ -44,6 +30,10 @@ module _ {T : Type 0} where
   -- the handle of a part has no cell of its generation
   abbrev pub HasNoCell : PartView T → Type 0
   HasNoCell p = p.handle.cells ≡ no_cells
+
+  -- the last call of the handle of a part was a take that found its generation empty
+  abbrev pub EndedEmpty : PartView T → Type 0
+  EndedEmpty p = (before : Pooled T) × FindsEmpty before p.handle
 
   -- a part in the same generation, with the same pass
   abbrev pub IsSamePart : PartView T → PartView T → Type 0

@@ -478,11 +478,10 @@ impl<T: Drop, K: Kind<T>> RenewingHandle<T, K> {
     {
         let mut found_empty = false;
         let taken = self.take_first(&mut found_empty);
-        // Else none is over, and in a queue that has grown a look at each place would cost more than the take.
+        // Else none has gone, and in a queue that has grown a look at each place would cost more than the take.
         if !found_empty {
             return taken;
         }
-        self.retire_over();
         self.leave_gone();
         taken
     }
@@ -490,20 +489,13 @@ impl<T: Drop, K: Kind<T>> RenewingHandle<T, K> {
     /// Takes from the first of the older generations that is not found empty. Says whether it found one empty.
     #[inline(always)]
     fn take_first(&mut self, found_empty: &mut bool) -> Option<Taken<K::Got>>
-        ensures same { self.new ≡ with_older self.old self.new.older }
+        ensures same { self.new ≡ with_older (with_seen self.old self.new.seen) self.new.older }
+        ensures later { IsLater self.old self.new }
         ensures takes { TakesFirst K.takes result self.old.older self.new.older }
     {
-        self.older.take_first::<K>(found_empty)
-    }
-
-    /// Empties the places of the older generations that are over.
-    fn retire_over(&mut self)
-        ensures same { self.new ≡ with_seen self.old self.new.seen }
-        ensures later { IsLater self.old self.new }
-    {
-        self.shared
-            .places()
-            .retire_over(self.older.parts(), &mut self.history);
+        let places = self.shared.places();
+        self.older
+            .take_first::<K>(places, &mut self.history, found_empty)
     }
 
     /// What a take returns that came to this in the newest generation: Busy in place of Empty where another one is the

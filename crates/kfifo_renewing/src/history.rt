@@ -1,7 +1,7 @@
 //! The history of a queue's generations, and the words that tell of it.
 //!
 //! The history lives in proofs alone: a `History` is a beginning of it that was seen, and has no bytes.
-ghost use Rattle.std.specs.Prelude.{◌≡◌, ◌≢◌, ◌+◌, ◌<◌, ◌≤◌, ◌^◌, ℕ, IfOk, IfSome, true};
+ghost use Rattle.std.specs.Prelude.{◌≡◌, ◌≢◌, ◌+◌, ◌<◌, ◌≤◌, ℕ, IfOk, IfSome, true};
 ghost use Rattle.logbook.specs.Pages.{may_make, may_write, nib};
 ghost use mathlib.Core.List.{IsPrefix};
 ghost use Rattle.kfifo_renewing.specs.History.{AreLabels, Finds, HasRisen, IsMade, IsPlaced, WasNewest, key_of};

@@ -1,8 +1,8 @@
 //! A generation that a handle has joined.
-ghost use Rattle.std.specs.Prelude.{◌≡◌, ◌↔◌, IfSome, false, true};
+ghost use Rattle.std.specs.Prelude.{◌≡◌, ◌↔◌, IfSome, false};
 ghost use Rattle.kfifo_live.specs.Pass.{IsPassOf};
 ghost use Rattle.kfifo_pool.specs.Pooled.{GivesOne, no_cells};
-ghost use Rattle.kfifo_renewing.specs.Joining.{FoundEmpty, IsSamePart, PartView};
+ghost use Rattle.kfifo_renewing.specs.Joining.{IsSamePart, PartView};
 ghost use Rattle.kfifo_renewing.specs.Renewing.{FindsEmpty, IsFresh, IsUntouched, TakesThere};
 
 use crate::generation::Generation;
@@ -20,8 +20,6 @@ use std::sync::Arc;
 #[derive(Drop)]
 pub(crate) struct Joined<T: Drop> {
     place: usize,
-    /// Whether it was found empty when nobody could give to it any more.
-    is_over: bool,
     thread: u32,
     /// Whether the handle counts among those that give to the generation.
     gives: bool,
@@ -38,8 +36,7 @@ impl<T: Drop> Model for Joined<T> {
       place = j.place;
     } };
 
-    ghost invariant = { λ j. IsPassOf j.generation.value.queue j.handle.held.pass.pass
-        × (j.is_over ≡ true → FoundEmpty T j.handle.held.pass.pass.table) };
+    ghost invariant = { λ j. IsPassOf j.generation.value.queue j.handle.held.pass.pass };
 }
 
 impl<T: Drop> Joined<T> {
@@ -56,7 +53,6 @@ impl<T: Drop> Joined<T> {
         let handle = generation.take_handle(thread)?;
         let part = Joined {
             place,
-            is_over: false,
             thread,
             gives: false,
             generation,
@@ -147,21 +143,6 @@ impl<T: Drop> Leaving<Joined<T>> {
         ensures { IsPassOf result.now.queue self.now.handle.held.pass.pass }
     {
         &self.part.generation
-    }
-
-    /// Whether the generation was found empty when nobody could give to it any more.
-    pub(crate) fn is_over(&self) -> bool
-        ensures { result ≡ true → FoundEmpty T self.now.handle.held.pass.pass.table }
-    {
-        self.part.is_over
-    }
-
-    /// Says whether it was.
-    pub(crate) fn set_over(&mut self, is_over: bool)
-        requires { is_over ≡ true → FoundEmpty T self.old.handle.held.pass.pass.table }
-        ensures { self.new ≡ self.old }
-    {
-        self.part.is_over = is_over;
     }
 
     /// Counts the handle among those that give to the generation.

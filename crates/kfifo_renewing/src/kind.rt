@@ -1,6 +1,5 @@
 //! What the generations of a queue hold: payloads, or the tokens of cells.
 ghost use Rattle.std.specs.Prelude.{◌≡◌, Bool, All, IfOk, false, true};
-ghost use Rattle.kfifo_live.specs.Calls.{IsDisturbed};
 ghost use Rattle.kfifo_live.specs.Pass.{IsPassOf, IsSamePass};
 ghost use Rattle.kfifo_live.specs.declared.payload.Taken.{Taken as HasTaken};
 ghost use Rattle.kfifo_pool.specs.Pooled.{Pooled, ReceivesOne};

@@ -2,13 +2,14 @@
 ghost use Rattle.std.specs.Prelude.{◌≡◌, ◌<◌, ◌≤◌, ◌+◌, ◌^◌, ℕ, suc, List, IfOk, Some, true};
 ghost use mathlib.Core.List.{IsPrefix};
 ghost use Rattle.logbook.specs.Pages.{Cell, may_make_home, may_write, nib};
-ghost use Rattle.kfifo_renewing.specs.History.{AreLabels, FindsThere, HasLeft, IsKept, IsPlaced, key_of, label_of};
-ghost use Rattle.kfifo_renewing.specs.History.{newest_of};
-ghost use Rattle.kfifo_renewing.specs.History.{place_count};
-ghost use Rattle.kfifo_renewing.specs.Joining.{MayGo};
+ghost use Rattle.kfifo_renewing.specs.History.{AreLabels, FindsThere, HasLeft, IsGone, IsKept, IsPlaced, WasNewest};
+ghost use Rattle.kfifo_renewing.specs.History.{key_of, label_of, newest_of, place_count};
+ghost use Rattle.kfifo_renewing.specs.Joining.{EndedEmpty};
 
 use crate::change::Change;
 use crate::history::{Emptying, Filling, History, HistoryRule, LookingThere, Naming, NoGain};
+use crate::joined::Joined;
+use crate::leaving::Leaving;
 use logbook::{Offer, Pen, Pens, Word};
 use std::alloc::{AllocError, Global};
 use std::marker::Model;
@@ -87,12 +88,35 @@ impl Label {
         found == 0
     }
 
-    /// Takes the generation with this number out of the place, if no other handle has. It is the newest no more, and
-    /// was found empty, or was never the newest.
-    pub(crate) fn leave<T: Drop>(&self, number: u32, history: &mut History)
+    /// Takes the generation of this part out of the place, if no other handle has. It is the newest no more, and the last
+    /// call of the part found it empty.
+    pub(crate) fn leave<T: Drop>(&self, part: &Leaving<Joined<T>>, history: &mut History)
+        requires book { history.old.book ≡ self.now.book }
+        requires over { part.now.number < newest_of history.old.log }
+        requires empty { EndedEmpty part.now }
+        ensures later { (history.new.book ≡ history.old.book) × IsPrefix history.old.log history.new.log }
+        ensures left { IsPlaced history.old.log part.now.number self.now.place
+            → HasLeft history.new.log part.now.number }
+    {
+        self.empty(part.number(), history);
+    }
+
+    /// Takes the generation with this number out of the place, if no other handle has. It is the newest no more, and has
+    /// gone, or was never the newest.
+    pub(crate) fn leave_other(&self, number: u32, history: &mut History)
         requires book { history.old.book ≡ self.now.book }
         requires over { number < newest_of history.old.log }
-        requires empty { MayGo T history.old.log number }
+        requires gone { WasNewest history.old.log number → IsGone history.old.log number }
+        ensures later { (history.new.book ≡ history.old.book) × IsPrefix history.old.log history.new.log }
+        ensures left { IsPlaced history.old.log number self.now.place → HasLeft history.new.log number }
+    {
+        self.empty(number, history);
+    }
+
+    /// Empties the place, if the generation with this number is still there. It is the newest no more.
+    fn empty(&self, number: u32, history: &mut History)
+        requires book { history.old.book ≡ self.now.book }
+        requires over { number < newest_of history.old.log }
         ensures later { (history.new.book ≡ history.old.book) × IsPrefix history.old.log history.new.log }
         ensures left { IsPlaced history.old.log number self.now.place → HasLeft history.new.log number }
     {

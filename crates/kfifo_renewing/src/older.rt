@@ -1,17 +1,22 @@
 //! The older generations of a handle: those before the newest one that it has joined.
 ghost use Rattle.std.specs.Prelude.{◌≡◌, ◌≤◌, ◌<◌, ◌+◌, ◌*◌, ◌^◌, ◌++◌, ◌∷◌, [], All, IfOk, drop, false, length, take, true};
 ghost use Rattle.std.specs.Prelude.{vec_capacity};
+ghost use mathlib.Core.List.{IsPrefix};
 ghost use Rattle.kfifo_live.specs.declared.view.Opening.{Opening};
 ghost use Rattle.kfifo_renewing.specs.Cells.{CallsFirst, reserved_in};
-ghost use Rattle.kfifo_renewing.specs.Joining.{AreSameParts, HasNoCell, OlderView, held_by};
+ghost use Rattle.kfifo_renewing.specs.History.{HasRisen, newest_of};
+ghost use Rattle.kfifo_renewing.specs.Joining.{AreSameParts, EndedEmpty, HasNoCell, IsPart, OlderView};
+ghost use Rattle.kfifo_renewing.specs.Joining.{held_by};
 ghost use Rattle.kfifo_renewing.specs.Memory.{cell_reserved};
 ghost use Rattle.kfifo_renewing.specs.Renewing.{IsOpenedAs, TakesFirst, slots_of};
 
 use crate::cells::CellCall;
+use crate::history::History;
 use crate::joined::Joined;
 use crate::kind::Kind;
 use crate::leaving::Leaving;
 use crate::memory::CellAt;
+use crate::places::Places;
 use kfifo_live::{Given, Taken};
 use std::alloc::{AllocError, Global};
 use std::marker::Model;
@@ -105,14 +110,27 @@ impl<T: Drop> Older<T> {
         drop(gone);
     }
 
-    /// Takes from the first that is not found empty. Says whether it found one empty.
+    /// Takes from the first that is not found empty. Says whether it found one empty. Such a one goes from its place if
+    /// nobody gave to it any more.
     #[inline(always)]
-    pub(crate) fn take_first<K: Kind<T>>(&mut self, found_empty: &mut bool) -> Option<Taken<K::Got>>
-        requires { All (λ p. p.handle.held.pass.pass.opened.bare ≡ K.bare) self.old.items }
+    pub(crate) fn take_first<K: Kind<T>>(
+        &mut self,
+        places: &Places<T>,
+        history: &mut History,
+        found_empty: &mut bool,
+    ) -> Option<Taken<K::Got>>
+        requires bare { All (λ p. p.handle.held.pass.pass.opened.bare ≡ K.bare) self.old.items }
+        requires book { history.old.book ≡ places.now.history.book }
+        requires parts { All (IsPart history.old.log) self.old.items }
+        requires below { All (λ p. p.number < newest_of history.old.log) self.old.items }
+        requires risen { HasRisen history.old.log }
         ensures same { AreSameParts self.old.items self.new.items }
         ensures takes { TakesFirst K.takes result (held_by self.old.items) (held_by self.new.items) }
+        ensures later { (history.new.book ≡ history.old.book) × IsPrefix history.old.log history.new.log }
+        ensures risen { HasRisen history.new.log }
     {
-        let taken = take_first::<T, K>(self.parts.as_mut_slice(), found_empty);
+        let parts = self.parts.as_mut_slice();
+        let taken = take_first::<T, K>(parts, places, history, found_empty);
         if *found_empty {
             self.with_cells = self.parts.len();
         } else if self.with_cells == 0 {
@@ -121,7 +139,7 @@ impl<T: Drop> Older<T> {
         taken
     }
 
-    /// Forgets the last ones of which it is not known that the handle has no cell there, as long as it has none.
+    /// Lowers the index past parts in which the handle has no cell.
     fn trim(&mut self)
         ensures { self.new ≡ self.old }
     {
@@ -192,24 +210,52 @@ fn count_in<T: Drop>(parts: &[Leaving<Joined<T>>]) -> usize
     count_in(rest).saturating_add(first.generation().queue().len())
 }
 
-/// Takes from the first of these generations that is not empty. Says whether it found one empty: that one is over if
-/// nobody gave to it any more before that.
+/// Takes the generation of this part, whose last call found it empty, out of its place, unless somebody gave to it then.
+fn retire_unless<T: Drop>(
+    has_givers: bool,
+    places: &Places<T>,
+    part: &Leaving<Joined<T>>,
+    history: &mut History,
+)
+    requires book { history.old.book ≡ places.now.history.book }
+    requires part { IsPart history.old.log part.now }
+    requires over { part.now.number < newest_of history.old.log }
+    requires empty { EndedEmpty part.now }
+    requires risen { HasRisen history.old.log }
+    ensures later { (history.new.book ≡ history.old.book) × IsPrefix history.old.log history.new.log }
+    ensures risen { HasRisen history.new.log }
+{
+    if !has_givers {
+        places.retire(part, history);
+    }
+}
+
+/// Takes from the first of these generations that is not empty. Says whether it found one empty: that one goes from its
+/// place if nobody gave to it any more before that.
 fn take_first<T: Drop, K: Kind<T>>(
     generations: &mut [Leaving<Joined<T>>],
+    places: &Places<T>,
+    history: &mut History,
     found_empty: &mut bool,
 ) -> Option<Taken<K::Got>>
-    requires { All (λ p. p.handle.held.pass.pass.opened.bare ≡ K.bare) generations.old }
+    requires bare { All (λ p. p.handle.held.pass.pass.opened.bare ≡ K.bare) generations.old }
+    requires book { history.old.book ≡ places.now.history.book }
+    requires parts { All (IsPart history.old.log) generations.old }
+    requires below { All (λ p. p.number < newest_of history.old.log) generations.old }
+    requires risen { HasRisen history.old.log }
     ensures same { AreSameParts generations.old generations.new }
     ensures takes { TakesFirst K.takes result (held_by generations.old) (held_by generations.new) }
     ensures others { found_empty.new ≡ false → drop 1 generations.new ≡ drop 1 generations.old }
+    ensures later { (history.new.book ≡ history.old.book) × IsPrefix history.old.log history.new.log }
+    ensures risen { HasRisen history.new.log }
 {
     let (first, rest) = generations.split_first_mut()?;
     // This look comes before the take: a payload that is given after the take would be lost with the generation.
     let has_givers = first.generation().has_givers();
     match first.take_here::<K>() {
         Taken::Empty => {
-            first.set_over(!has_givers);
-            let taken = take_first::<T, K>(rest, found_empty);
+            retire_unless(has_givers, places, first, history);
+            let taken = take_first::<T, K>(rest, places, history, found_empty);
             *found_empty = true;
             taken
         }

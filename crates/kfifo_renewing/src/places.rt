@@ -3,15 +3,15 @@
 //! A place has a word, which says whether a generation is there, its number and how many readers look at it. Its label
 //! says the number too, and proofs speak of labels: a label is written after the place is filled, and before it is
 //! emptied.
-ghost use Rattle.std.specs.Prelude.{◌≡◌, ◌≢◌, ◌<◌, ◌≤◌, ◌+◌, ◌%◌, ◌^◌, ℕ, All, IfOk, IfSome, List, MatchBool, Some};
+ghost use Rattle.std.specs.Prelude.{◌≡◌, ◌<◌, ◌≤◌, ◌+◌, ◌%◌, ℕ, All, IfOk, IfSome, List, MatchBool, Some};
 ghost use Rattle.std.specs.Prelude.{length, true};
 ghost use mathlib.Core.List.{IsPrefix};
 ghost use Rattle.counted_slot.specs.Counting.{readers};
 ghost use Rattle.logbook.specs.Pages.{Cell, may_write, nib};
 ghost use Rattle.kfifo_renewing.specs.declared.places.Lineage.{Lineage};
-ghost use Rattle.kfifo_renewing.specs.History.{AreLabels, FindsThere, HasLeft, HasRisen, IsKept, IsPlaced, WasNewest};
-ghost use Rattle.kfifo_renewing.specs.History.{key_of, newest_of, place_count};
-ghost use Rattle.kfifo_renewing.specs.Joining.{AreAmong, HasNumber, HasOlder, IsPart, MayGo};
+ghost use Rattle.kfifo_renewing.specs.History.{AreLabels, FindsThere, HasLeft, HasRisen, IsGone, IsKept, IsPlaced};
+ghost use Rattle.kfifo_renewing.specs.History.{WasNewest, key_of, newest_of, place_count};
+ghost use Rattle.kfifo_renewing.specs.Joining.{AreAmong, EndedEmpty, HasNumber, HasOlder, IsPart};
 ghost use Rattle.kfifo_renewing.specs.Renewing.{IsOfLineage};
 
 use crate::generation::Generation;
@@ -265,24 +265,7 @@ impl<T: Drop> Places<T> {
             if has_number(joined, other) {
                 continue;
             }
-            self.retire(index, other, history);
-        }
-    }
-
-    /// Empties the places of those of these generations that are over.
-    pub(crate) fn retire_over(&self, joined: &[Leaving<Joined<T>>], history: &mut History)
-        requires book { history.old.book ≡ self.now.history.book }
-        requires parts { All (IsPart history.old.log) joined.now }
-        requires below { All (λ p. p.number < newest_of history.old.log) joined.now }
-        requires risen { HasRisen history.old.log }
-        ensures later { (history.new.book ≡ history.old.book) × IsPrefix history.old.log history.new.log }
-        ensures risen { HasRisen history.new.log }
-    {
-        for part in joined {
-            if !part.is_over() {
-                continue;
-            }
-            self.retire(part.place(), part.number(), history);
+            self.retire_other(index, other, history);
         }
     }
 
@@ -313,19 +296,36 @@ impl<T: Drop> Places<T> {
         None
     }
 
-    /// Takes the generation with this number out of its place: it is the newest no more, and was found empty, or was
-    /// never the newest.
-    pub(crate) fn retire(&self, index: usize, number: u32, history: &mut History)
+    /// Takes the generation of this part out of its place: it is the newest no more, and the last call of the part found
+    /// it empty.
+    pub(crate) fn retire(&self, part: &Leaving<Joined<T>>, history: &mut History)
+        requires book { history.old.book ≡ self.now.history.book }
+        requires part { IsPart history.old.log part.now }
+        requires over { part.now.number < newest_of history.old.log }
+        requires empty { EndedEmpty part.now }
+        ensures later { (history.new.book ≡ history.old.book) × IsPrefix history.old.log history.new.log }
+        ensures left { HasLeft history.new.log part.now.number }
+        ensures risen { HasRisen history.new.log }
+    {
+        // The label goes first: who finds a label finds the generation, unless it goes meanwhile.
+        self.labels[part.place()].leave(part, history);
+        self.empty(part.place(), part.number());
+        let seen = history.again();
+        history.learn(&seen);
+    }
+
+    /// Takes the generation with this number out of its place: it is the newest no more, and has gone, or was never the
+    /// newest.
+    fn retire_other(&self, index: usize, number: u32, history: &mut History)
         requires book { history.old.book ≡ self.now.history.book }
         requires inside { index < place_count }
         requires over { number < newest_of history.old.log }
-        requires empty { MayGo T history.old.log number }
+        requires gone { WasNewest history.old.log number → IsGone history.old.log number }
         ensures later { (history.new.book ≡ history.old.book) × IsPrefix history.old.log history.new.log }
         ensures left { IsPlaced history.old.log number index → HasLeft history.new.log number }
         ensures risen { HasRisen history.new.log }
     {
-        // The label goes first: who finds a label finds the generation, unless it goes meanwhile.
-        self.labels[index].leave::<T>(number, history);
+        self.labels[index].leave_other(number, history);
         self.empty(index, number);
         let seen = history.again();
         history.learn(&seen);

@@ -1,9 +1,7 @@
 //! What the handles of a renewing queue share, its opening and its end.
-ghost use Rattle.std.specs.Prelude.{◌≡◌, ◌<◌, ◌≤◌, ◌*◌, ◌++◌, ◌⊎◌, ◌↔◌, All, IfOk, IfSome, IsErrOf, ℕ, List, [], ◌∷◌};
+ghost use Rattle.std.specs.Prelude.{◌≡◌, ◌<◌, ◌≤◌, ◌*◌, ◌++◌, ◌↔◌, All, IfOk, IfSome, IsErrOf, ℕ, List, [], ◌∷◌};
 ghost use Rattle.std.specs.Prelude.{◌+◌, false, length, map, true};
-ghost use Rattle.kfifo_live.specs.Capacities.{sizes_fault};
 ghost use Rattle.kfifo_live.specs.Pass.{IsPassOf};
-ghost use Rattle.kfifo_live.specs.Refusals.{IsOutOf};
 ghost use Rattle.kfifo_live.specs.Schedule.{count_up};
 ghost use Rattle.kfifo_live.specs.declared.fault.OpenFault.TheVariants.{ThreadsOutOfRange, TokensOutOfRange};
 ghost use Rattle.kfifo_live.specs.declared.payload.opening.TheConstants.{MOST_TOKENS};
@@ -17,7 +15,7 @@ ghost use Rattle.kfifo_renewing.specs.Joining.{held_by};
 ghost use Rattle.kfifo_renewing.specs.Renewing.{AreInRange, ClosesAll, ClosesEach, Generations, HasOne, HaveOne};
 ghost use Rattle.kfifo_renewing.specs.Renewing.{Gathers, HasBadGenerations, HasBadReserve, HasBadThreads};
 ghost use Rattle.kfifo_renewing.specs.Renewing.{HasBadTokens, IsOfLineage, IsPlan, OpensOrRefuses};
-ghost use Rattle.kfifo_renewing.specs.Renewing.{IsOpenedAs, IsUntouched, OpensFor, RefusesFor, WereLeft, generations_for};
+ghost use Rattle.kfifo_renewing.specs.Renewing.{IsOpenedAs, IsUntouched, WereLeft, generations_for};
 ghost use Rattle.kfifo_renewing.specs.Renewing.{opening_again, opening_with};
 ghost use Rattle.kfifo_renewing.specs.Renewing.{sizes_again};
 ghost use Rattle.kfifo_renewing.specs.declared.queue.TheConstants.{DEFAULT_RESERVE};

@@ -1,12 +1,8 @@
 -- The pass is the same after the call.
-use Rattle.std.proofs.Common.{◌∙◌, subst, sym}
-use Rattle.kfifo_renewing.specs.Joining.{FoundEmpty}
+use Rattle.std.proofs.Common.{◌∙◌}
 use Rattle.kfifo_renewing.proofs.cells.Leaving+Joined+unit.call_here.Goals as goal
 
 pub invariant_of-self-inside : goal.invariant_of-self-inside
 invariant_of-self-inside c =
     let i = c.self-inside.invariant in
-    let same = c.call_cell.ensures.same in (
-      (same.0 ∙ i.0.0, same.1 ∙ i.0.1),
-      λ over. subst (FoundEmpty (Unit {0})) (sym same.0) (i.1 over),
-    )
+    let same = c.call_cell.ensures.same in (same.0 ∙ i.0, same.1 ∙ i.1)

@@ -1,19 +1,16 @@
 -- The pass is the same after the call.
-use Rattle.std.proofs.Common.{ap, sym, ◌∙◌, subst}
+use Rattle.std.proofs.Common.{ap, ◌∙◌, subst}
 use Rattle.kfifo_pool.specs.Pooled.{Pooled}
 use Rattle.kfifo_renewing.specs.declared.joined.Joined.{Joined}
 use Rattle.kfifo_renewing.specs.declared.leaving.Leaving.TheInside.{Inside}
-use Rattle.kfifo_renewing.specs.Joining.{FoundEmpty, PartView}
+use Rattle.kfifo_renewing.specs.Joining.{PartView}
 use Rattle.kfifo_renewing.specs.Renewing.{FindsEmpty, TakesThere}
 use Rattle.kfifo_renewing.proofs.joined.Leaving+Joined+T.take_here.Goals as goal
 
 pub invariant_of-self-inside : goal.invariant_of-self-inside
 invariant_of-self-inside g c =
     let i = c.self-inside.invariant in
-    let same = c.take.ensures.same in (
-      (same.0 ∙ i.0.0, same.1 ∙ i.0.1),
-      λ over. subst (FoundEmpty g.row.T.Denot) (sym same.0) (i.1 over),
-    )
+    let same = c.take.ensures.same in (same.0 ∙ i.0, same.1 ∙ i.1)
 
 pub returns-clause-takes : goal.returns-clause-takes
 returns-clause-takes g c =

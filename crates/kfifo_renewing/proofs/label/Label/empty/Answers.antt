@@ -4,10 +4,10 @@ use Rattle.logbook.specs.Pages.{Moves, step}
 use Rattle.kfifo_renewing.specs.declared.change.Change.TheVariants as C
 use Rattle.kfifo_renewing.specs.History.{IsKept, IsPlaced, LabelView, Empties, label_of}
 use Rattle.kfifo_renewing.proofs.Keeping.{leaves-moves, moved, shown}
-use Rattle.kfifo_renewing.proofs.label.Label.leave.Goals as goal
+use Rattle.kfifo_renewing.proofs.label.Label.empty.Goals as goal
 
 pub compare_exchange-requires : goal.compare_exchange-requires
-compare_exchange-requires g c =
+compare_exchange-requires c =
     let h = c.self.invariant in
     let offer = c.plain-offer.ensures in
     let book = ap (λ (v : LabelView). v.book) c.self.view_is in
@@ -26,7 +26,7 @@ compare_exchange-requires g c =
     )
 
 pub returns-clause-left : goal.returns-clause-left
-returns-clause-left g c there =
+returns-clause-left c there =
     let n = c.args.number in
     let log = c.args.history.now.log in
     let up : c.from.result + 1 ≡ suc n = omega (arith, c.from.ensures) in
