@@ -149,11 +149,19 @@ bool overtakes(const Value &one, const Value &other) {
     return other.give_ends < one.give_begins && one.take_ends < other.take_begins;
 }
 
-// A queue whose generations have few versions, and the values that the test follows.
+// A queue whose generations have few versions, or one that grows, and the values that the test follows.
 class Run {
   public:
     Run(std::uint32_t k, std::uint32_t handles) : passes(handles), values(1), last(64 * handles) {
         expect(kfifo_open_values_with(k, 8, last, last / 2, 1, passes.data(), handles), KFIFO_DONE, "open");
+    }
+    // It has up to so many generations, and each has versions enough.
+    struct Grows {
+        std::uint32_t generations;
+    };
+    Run(std::uint32_t k, std::uint32_t handles, Grows grows) : passes(handles), values(1), last(KFIFO_LAST) {
+        expect(kfifo_open_values_with(k, 8, last, KFIFO_RESERVE, grows.generations, passes.data(), handles), KFIFO_DONE,
+               "open");
     }
     ~Run() { expect(kfifo_abandon(passes.data(), passes.size()), KFIFO_DONE, "abandon"); }
 
@@ -190,6 +198,13 @@ class Run {
         std::uint64_t before = requests;
         for (std::uint64_t i = 0; i < last && requests == before; i++) pair(handle);
         expect(requests > before, 1, "whether the generation changed");
+    }
+
+    // The handle gives until there is no room in the newest generation, and it opens the next one.
+    void grow(std::uint32_t handle) {
+        std::uint64_t before = requests;
+        for (int i = 0; i < 1000 && requests == before; i++) give(handle);
+        expect(requests > before, 1, "whether the queue grew");
     }
 
     // Takes all that is left. So each value that was given has come out.
@@ -396,6 +411,33 @@ void behind(bool is_give) {
     expect(steps > 100, 1, "whether a call that follows others has more than a hundred instructions");
 }
 
+// ---- Growth ----
+
+// A call stops after that many instructions, while the queue grows by another handle, and takes find the values of all
+// generations then. Returns whether it ended before it would have stopped.
+bool run_growing(bool is_give, long steps) {
+    Run run(1, 2, Run::Grows{4});
+    if (!is_give) run.grow(0);
+    auto call = run.begin(1, is_give, steps);
+    run.grow(0);
+    run.give(0);
+    run.end(*call);
+    run.give(1);
+    run.drain(0);
+    expect(run.take(1), KFIFO_EMPTY, "a take of the handle that stopped");
+    expect(run.most_overtaken(UINT64_MAX) <= 1, 1, "whether at most one value overtook another");
+    expect(run.least_k() <= 2, 1, "whether the judge finds an order for k + handles - 1");
+    return !call->has_stopped;
+}
+
+// A take that follows others has many instructions, so its next stop is some instructions further.
+void growing(bool is_give) {
+    long steps = 1;
+    while (failures < 20 && !run_growing(is_give, steps)) steps += is_give ? STRIDE : 9;
+    std::printf("a %s stopped after up to %ld instructions while the queue grew\n", is_give ? "give" : "take", steps);
+    expect(steps > 100, 1, "whether a call has more than a hundred instructions");
+}
+
 } // namespace
 
 int main() {
@@ -413,6 +455,8 @@ int main() {
     for (const Plan &plan : plans) late_gives(plan);
     behind(true);
     behind(false);
+    growing(true);
+    growing(false);
     std::puts(failures ? "values overtake each other by more or less than the bounds"
                        : "late gives: values overtake each other by as much as the bounds say, and by no more");
     return failures > 0;
