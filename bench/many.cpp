@@ -4,6 +4,7 @@
 // given and taken, a second; status 1 where what came out is not what went in.
 #include "kfifo.hpp"
 
+#include <algorithm>
 #include <array>
 #include <atomic>
 #include <chrono>
@@ -15,6 +16,11 @@
 
 namespace {
 
+// The capacity of a queue of values for two threads with so many slots, or the greatest one.
+std::uint32_t capacity(std::uint32_t k, std::uint32_t segments) {
+    return std::min(k * segments, 2 * (1022 * k / 2 - 32));
+}
+
 // Each kind gives the numbers from `first` on, as many as it says or as there is room for, and takes such. One at once
 // is a single call.
 struct ValuesInC {
@@ -22,7 +28,7 @@ struct ValuesInC {
     std::array<std::array<std::uint64_t, 64>, 2> batches{};
 
     ValuesInC(std::uint32_t k, std::uint32_t segments) : passes(2) {
-        if (kfifo_open_values(k, k * segments, passes.data(), 2) != KFIFO_DONE) std::abort();
+        if (kfifo_open_values(k, capacity(k, segments), passes.data(), 2) != KFIFO_DONE) std::abort();
     }
     ~ValuesInC() { (void)kfifo_abandon(passes.data(), 2); }
     std::size_t give(std::size_t most, std::uint32_t first) {
@@ -80,7 +86,7 @@ struct ValuesInCpp {
     std::vector<std::uint64_t> in, out;
 
     ValuesInCpp(std::uint32_t k, std::uint32_t segments)
-        : queue(k, k * segments, 2), giver(queue.handle()), taker(queue.handle()), in(64) {}
+        : queue(k, capacity(k, segments), 2), giver(queue.handle()), taker(queue.handle()), in(64) {}
     std::size_t give(std::size_t most, std::uint32_t first) {
         if (most == 1) return giver.give(std::uint64_t(first)) == kfifo::Put::done;
         for (std::size_t i = 0; i < most; i++) in[i] = first + i;
