@@ -123,7 +123,10 @@ def measured():
     for part in MEASURED.read_text().split("\n### ")[1:]:
         title, *lines = part.splitlines()
         cells = [[cell.strip() for cell in line.strip("|").split("|")] for line in lines if line.startswith("| ")]
-        found[title] = {row[0]: float(row[1]) for row in cells[1:]}
+        head, *rows = cells
+        if "Million calls a second" in head:
+            rate = head.index("Million calls a second")
+            found[title] = {row[0]: float(row[rate]) for row in rows}
     return found
 
 
