@@ -2,10 +2,12 @@
 use Rattle.std.proofs.Common.{◌≡◌, Bool, false, true, Option, Some, ap, refl, subst}
 use Rattle.kfifo_live.specs.declared.payload.Taken.{Taken}
 use Rattle.kfifo_live.specs.declared.payload.Taken.TheVariants as K
+use Rattle.kfifo_live.specs.declared.payload.sealing.TakenOrSealed.{TakenOrSealed}
+use Rattle.kfifo_live.specs.declared.payload.sealing.TakenOrSealed.TheVariants as S
 use Rattle.kfifo_live.specs.declared.tokens.Put.{Put}
 use Rattle.kfifo_live.specs.Payloads.{TokenView}
 use Rattle.kfifo_live.specs.Tokens.{TokenHeld}
-use Rattle.kfifo_pool.specs.Cells.{Publishes, PutsCell, ReleasesCell, cells_of, with_reserved}
+use Rattle.kfifo_pool.specs.Cells.{Publishes, PutsCell, ReleasesCell, cells_of, cells_or_sealed, with_reserved}
 use Rattle.kfifo_pool.specs.Pooled.{CellsInHand, Pooled}
 
 module _ {T : Type 0} where
@@ -29,3 +31,18 @@ cells_busy (K.Got token) is = absurd cc
 cells_busy K.Empty is = absurd cc
 cells_busy K.Busy is = refl
 cells_busy K.Worn is = absurd cc
+
+-- and so is one that may seal; and it is Sealed where that is
+pub cells_or_sealed_busy : (taken : TakenOrSealed TokenView) → cells_or_sealed taken ≡ S.Busy → taken ≡ S.Busy
+cells_or_sealed_busy (S.Got token) is = absurd cc
+cells_or_sealed_busy S.Empty is = absurd cc
+cells_or_sealed_busy S.Sealed is = absurd cc
+cells_or_sealed_busy S.Busy is = refl
+cells_or_sealed_busy S.Worn is = absurd cc
+
+pub cells_or_sealed_sealed : (taken : TakenOrSealed TokenView) → cells_or_sealed taken ≡ S.Sealed → taken ≡ S.Sealed
+cells_or_sealed_sealed (S.Got token) is = absurd cc
+cells_or_sealed_sealed S.Empty is = absurd cc
+cells_or_sealed_sealed S.Sealed is = refl
+cells_or_sealed_sealed S.Busy is = absurd cc
+cells_or_sealed_sealed S.Worn is = absurd cc

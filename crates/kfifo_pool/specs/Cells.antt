@@ -6,13 +6,15 @@ use Rattle.kfifo_live.specs.declared.payload.Given.{Given}
 use Rattle.kfifo_live.specs.declared.payload.Given.TheVariants as G
 use Rattle.kfifo_live.specs.declared.payload.Taken.{Taken}
 use Rattle.kfifo_live.specs.declared.payload.Taken.TheVariants as K
+use Rattle.kfifo_live.specs.declared.payload.sealing.TakenOrSealed.{TakenOrSealed}
+use Rattle.kfifo_live.specs.declared.payload.sealing.TakenOrSealed.TheVariants as S
 use Rattle.kfifo_live.specs.declared.tokens.Put.{Put}
 use Rattle.kfifo_live.specs.declared.tokens.Put.TheVariants as P
 use Rattle.kfifo_live.specs.Calls.{IsDisturbed}
 use Rattle.kfifo_live.specs.Handles.{further}
 use Rattle.kfifo_live.specs.Pass.{IsSamePass, PassKeepsPromise}
 use Rattle.kfifo_live.specs.Payloads.{TokenView}
-use Rattle.kfifo_live.specs.Tokens.{Puts, TakesToken, TokenHeld}
+use Rattle.kfifo_live.specs.Tokens.{Puts, TakesToken, TakesTokenOrSeals, TokenHeld}
 use Rattle.kfifo_pool.specs.Pooled.{CellsInHand, KeepsOne, Pooled, TakesOne, pass_of}
 
 -- the cell of a token
@@ -35,6 +37,21 @@ token_taken (K.Got token) = Some token
 token_taken K.Empty = None
 token_taken K.Busy = None
 token_taken K.Worn = None
+
+-- and what a take says that may seal
+abbrev pub cells_or_sealed : TakenOrSealed TokenView → TakenOrSealed ℕ
+cells_or_sealed (S.Got token) = S.Got (cell_of token)
+cells_or_sealed S.Empty = S.Empty
+cells_or_sealed S.Sealed = S.Sealed
+cells_or_sealed S.Busy = S.Busy
+cells_or_sealed S.Worn = S.Worn
+
+abbrev pub token_or_sealed : TakenOrSealed TokenView → Option TokenView
+token_or_sealed (S.Got token) = Some token
+token_or_sealed S.Empty = None
+token_or_sealed S.Sealed = None
+token_or_sealed S.Busy = None
+token_or_sealed S.Worn = None
 
 -- the same cells, but for the one that is reserved, or the one that was received
 abbrev pub with_reserved : Option TokenView → CellsInHand → CellsInHand
@@ -108,3 +125,18 @@ module _ {T : Type 0} where
     pub between : Pooled T
     pub releases : ReleasesCell released old between
     pub takes : TakesCell answer between new
+
+  -- a take that may seal came to this answer
+  pub record TakesCellOrSeals (answer : TakenOrSealed ℕ) (old new : Pooled T) : Type 0 where
+    pub taken : TakenOrSealed TokenView
+    pub answer_is : answer ≡ cells_or_sealed taken
+    pub takes : TakesTokenOrSeals old.held.take_start MAX_TURNS taken old.held.pass new.held.pass
+    pub cells : new.cells ≡ with_received (token_or_sealed taken) old.cells
+    pub same_free : new.free ≡ old.free
+
+  -- what `receive_cell_or_seal` did
+  pub record ReceivesCellOrSeals (answer : TakenOrSealed ℕ) (old new : Pooled T) : Type 0 where
+    pub released : Bool
+    pub between : Pooled T
+    pub releases : ReleasesCell released old between
+    pub takes : TakesCellOrSeals answer between new

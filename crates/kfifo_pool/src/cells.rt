@@ -2,14 +2,15 @@
 ghost use Rattle.std.specs.Prelude.{◌≡◌, ◌↔◌, None, false, true};
 ghost use Rattle.kfifo_live.specs.Calls.{IsDisturbed};
 ghost use Rattle.kfifo_live.specs.Handles.{further};
-ghost use Rattle.kfifo_live.specs.Pass.{IsPassOf, IsSamePass, PassKeepsPromise};
-ghost use Rattle.kfifo_pool.specs.Cells.{CancelsCell, PublishesCell, ReceivesCell, ReleasesCell, ReservesCell};
-ghost use Rattle.kfifo_pool.specs.Cells.{cell_in, cells_of, token_taken, with_received, with_reserved};
+ghost use Rattle.kfifo_live.specs.Pass.{IsPassOf, IsSamePass, IsSealedEmpty, PassKeepsPromise};
+ghost use Rattle.kfifo_pool.specs.Cells.{CancelsCell, PublishesCell, ReceivesCell, ReceivesCellOrSeals, ReleasesCell};
+ghost use Rattle.kfifo_pool.specs.Cells.{ReservesCell, cell_in, cells_of, cells_or_sealed, token_or_sealed, token_taken};
+ghost use Rattle.kfifo_pool.specs.Cells.{with_received, with_reserved};
 ghost use Rattle.kfifo_pool.specs.Pooled.{CellsInHand, no_cells, pass_of};
 
 use crate::handle::PooledHandle;
 use crate::pool::PooledQueue;
-use kfifo_live::{Given, Put, Taken, Token};
+use kfifo_live::{Given, Put, Taken, TakenOrSealed, Token};
 use std::marker::Model;
 
 /// The cells that a handle has: one that it reserved, and one that it received.
@@ -90,6 +91,21 @@ fn of_taken<T: Drop>(taken: Taken<Token<T>>) -> (Taken<u32>, Option<Token<T>>)
         Taken::Empty => (Taken::Empty, None),
         Taken::Busy => (Taken::Busy, None),
         Taken::Worn => (Taken::Worn, None),
+    }
+}
+
+/// The same of a take that may seal.
+fn of_taken_or_sealed<T: Drop>(
+    taken: TakenOrSealed<Token<T>>,
+) -> (TakenOrSealed<u32>, Option<Token<T>>)
+    ensures { (result.0 ≡ cells_or_sealed taken) × (result.1 ≡ token_or_sealed taken) }
+{
+    match taken {
+        TakenOrSealed::Got(token) => (TakenOrSealed::Got(token.number() - 1), Some(token)),
+        TakenOrSealed::Empty => (TakenOrSealed::Empty, None),
+        TakenOrSealed::Sealed => (TakenOrSealed::Sealed, None),
+        TakenOrSealed::Busy => (TakenOrSealed::Busy, None),
+        TakenOrSealed::Worn => (TakenOrSealed::Worn, None),
     }
 }
 
@@ -224,6 +240,28 @@ impl<T: Drop> PooledHandle<T> {
     {
         self.release_cell(queue);
         let (taken, token) = of_taken(self.handle.take(&queue.queue));
+        self.cells.keep_received(token);
+        taken
+    }
+
+    /// Takes one of the k oldest cells out of a bare queue, as `receive_cell` does, or seals the queue where it is empty,
+    /// as `TokenHandle::take_or_seal` does.
+    ///
+    /// Returns Got with the cell's number, Empty, Sealed, Worn or Busy. Busy comes only where another thread won an
+    /// exchange during the call. It never waits or locks.
+    pub fn receive_cell_or_seal(&mut self, queue: &PooledQueue<T>) -> TakenOrSealed<u32>
+        requires of { IsPassOf queue.now (pass_of self.old.held) }
+        requires bare { queue.now.opened.bare ≡ true }
+        ensures same { IsSamePass (pass_of self.old.held) (pass_of self.new.held) }
+        ensures receives { ReceivesCellOrSeals result self.old self.new }
+        ensures sealed { result ≡ TakenOrSealed.Sealed → IsSealedEmpty (pass_of self.new.held) }
+        ensures busy { result ≡ TakenOrSealed.Busy → IsDisturbed (pass_of self.old.held) (pass_of self.new.held) }
+        ensures starts { (self.new.held.take_start ≡ further (pass_of self.old.held) self.old.held.take_start)
+            × (self.new.held.put_start ≡ self.old.held.put_start) }
+        ensures promise { PassKeepsPromise (pass_of self.new.held) }
+    {
+        let _ = self.release_cell(queue);
+        let (taken, token) = of_taken_or_sealed(self.handle.take_or_seal(&queue.queue));
         self.cells.keep_received(token);
         taken
     }

@@ -2,7 +2,7 @@
 ghost use Rattle.std.specs.Prelude.{◌≡◌, true};
 ghost use Rattle.kfifo_live.specs.Pass.{IsPassOf, IsSamePass};
 
-use kfifo_live::{Given, Sizes, Taken};
+use kfifo_live::{Given, Sizes, Taken, TakenOrSealed};
 use kfifo_pool::{PooledHandle, PooledQueue};
 use kfifo_words::MAX_VERSION;
 use std::alloc::Global;
@@ -72,6 +72,27 @@ impl Two {
         self.taker.receive_cell(&self.queue)
     }
 
+    /// Whether a take that may seal gets this cell.
+    fn gets(&mut self, cell: u32) -> bool {
+        match self.taker.receive_cell_or_seal(&self.queue) {
+            TakenOrSealed::Got(got) => got == cell,
+            _ => false,
+        }
+    }
+
+    /// Whether such a take finds the queue empty, and seals it.
+    fn is_sealed(&mut self) -> bool {
+        matches!(
+            self.taker.receive_cell_or_seal(&self.queue),
+            TakenOrSealed::Sealed
+        )
+    }
+
+    /// Whether the queue refuses a cell as worn, which stays reserved.
+    fn refuses(&mut self) -> bool {
+        self.reserve().is_some() && matches!(self.publish(), Given::Worn(())) && self.cancel()
+    }
+
     fn release(&mut self) -> bool {
         self.taker.release_cell(&self.queue)
     }
@@ -96,6 +117,29 @@ fn cells_come_in_order(rt: HostRuntime) -> Result<(), Fail> {
         assert!(rt; two.receive() == Taken::Got(cell));
     }
     assert!(rt; two.receive() == Taken::Empty);
+    Ok(())
+}
+
+/// A sealed queue refuses a publish, which leaves its cell reserved.
+#[test]
+fn a_sealed_queue_refuses_a_cell(rt: HostRuntime) -> Result<(), Fail> {
+    let mut two = Two::open(rt.alloc(), 8)?;
+    assert!(rt; two.is_sealed());
+    assert!(rt; two.refuses());
+    assert!(rt; two.is_sealed());
+    Ok(())
+}
+
+/// A take that may seal gets a cell as long as there is one.
+#[test]
+fn a_take_that_may_seal_gets_a_cell(rt: HostRuntime) -> Result<(), Fail> {
+    let mut two = Two::open(rt.alloc(), 8)?;
+    let cell = two.reserve().unwrap_or(MANY);
+    assert!(rt; matches!(two.publish(), Given::Done));
+    assert!(rt; two.gets(cell));
+    // This take moves the head, so no seal follows it.
+    assert!(rt; !two.is_sealed());
+    assert!(rt; two.is_sealed());
     Ok(())
 }
 
