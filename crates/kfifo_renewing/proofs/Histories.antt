@@ -8,7 +8,7 @@ use Rattle.atomic_table.specs.Seated.{TableId}
 use mathlib.Core.List.{IsPrefix}
 use Rattle.kfifo_renewing.specs.declared.change.Change.{Change}
 use Rattle.kfifo_renewing.specs.declared.change.Change.TheVariants as C
-use Rattle.kfifo_renewing.specs.History.{HasLeft, HasRisen, IsMade, WasNewest, made, making_of, newest_after, newest_of}
+use Rattle.kfifo_renewing.specs.History.{HasLeft, HasRisen, IsGone, IsMade, WasNewest, made, making_of, newest_after, newest_of}
 
 pub prefix-trans : {A : Type 0} (xs ys zs : List A) → IsPrefix xs ys → IsPrefix ys zs → IsPrefix xs zs
 prefix-trans xs ys zs p q = (p.0 ++ q.0, sym (append_assoc xs p.0 q.0) ∙ (ap (λ w. w ++ q.0) p.1 ∙ q.1))
@@ -42,7 +42,7 @@ made-append (C.Made q ∷ xs) ys = ap (λ l. q.table ∷ l) (made-append xs ys)
 made-append (C.Newest n ∷ xs) ys = made-append xs ys
 made-append (C.Look t ∷ xs) ys = made-append xs ys
 made-append (C.Placed n i ∷ xs) ys = made-append xs ys
-made-append (C.Gone n ∷ xs) ys = made-append xs ys
+made-append (C.Gone s ∷ xs) ys = made-append xs ys
 made-append (C.Undone n ∷ xs) ys = made-append xs ys
 
 pub newest-append : (n : ℕ) (xs ys : List Change) → newest_after n (xs ++ ys) ≡ newest_after (newest_after n xs) ys
@@ -51,7 +51,7 @@ newest-append n (C.Made q ∷ xs) ys = newest-append n xs ys
 newest-append n (C.Newest m ∷ xs) ys = newest-append m xs ys
 newest-append n (C.Look t ∷ xs) ys = newest-append n xs ys
 newest-append n (C.Placed m i ∷ xs) ys = newest-append n xs ys
-newest-append n (C.Gone m ∷ xs) ys = newest-append n xs ys
+newest-append n (C.Gone s ∷ xs) ys = newest-append n xs ys
 newest-append n (C.Undone m ∷ xs) ys = newest-append n xs ys
 
 -- what was made stays so
@@ -161,6 +161,15 @@ contains-one e x (suc k, inside, is) = absurd (omega (arith, inside))
 pub contains-more : {A : Type 0} (xs : List A) (e x : A) → Contains (xs ++ e ∷ []) x → Contains xs x ⊎ (x ≡ e)
 contains-more xs e x has = ⊎_elim inl (λ last. inr (contains-one e x last)) (Contains-append_cases xs (e ∷ []) x has)
 
+pub gone-later : (xs ys : List Change) (n : ℕ) → IsPrefix xs ys → IsGone xs n → IsGone ys n
+gone-later xs ys n p gone = record {
+  sealed = gone.sealed;
+  told = contains-later xs ys (C.Gone gone.sealed) p gone.told;
+  number = gone.number;
+  made = made-later xs ys n gone.sealed.queue.table p gone.made;
+  empty = gone.empty;
+}
+
 pub left-later : (xs ys : List Change) (n : ℕ) → IsPrefix xs ys → HasLeft xs n → HasLeft ys n
-left-later xs ys n p (inl gone) = inl (contains-later xs ys (C.Gone n) p gone)
+left-later xs ys n p (inl gone) = inl (gone-later xs ys n p gone)
 left-later xs ys n p (inr undone) = inr (contains-later xs ys (C.Undone n) p undone)

@@ -19,7 +19,7 @@ use Rattle.kfifo_renewing.specs.declared.change.Change.TheVariants as C
 use Rattle.kfifo_renewing.specs.History.{FindsThere, HasLeft, HasRisen, IsGone, IsKept, IsMade, IsPlaced, WasNewest, place_count}
 use Rattle.kfifo_renewing.specs.Joining.{AreAmong, AreSameParts, HasJoined, HasNumber, HasOlder, IsPart, IsSamePart, PartView, held_by, held_in}
 use Rattle.kfifo_renewing.specs.Renewing.{Generations, HasAll, HeldIn, IsOpenedAs, LeavesGone, Numbered}
-use Rattle.kfifo_renewing.proofs.Histories.{contains-later, left-later, made-later, was-below, was-later, was_first}
+use Rattle.kfifo_renewing.proofs.Histories.{contains-later, gone-later, left-later, made-later, was-below, was-later, was_first}
 use Rattle.kfifo_renewing.proofs.Keeping.{kept-gone, kept-placed}
 use Rattle.kfifo_renewing.proofs.Departures.{leaves-refl}
 use Rattle.kfifo_renewing.proofs.Parts.{all-next, all-without}
@@ -80,7 +80,7 @@ module _ {T : Type 0} where
   pub older-later : (xs ys : List Change) (ps : List (PartView T)) (number : ℕ) → IsPrefix xs ys → HasRisen ys → WasNewest xs number
       → HasOlder xs ps number → HasOlder ys ps number
   older-later xs ys ps number more risen newest older n was below = ⊎_elim
-      (λ gone. inl (contains-later xs ys (C.Gone n) more gone))
+      (λ gone. inl (gone-later xs ys n more gone))
       (λ has. inr has)
       (older n (was-below xs ys n number more risen newest below was) below)
 
@@ -252,7 +252,7 @@ module _ {T : Type 0} where
             let before = was-below xs ys n next.number more risen was low newest in
             ⊎_elim
             (λ less. ⊎_elim
-            (λ gone. inl (contains-later xs ys (C.Gone n) more gone))
+            (λ gone. inl (gone-later xs ys n more gone))
             (λ has. inr (number-in ps qs n (λ p c. subst (λ l. Contains l p) (sym is)
             (Contains-append_left (ps ++ h ∷ []) between p (Contains-append_left ps (h ∷ []) p c))) has))
             (j.all n before less))
@@ -396,6 +396,6 @@ module _ {T : Type 0} where
   pub others-gone : (xs ys : List Change) (ps : List (PartView T)) (number n : ℕ) → IsPrefix xs ys → HasRisen ys → WasNewest xs number
       → HasOlder xs ps number → n < number → (HasNumber ps n → ⊥) → WasNewest ys n → IsGone ys n
   others-gone xs ys ps number n more risen newest older below not was = ⊎_elim
-      (λ gone. contains-later xs ys (C.Gone n) more gone)
+      (λ gone. gone-later xs ys n more gone)
       (λ has. absurd (not has))
       (older n (was-below xs ys n number more risen newest below was) below)

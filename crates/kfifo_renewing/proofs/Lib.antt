@@ -1,6 +1,8 @@
 pub mod Shapes
 pub mod Histories
 pub mod Keeping
+pub mod Emptying
+pub mod Making
 pub mod Parts
 pub mod Joining
 pub mod Following

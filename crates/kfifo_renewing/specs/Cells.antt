@@ -10,7 +10,7 @@ use Rattle.kfifo_pool.specs.Pooled.{Pooled, passes_in}
 use Rattle.kfifo_renewing.specs.declared.cells.CellCall.{CellCall}
 use Rattle.kfifo_renewing.specs.declared.cells.CellCall.TheVariants as C
 use Rattle.kfifo_renewing.specs.declared.memory.CellAt.{CellAt}
-use Rattle.kfifo_renewing.specs.Memory.{ReceivesAt, cells_in}
+use Rattle.kfifo_renewing.specs.Memory.{ReceivesAt, ReceivesAtOrSeals, cells_in}
 use Rattle.kfifo_renewing.specs.Renewing.{Follows, Generations, HeldIn, IsAtNewest, IsBehind, TakesBy, other_threads}
 use Rattle.kfifo_renewing.specs.Renewing.{with_newest}
 
@@ -79,7 +79,7 @@ module _ {T : Type 0} where
   -- What `receive` did: it released the cell that was received before, if one was, and took one
   abbrev pub ReceivesOldest : Taken CellAt → Generations T → Generations T → Type 0
   ReceivesOldest answer old new = (released : Given (Unit {0})) × (mid : Generations T)
-      × CallsOnce C.Release released old mid × TakesBy ReceivesAt answer mid new
+      × CallsOnce C.Release released old mid × TakesBy ReceivesAt ReceivesAtOrSeals answer mid new
 
   -- What a close of a generation of cells returned: by this handle, and the handles of all other threads
   pub record CellsWereLeft (h : Pooled T) (cells : List ℕ) : Type 0 where

@@ -7,8 +7,10 @@ use Rattle.atomic_table.specs.Seated.{TableId}
 use mathlib.Core.List.{IsPrefix}
 use Rattle.logbook.specs.Pages.{Book, Cell, Named, Step, View, cell, may_make, nib}
 use Rattle.kfifo_renewing.specs.declared.change.Change.{Change}
+use Rattle.kfifo_linear.specs.Seals.{SealedEmpty}
 use Rattle.kfifo_live.specs.Pass.{PassView}
 use Rattle.kfifo_renewing.specs.declared.change.Made.{Made}
+use Rattle.kfifo_renewing.specs.declared.change.Sealed.{Sealed}
 use Rattle.kfifo_renewing.specs.declared.change.Sight.{Sight}
 use Rattle.kfifo_renewing.specs.declared.change.Change.TheVariants as C
 
@@ -23,7 +25,7 @@ made (C.Made q ∷ log) = q.table ∷ made log
 made (C.Newest n ∷ log) = made log
 made (C.Look sight ∷ log) = made log
 made (C.Placed n i ∷ log) = made log
-made (C.Gone n ∷ log) = made log
+made (C.Gone sealed ∷ log) = made log
 made (C.Undone n ∷ log) = made log
 
 -- the number of the newest generation, if that of before is this
@@ -33,7 +35,7 @@ newest_after n (C.Made q ∷ log) = newest_after n log
 newest_after n (C.Newest m ∷ log) = newest_after m log
 newest_after n (C.Look sight ∷ log) = newest_after n log
 newest_after n (C.Placed m i ∷ log) = newest_after n log
-newest_after n (C.Gone m ∷ log) = newest_after n log
+newest_after n (C.Gone sealed ∷ log) = newest_after n log
 newest_after n (C.Undone m ∷ log) = newest_after n log
 
 -- the number of the newest generation: at first that of the first one
@@ -57,11 +59,16 @@ HasRisen log = (before more after : List Change) → log ≡ (before ++ more) ++
 abbrev pub IsPlaced : List Change → ℕ → ℕ → Type 0
 IsPlaced log n place = Contains log (C.Placed n place)
 
--- the generation with this number, which had been the newest, went from its place
-abbrev pub IsGone : List Change → ℕ → Type 0
-IsGone log n = Contains log (C.Gone n)
+-- The generation with this number, which had been the newest, went from its place: after what a pass of it had seen, it
+-- was sealed empty, so that nothing is left in it wherever all its calls have ended (`StaysEmpty`)
+pub record IsGone (log : List Change) (n : ℕ) : Type 0 where
+  pub sealed : Sealed
+  pub told : Contains log (C.Gone sealed)
+  pub number : sealed.number ≡ n
+  pub made : IsMade log n sealed.queue.table
+  pub empty : SealedEmpty sealed.shape sealed.threads sealed.seen
 
--- the generation with this number, which will never be the newest, went from its place
+-- The generation with this number went from its place: it will never be the newest, or has gone
 abbrev pub IsUndone : List Change → ℕ → Type 0
 IsUndone log n = Contains log (C.Undone n)
 
@@ -86,6 +93,10 @@ pub record TellsPlace (log : List Change) (place word : ℕ) : Type 0 where
   pub stays : (n : ℕ) → IsPlaced log n place → (word ≡ suc n) ⊎ HasLeft log n
   pub small : word ≤ 2 ^ 32
 
+-- the generation with this number can become the newest no more: a later one is, or the pen of its word was used up
+abbrev pub WillNotBeNewest : List Change → ℕ → List Cell → ℕ → Type 0
+WillNotBeNewest log greatest nexts n = (n < newest_of log) ⊎ ((n ≤ greatest) × ((cell nexts n).1 ≡ true))
+
 -- What holds of the words and of the history at each moment: of the greatest number of a generation that was made, of
 -- the words of the places, and of the words of the generations
 pub record Holds (log : List Change) (greatest : ℕ) (labels nexts : List Cell) : Type 0 where
@@ -97,8 +108,8 @@ pub record Holds (log : List Change) (greatest : ℕ) (labels nexts : List Cell)
   pub told : (n : ℕ) → WasNewest log n → ((cell nexts n).1 ≡ true) × TellsNext log n (cell nexts n).0
   pub placed : (n : ℕ) → 0 < n → WasNewest log n → (i : ℕ) × (i < place_count) × IsPlaced log n i
   pub labelled : (i : ℕ) → i < place_count → ((cell labels i).1 ≡ true) × TellsPlace log i (cell labels i).0
-  pub gone : (n : ℕ) → IsGone log n → n < newest_of log
-  pub undone : (n : ℕ) → IsUndone log n → (n ≤ greatest) × ((cell nexts n).1 ≡ true) × (WasNewest log n → ⊥)
+  pub gone : (sealed : Sealed) → Contains log (C.Gone sealed) → sealed.number < newest_of log
+  pub undone : (n : ℕ) → IsUndone log n → WillNotBeNewest log greatest nexts n × (WasNewest log n → IsGone log n)
 
 -- The words of a book in their order: the greatest number, the words of the places, and those of the generations
 pub record IsKept (cells : List Cell) (log : List Change) : Type 0 where
@@ -139,6 +150,16 @@ AreLabels book labels = (length labels ≡ place_count)
 -- what a look by a pass tells of that
 abbrev pub sight_of : PassView → Sight
 sight_of p = record { thread = p.thread; seen = p.seen }
+
+-- what the entry says of a generation with this number that was sealed, as this pass of it saw
+abbrev pub sealed_by : ℕ → PassView → Sealed
+sealed_by n p = record {
+  number = n;
+  queue = record { table = p.table };
+  shape = p.opened.shape;
+  threads = p.opened.threads;
+  seen = p.seen;
+}
 
 -- at a look by a pass that had seen this, between these two beginnings of the history, the newest generation had this
 -- number

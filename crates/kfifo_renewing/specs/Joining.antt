@@ -3,10 +3,10 @@ use Rattle.std.specs.Prelude.{◌≡◌, ◌⊎◌, ◌<◌, ℕ, List, [], ◌�
 use Rattle.std.specs.List.{Contains}
 use Rattle.logbook.specs.Pages.{Book}
 use Rattle.kfifo_pool.specs.Pooled.{Pooled, no_cells}
-use Rattle.kfifo_live.specs.Pass.{IsPassOf, IsSamePass}
+use Rattle.kfifo_live.specs.Pass.{IsPassOf, IsSamePass, IsSealedEmpty}
 use Rattle.kfifo_live.specs.declared.view.Opening.{Opening}
 use Rattle.kfifo_renewing.specs.History.{HasLeft, HasRisen, IsGone, IsMade, IsPlaced, WasNewest, place_count}
-use Rattle.kfifo_renewing.specs.Renewing.{FindsEmpty, HeldIn, IsFresh, IsOpenedAs, Numbered}
+use Rattle.kfifo_renewing.specs.Renewing.{HeldIn, IsFresh, IsOpenedAs, Numbered}
 use Rattle.kfifo_renewing.specs.declared.change.Change.{Change}
 
 -- a part in a generation: the handle there, and the number and the place of the generation
@@ -31,9 +31,9 @@ module _ {T : Type 0} where
   abbrev pub HasNoCell : PartView T → Type 0
   HasNoCell p = p.handle.cells ≡ no_cells
 
-  -- the last call of the handle of a part was a take that found its generation empty
-  abbrev pub EndedEmpty : PartView T → Type 0
-  EndedEmpty p = (before : Pooled T) × FindsEmpty before p.handle
+  -- the pass of a part has seen its generation sealed empty
+  abbrev pub IsSealedPart : PartView T → Type 0
+  IsSealedPart p = IsSealedEmpty p.handle.held.pass.pass
 
   -- a part in the same generation, with the same pass
   abbrev pub IsSamePart : PartView T → PartView T → Type 0

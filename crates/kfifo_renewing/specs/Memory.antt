@@ -2,7 +2,9 @@
 use Rattle.std.specs.Prelude.{◌-◌, ℕ, List, map, Option, Some, None}
 use Rattle.kfifo_live.specs.declared.payload.Taken.{Taken}
 use Rattle.kfifo_live.specs.declared.payload.Taken.TheVariants as K
-use Rattle.kfifo_pool.specs.Cells.{ReceivesCell}
+use Rattle.kfifo_live.specs.declared.payload.sealing.TakenOrSealed.{TakenOrSealed}
+use Rattle.kfifo_live.specs.declared.payload.sealing.TakenOrSealed.TheVariants as S
+use Rattle.kfifo_pool.specs.Cells.{ReceivesCell, ReceivesCellOrSeals}
 use Rattle.kfifo_pool.specs.Pooled.{Pooled}
 use Rattle.kfifo_renewing.specs.declared.memory.CellAt.{CellAt}
 
@@ -16,6 +18,17 @@ cell_taken K.Worn = K.Worn
 -- what a take did in one generation of cells
 abbrev pub ReceivesAt : {T : Type 0} → Taken CellAt → Pooled T → Pooled T → Type 0
 ReceivesAt taken = ReceivesCell (cell_taken taken)
+
+-- and of a take that may seal the generation
+abbrev pub cell_or_sealed : TakenOrSealed CellAt → TakenOrSealed ℕ
+cell_or_sealed (S.Got at) = S.Got at.index
+cell_or_sealed S.Empty = S.Empty
+cell_or_sealed S.Sealed = S.Sealed
+cell_or_sealed S.Busy = S.Busy
+cell_or_sealed S.Worn = S.Worn
+
+abbrev pub ReceivesAtOrSeals : {T : Type 0} → TakenOrSealed CellAt → Pooled T → Pooled T → Type 0
+ReceivesAtOrSeals taken = ReceivesCellOrSeals (cell_or_sealed taken)
 
 -- the number of the cell that was reserved
 abbrev pub cell_reserved : Option CellAt → Option ℕ

@@ -10,22 +10,22 @@ use Rattle.kfifo_live.specs.declared.payload.Given.{Given}
 use Rattle.kfifo_live.specs.declared.payload.Given.TheVariants as G
 use Rattle.kfifo_live.specs.declared.payload.Taken.{Taken}
 use Rattle.kfifo_live.specs.declared.payload.Taken.TheVariants as K
-use Rattle.kfifo_model.specs.declared.calls.Answer.TheVariants as A
+use Rattle.kfifo_live.specs.declared.payload.sealing.TakenOrSealed.{TakenOrSealed}
+use Rattle.kfifo_live.specs.declared.payload.sealing.TakenOrSealed.TheVariants as S
 use Rattle.kfifo_model.specs.declared.calls.TheConstants.{MAX_THREADS}
 use Rattle.kfifo_live.specs.Calls.{IsDisturbed}
 use Rattle.kfifo_live.specs.Capacities.{HasRoom, segments_for, sizes_fault, tokens_for}
 use Rattle.kfifo_live.specs.Handles.{further}
-use Rattle.kfifo_live.specs.Pass.{HasNoEvent, IsPassOf, IsSamePass, OpenQueue, PassKeepsPromise}
+use Rattle.kfifo_live.specs.Pass.{HasNoEvent, IsPassOf, IsSamePass, IsSealedEmpty, OpenQueue, PassKeepsPromise}
 use Rattle.kfifo_live.specs.Payloads.{PayCloses}
 use Rattle.kfifo_live.specs.Refusals.{IsOutOf}
 use Rattle.kfifo_live.specs.Schedule.{count_up}
-use Rattle.kfifo_live.specs.Tokens.{Dequeues, token_opening}
-use Rattle.kfifo_live.specs.declared.handle.TheConstants.{MAX_TURNS}
+use Rattle.kfifo_live.specs.Tokens.{token_opening}
 use Rattle.kfifo_live.specs.declared.payload.opening.TheConstants.{MOST_TOKENS}
 use Rattle.kfifo_live.specs.declared.tokens.sizes.Sizes.{Sizes}
 use Rattle.kfifo_live.specs.declared.tokens.sizes.SizesFault.{SizesFault}
 use Rattle.kfifo_live.specs.declared.view.Opening.{Opening}
-use Rattle.kfifo_pool.specs.Pooled.{GivesOne, Pooled, ReceivesOne, new_handle, no_cells}
+use Rattle.kfifo_pool.specs.Pooled.{GivesOne, Pooled, ReceivesOne, ReceivesOneOrSeals, new_handle, no_cells}
 use Rattle.kfifo_renewing.specs.History.{HasLeft, IsGone, IsMade, NewestWas, WasNewest, newest_of, place_count}
 use Rattle.kfifo_renewing.specs.History.{sight_of}
 use Rattle.kfifo_renewing.specs.declared.change.Change.{Change}
@@ -327,21 +327,52 @@ module _ {T : Type 0} where
   GivesToNewest payload answer old new = (first : Given T) × (here : Generations T)
       × TriesToGive payload first old here × GoesOn first answer here new
 
-  -- a take found the generation of this handle empty
-  abbrev pub FindsEmpty : Pooled T → Pooled T → Type 0
-  FindsEmpty old new = IsSamePass old.held.pass.pass new.held.pass.pass
-      × Dequeues old.held.take_start MAX_TURNS A.Empty old.held.pass new.held.pass
+module _ {G : Type 0} where
+  -- what is to be returned of a take that may seal an older generation: nothing where it found that empty
+  abbrev pub got_or_sealed_of : TakenOrSealed G → Option (Taken G)
+  got_or_sealed_of (S.Got got) = Some (K.Got got)
+  got_or_sealed_of S.Empty = None
+  got_or_sealed_of S.Sealed = None
+  got_or_sealed_of S.Busy = Some K.Busy
+  got_or_sealed_of S.Worn = Some K.Worn
 
--- In what follows `takes` is what a take did in one generation, by what it returned
+-- what a take did to the starts of a handle: the next one begins one slot further
+abbrev pub MovesTakeStart : {T : Type 0} → Pooled T → Pooled T → Type 0
+MovesTakeStart old new = (new.held.take_start ≡ further old.held.pass.pass old.held.take_start)
+    × (new.held.put_start ≡ old.held.put_start)
+
+-- In what follows `takes` is what a take did in one generation, by what it returned, and `seals` what one did that may
+-- seal it
+module _ {T G : Type 0} (seals : TakenOrSealed G → Pooled T → Pooled T → Type 0) where
+  -- one take from a generation that may seal it. Sealed: it has seen that sealed empty
+  pub record SealsThere (answer : TakenOrSealed G) (old new : Pooled T) : Type 0 where
+    pub same : IsSamePass old.held.pass.pass new.held.pass.pass
+    pub did : seals answer old new
+    pub sealed : answer ≡ S.Sealed → IsSealedEmpty new.held.pass.pass
+    pub busy : answer ≡ S.Busy → IsDisturbed old.held.pass.pass new.held.pass.pass
+    pub starts : MovesTakeStart old new
+    pub promise : PassKeepsPromise new.held.pass.pass
+
+  -- nothing is done, or such a take comes to this
+  abbrev pub MaySeal : Option (Taken G) → Pooled T → Pooled T → Type 0
+  MaySeal got old new = ((got ≡ None) × (new ≡ old))
+      ⊎ ((taken : TakenOrSealed G) × (got ≡ got_or_sealed_of taken) × SealsThere taken old new)
+
 module _ {T G : Type 0} (takes : Taken G → Pooled T → Pooled T → Type 0) where
   -- one take from a generation, whose promise is then kept
   pub record TakesThere (answer : Taken G) (old new : Pooled T) : Type 0 where
     pub same : IsSamePass old.held.pass.pass new.held.pass.pass
     pub did : takes answer old new
     pub busy : answer ≡ K.Busy → IsDisturbed old.held.pass.pass new.held.pass.pass
-    pub starts : (new.held.take_start ≡ further old.held.pass.pass old.held.take_start)
-        × (new.held.put_start ≡ old.held.put_start)
+    pub starts : MovesTakeStart old new
     pub promise : PassKeepsPromise new.held.pass.pass
+
+module _ {T G : Type 0} (takes : Taken G → Pooled T → Pooled T → Type 0)
+    (seals : TakenOrSealed G → Pooled T → Pooled T → Type 0) where
+  -- what a take from an older generation came to: where it found that empty, a second one may seal it
+  abbrev pub TakesOlder : Option (Taken G) → Pooled T → Pooled T → Type 0
+  TakesOlder got old new = ((taken : Taken G) × (taken ≢ K.Empty) × (got ≡ Some taken) × TakesThere takes taken old new)
+      ⊎ ((mid : Pooled T) × TakesThere takes K.Empty old mid × MaySeal seals got mid new)
 
   -- The takes from these generations, one after the other, up to the first that is not found empty, and what that one
   -- returned. The others stay as they are. None: each was found empty
@@ -349,9 +380,8 @@ module _ {T G : Type 0} (takes : Taken G → Pooled T → Pooled T → Type 0) w
   TakesFirst answer [] new = (answer ≡ None) × (new ≡ [])
   TakesFirst answer (h ∷ hs) new = (after : HeldIn T) × (afters : List (HeldIn T)) × (new ≡ after ∷ afters)
       × (after.number ≡ h.number)
-      × ((TakesThere K.Empty h.handle after.handle × TakesFirst answer hs afters)
-      ⊎ ((taken : Taken G) × (answer ≡ Some taken) × (taken ≢ K.Empty) × TakesThere taken h.handle after.handle
-      × (afters ≡ hs)))
+      × ((TakesOlder None h.handle after.handle × TakesFirst answer hs afters)
+      ⊎ ((answer ≢ None) × TakesOlder answer h.handle after.handle × (afters ≡ hs)))
 
 module _ {T G : Type 0} where
   -- What is returned of a take, after which the handle is `new`. Empty: at a look after it, by a pass that had seen it,
@@ -367,6 +397,8 @@ module _ {T G : Type 0} (takes : Taken G → Pooled T → Pooled T → Type 0) w
     pub did : TakesThere takes taken old.newest new.newest
     pub then : LooksAgain taken answer old new
 
+module _ {T G : Type 0} (takes : Taken G → Pooled T → Pooled T → Type 0)
+    (seals : TakenOrSealed G → Pooled T → Pooled T → Type 0) where
   -- A take from the oldest generation that has something: from the newest where each older one was found empty. The
   -- handle then leaves some that have left their places
   pub record TakesOldest (answer : Taken G) (old new : Generations T) : Type 0 where
@@ -374,11 +406,11 @@ module _ {T G : Type 0} (takes : Taken G → Pooled T → Pooled T → Type 0) w
     pub number : new.number ≡ old.number
     pub found : Option (Taken G)
     pub looked : List (HeldIn T)
-    pub older : TakesFirst takes found old.older looked
+    pub older : TakesFirst takes seals found old.older looked
     pub left : LeavesGone new.seen looked new.older
     pub newest : ((found ≡ Some answer) × (new.newest ≡ old.newest))
         ⊎ ((found ≡ None)
-        × ((mid : Generations T) × IsLater old mid × (mid.newest ≡ old.newest) × TakesNewest answer mid new))
+        × ((mid : Generations T) × IsLater old mid × (mid.newest ≡ old.newest) × TakesNewest takes answer mid new))
 
   -- What a take did: the handle follows others to the generation that was the newest of the queue at a look, so it is
   -- in each that has not gone, and takes. Busy: it has taken from none, and at a look another one than its newest was
@@ -391,7 +423,7 @@ module _ {T G : Type 0} (takes : Taken G → Pooled T → Pooled T → Type 0) w
 module _ {T : Type 0} where
   -- what `take` did
   abbrev pub TakesFromOldest : Taken T → Generations T → Generations T → Type 0
-  TakesFromOldest = TakesBy ReceivesOne
+  TakesFromOldest = TakesBy ReceivesOne ReceivesOneOrSeals
 
   -- What a close of a generation returned: by this handle, and the handles of all other threads
   pub record WereLeft (h : Pooled T) (payloads : List T) : Type 0 where

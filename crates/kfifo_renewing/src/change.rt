@@ -3,6 +3,7 @@ ghost use Rattle.atomic_table.specs.Seated.{TableId, table_id_coded};
 ghost use base.Fml.{ftrue};
 
 use kfifo_machine::Event;
+use kfifo_words::Shape;
 use std::collections::LinkedList;
 use std::marker::Model;
 
@@ -23,6 +24,20 @@ pub struct Sight {
     pub seen: LinkedList<Event>,
 }
 
+/// A generation that a pass found empty and sealed.
+pub struct Sealed {
+    /// The number of the generation.
+    pub number: u32,
+    /// Its queue.
+    pub queue: Made,
+    /// The sizes of its ring.
+    pub shape: Shape,
+    /// How many threads its queue has.
+    pub threads: u32,
+    /// The beginning of its schedule that the pass had then seen.
+    pub seen: LinkedList<Event>,
+}
+
 /// An entry of the history of a queue's generations.
 pub enum Change {
     /// A generation was made.
@@ -33,8 +48,8 @@ pub enum Change {
     Look(Sight),
     /// The generation with this number was put into this place.
     Placed(u32, u32),
-    /// The generation with this number went from its place: a handle had found it empty, and it was the newest no more.
-    Gone(u32),
-    /// The generation with this number went from its place, and will never be the newest.
+    /// This generation went from its place, as it was the newest no more.
+    Gone(Sealed),
+    /// The generation with this number went from its place: it was never the newest and will never be, or has gone.
     Undone(u32),
 }

@@ -1,5 +1,6 @@
 //! The handle of a queue that does not wear out: how it follows others, and how it takes.
-ghost use Rattle.std.specs.Prelude.{◌≡◌, ◌<◌, ◌≤◌, ◌+◌, ◌*◌, ◌↔◌, true, List, [], All, IfOk, IfSome, MatchBool, length};
+ghost use Rattle.std.specs.Prelude.{◌≡◌, ◌<◌, ◌≤◌, ◌+◌, ◌*◌, ◌↔◌, true, List, [], All, IfOk, IfSome, MatchBool};
+ghost use Rattle.std.specs.Prelude.{MatchOption, length};
 ghost use Rattle.std.specs.Ptr.{as_ptr};
 ghost use mathlib.Core.List.{IsPrefix};
 ghost use Rattle.kfifo_live.specs.Pass.{IsPassOf};
@@ -323,7 +324,7 @@ impl<T: Drop, K: Kind<T>> RenewingHandle<T, K> {
         self.shared.numbers().newest(&mut self.history)
     }
 
-    /// Leaves those of the older generations that have gone: nobody gives to them any more, and they were found empty.
+    /// Leaves those of the older generations that have gone: they are sealed empty.
     fn leave_gone(&mut self)
         ensures same { self.new ≡ with_older (with_seen self.old self.new.seen) self.new.older }
         ensures later { IsLater self.old self.new }
@@ -473,7 +474,7 @@ impl<T: Drop, K: Kind<T>> RenewingHandle<T, K> {
     fn take_older(&mut self) -> Option<Taken<K::Got>>
         ensures same { self.new ≡ with_older (with_seen self.old self.new.seen) self.new.older }
         ensures later { IsLater self.old self.new }
-        ensures takes { (looked : List (HeldIn T)) × TakesFirst K.takes result self.old.older looked
+        ensures takes { (looked : List (HeldIn T)) × TakesFirst K.takes K.seals result self.old.older looked
             × LeavesGone self.new.seen looked self.new.older }
     {
         let mut found_empty = false;
@@ -491,7 +492,7 @@ impl<T: Drop, K: Kind<T>> RenewingHandle<T, K> {
     fn take_first(&mut self, found_empty: &mut bool) -> Option<Taken<K::Got>>
         ensures same { self.new ≡ with_older (with_seen self.old self.new.seen) self.new.older }
         ensures later { IsLater self.old self.new }
-        ensures takes { TakesFirst K.takes result self.old.older self.new.older }
+        ensures takes { TakesFirst K.takes K.seals result self.old.older self.new.older }
     {
         let places = self.shared.places();
         self.older
@@ -528,7 +529,7 @@ impl<T: Drop, K: Kind<T>> RenewingHandle<T, K> {
 
     /// Takes from the oldest generation that is not empty.
     fn take_oldest(&mut self) -> Taken<K::Got>
-        ensures { TakesOldest K.takes result self.old self.new }
+        ensures { TakesOldest K.takes K.seals result self.old self.new }
     {
         match self.take_older() {
             Some(taken) => taken,
@@ -540,7 +541,7 @@ impl<T: Drop, K: Kind<T>> RenewingHandle<T, K> {
     #[cold]
     #[inline(never)]
     fn take_late(&mut self) -> Taken<K::Got>
-        ensures { TakesBy K.takes result self.old self.new }
+        ensures { TakesBy K.takes K.seals result self.old self.new }
     {
         if !self.keep_up() {
             return Taken::Busy;
@@ -551,7 +552,7 @@ impl<T: Drop, K: Kind<T>> RenewingHandle<T, K> {
     /// Takes from the oldest generation that is not found empty, once the handle has followed others.
     #[inline(always)]
     pub(crate) fn take_in_order(&mut self) -> Taken<K::Got>
-        ensures { TakesBy K.takes result self.old self.new }
+        ensures { TakesBy K.takes K.seals result self.old self.new }
     {
         let generation: &Generation<T> = &self.generation;
         let later = generation.next().look(&self.newest, &mut self.history);
@@ -573,18 +574,18 @@ impl<T: Drop, K: Kind<T>> RenewingHandle<T, K> {
 
     /// Follows others that have opened a newer generation, and returns in how many generations the handle then is.
     ///
-    /// That is 1, but for the time of a change: an older one stays until it is found empty and no handle can give to it
-    /// any more. Returns None where others opened new ones all the time.
+    /// That is 1, but for the time of a change: an older one stays until it is found empty and is sealed, which it is not
+    /// while a handle counts among those that give to it. Returns None where others opened new ones all the time.
     pub fn generations(&mut self) -> Option<usize>
         ensures follows { Follows self.old self.new }
-        ensures count { IfSome result (λ n. n ≡ length (all_of self.new)) }
-        ensures newest { IfSome result (λ n. IsAtNewest self.old self.new) }
+        ensures count { MatchOption result (IsBehind self.old self.new)
+            (λ n. (n ≡ length (all_of self.new)) × IsAtNewest self.old self.new) }
         ensures all { HasAll self.new }
     {
         if !self.keep_up() {
             return None;
         }
-        self.older.len().checked_add(1)
+        Some(self.older.len() + 1)
     }
 
     /// Whether the last call of this handle that found no room would have opened a generation, for which memory was

@@ -113,6 +113,17 @@ impl Play<Change, u64> for Filling {
 /// A step that takes a generation from its place.
 pub struct Emptying;
 
+/// It is taken by the part of a handle that has seen the generation sealed empty.
+impl<T: Drop> Plain<Leaving<Joined<T>>, Change, u64> for Emptying {
+    ghost use Rattle.std.specs.Prelude.{None};
+    ghost use Rattle.kfifo_renewing.specs.declared.change.Change.TheVariants as C;
+    ghost use Rattle.kfifo_renewing.specs.History.{sealed_by};
+
+    ghost ask = { λ part. C.Gone (sealed_by part.number part.handle.held.pass.pass) };
+
+    ghost state = { λ part. None };
+}
+
 impl Play<Change, u64> for Emptying {
     ghost use Rattle.kfifo_renewing.specs.History.{Empties};
 

@@ -1,14 +1,15 @@
 //! A generation that a handle has joined.
-ghost use Rattle.std.specs.Prelude.{◌≡◌, ◌↔◌, IfSome, false};
+ghost use Rattle.std.specs.Prelude.{◌≡◌, ◌↔◌, IfSome, false, true};
 ghost use Rattle.kfifo_live.specs.Pass.{IsPassOf};
 ghost use Rattle.kfifo_pool.specs.Pooled.{GivesOne, no_cells};
-ghost use Rattle.kfifo_renewing.specs.Joining.{IsSamePart, PartView};
-ghost use Rattle.kfifo_renewing.specs.Renewing.{FindsEmpty, IsFresh, IsUntouched, TakesThere};
+ghost use Rattle.kfifo_renewing.specs.Joining.{IsSamePart, IsSealedPart, PartView};
+ghost use Rattle.kfifo_renewing.specs.Renewing.{IsFresh, IsUntouched, MaySeal, SealsThere, TakesOlder, TakesThere};
+ghost use Rattle.kfifo_renewing.specs.Renewing.{got_or_sealed_of};
 
 use crate::generation::Generation;
 use crate::kind::Kind;
 use crate::leaving::{Leave, Leaving};
-use kfifo_live::{Given, Taken};
+use kfifo_live::{Given, Taken, TakenOrSealed};
 use kfifo_pool::{PooledHandle, PooledQueue};
 use std::alloc::Global;
 use std::marker::Model;
@@ -180,7 +181,6 @@ impl<T: Drop> Leaving<Joined<T>> {
         requires bare { generation.now.queue.opened.bare ≡ K.bare }
         ensures same { IsSamePart self.old self.new }
         ensures takes { TakesThere K.takes result self.old.handle self.new.handle }
-        ensures empty { result ≡ Taken.Empty → FindsEmpty self.old.handle self.new.handle }
     {
         K::take(
             &mut self.part.handle,
@@ -190,11 +190,10 @@ impl<T: Drop> Leaving<Joined<T>> {
     }
 
     /// Takes from the generation.
-    pub(crate) fn take_here<K: Kind<T>>(&mut self) -> Taken<K::Got>
+    fn take_here<K: Kind<T>>(&mut self) -> Taken<K::Got>
         requires { self.old.handle.held.pass.pass.opened.bare ≡ K.bare }
         ensures same { IsSamePart self.old self.new }
         ensures takes { TakesThere K.takes result self.old.handle self.new.handle }
-        ensures empty { result ≡ Taken.Empty → FindsEmpty self.old.handle self.new.handle }
     {
         let generation: &Generation<T> = &self.part.generation;
         K::take(
@@ -202,5 +201,70 @@ impl<T: Drop> Leaving<Joined<T>> {
             generation.queue(),
             generation.memory(),
         )
+    }
+
+    /// The same, and seals the generation where it is empty: nothing is given to it any more.
+    fn take_or_seal_here<K: Kind<T>>(&mut self) -> TakenOrSealed<K::Got>
+        requires { self.old.handle.held.pass.pass.opened.bare ≡ K.bare }
+        ensures same { IsSamePart self.old self.new }
+        ensures seals { SealsThere K.seals result self.old.handle self.new.handle }
+    {
+        let generation: &Generation<T> = &self.part.generation;
+        K::take_or_seal(
+            &mut self.part.handle,
+            generation.queue(),
+            generation.memory(),
+        )
+    }
+
+    /// Takes from the generation, which is the newest no more. Where that is empty, and nobody gave to it before, it takes
+    /// again and seals it. Returns None where it was empty, and says whether it is sealed.
+    #[inline(always)]
+    pub(crate) fn take_older<K: Kind<T>>(&mut self, is_sealed: &mut bool) -> Option<Taken<K::Got>>
+        requires { self.old.handle.held.pass.pass.opened.bare ≡ K.bare }
+        ensures same { IsSamePart self.old self.new }
+        ensures takes { TakesOlder K.takes K.seals result self.old.handle self.new.handle }
+        ensures sealed { is_sealed.new ≡ true → IsSealedPart self.new }
+    {
+        *is_sealed = false;
+        // A handle that has a reserved cell gives it here. Were the generation sealed, it could not.
+        let may_seal = !self.generation().has_givers();
+        let taken = self.take_here::<K>();
+        match taken {
+            Taken::Empty => self.seal_if::<K>(may_seal, is_sealed),
+            taken => Some(taken),
+        }
+    }
+
+    /// Takes again from the generation, which was found empty, and seals it, if it may. Says whether it is sealed.
+    #[cold]
+    #[inline(never)]
+    fn seal_if<K: Kind<T>>(&mut self, may_seal: bool, is_sealed: &mut bool) -> Option<Taken<K::Got>>
+        requires { self.old.handle.held.pass.pass.opened.bare ≡ K.bare }
+        ensures same { IsSamePart self.old self.new }
+        ensures seals { MaySeal K.seals result self.old.handle self.new.handle }
+        ensures sealed { is_sealed.new ≡ true → IsSealedPart self.new }
+    {
+        *is_sealed = false;
+        if !may_seal {
+            return None;
+        }
+        // The take before may have moved the head, and with it the ends. So the look at them comes after it.
+        let taken = self.take_or_seal_here::<K>();
+        *is_sealed = matches!(taken, TakenOrSealed::Sealed);
+        got_or_sealed(taken)
+    }
+}
+
+/// What is to be returned of a take that may seal an older generation: nothing where it found that empty.
+fn got_or_sealed<G>(taken: TakenOrSealed<G>) -> Option<Taken<G>>
+    ensures { result ≡ got_or_sealed_of taken }
+{
+    match taken {
+        TakenOrSealed::Got(got) => Some(Taken::Got(got)),
+        TakenOrSealed::Empty => None,
+        TakenOrSealed::Sealed => None,
+        TakenOrSealed::Busy => Some(Taken::Busy),
+        TakenOrSealed::Worn => Some(Taken::Worn),
     }
 }

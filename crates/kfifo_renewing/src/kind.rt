@@ -2,12 +2,13 @@
 ghost use Rattle.std.specs.Prelude.{◌≡◌, Bool, All, IfOk, false, true};
 ghost use Rattle.kfifo_live.specs.Pass.{IsPassOf, IsSamePass};
 ghost use Rattle.kfifo_live.specs.declared.payload.Taken.{Taken as HasTaken};
-ghost use Rattle.kfifo_pool.specs.Pooled.{Pooled, ReceivesOne};
-ghost use Rattle.kfifo_renewing.specs.Memory.{ReceivesAt};
-ghost use Rattle.kfifo_renewing.specs.Renewing.{AreInRange, FindsEmpty, IsUntouched, TakesThere, opening_with};
+ghost use Rattle.kfifo_live.specs.declared.payload.sealing.TakenOrSealed.{TakenOrSealed as OrSealed};
+ghost use Rattle.kfifo_pool.specs.Pooled.{Pooled, ReceivesOne, ReceivesOneOrSeals};
+ghost use Rattle.kfifo_renewing.specs.Memory.{ReceivesAt, ReceivesAtOrSeals};
+ghost use Rattle.kfifo_renewing.specs.Renewing.{AreInRange, IsUntouched, SealsThere, TakesThere, opening_with};
 
 use crate::memory::{CellAt, CellMemory};
-use kfifo_live::{Sizes, Taken};
+use kfifo_live::{Sizes, Taken, TakenOrSealed};
 use kfifo_pool::{PooledHandle, PooledQueue};
 use std::alloc::{AllocError, Global};
 
@@ -21,6 +22,9 @@ pub trait Kind<T: Drop> {
 
     // what a take did in a generation
     ghost takes: { HasTaken Self.Got → Pooled T → Pooled T → Type 0 };
+
+    // and one that may seal it
+    ghost seals: { OrSealed Self.Got → Pooled T → Pooled T → Type 0 };
 
     /// Whether the queue of a generation is bare.
     fn is_bare() -> bool
@@ -44,8 +48,18 @@ pub trait Kind<T: Drop> {
         requires of { IsPassOf queue.now handle.old.held.pass.pass }
         requires bare { queue.now.opened.bare ≡ bare }
         ensures same { IsSamePass handle.old.held.pass.pass handle.new.held.pass.pass }
-        ensures takes { TakesThere takes result handle.old handle.new }
-        ensures empty { result ≡ Taken.Empty → FindsEmpty handle.old handle.new };
+        ensures takes { TakesThere takes result handle.old handle.new };
+
+    /// The same, and seals the generation where it is empty: nothing is given to it any more.
+    fn take_or_seal(
+        handle: &mut PooledHandle<T>,
+        queue: &PooledQueue<T>,
+        memory: &CellMemory,
+    ) -> TakenOrSealed<Self::Got>
+        requires of { IsPassOf queue.now handle.old.held.pass.pass }
+        requires bare { queue.now.opened.bare ≡ bare }
+        ensures same { IsSamePass handle.old.held.pass.pass handle.new.held.pass.pass }
+        ensures seals { SealsThere seals result handle.old handle.new };
 }
 
 /// Generations of queues with payloads.
@@ -57,6 +71,8 @@ impl<T: Drop> Kind<T> for Payloads {
     ghost bare = { false };
 
     ghost takes = { ReceivesOne };
+
+    ghost seals = { ReceivesOneOrSeals };
 
     fn is_bare() -> bool {
         false
@@ -78,6 +94,15 @@ impl<T: Drop> Kind<T> for Payloads {
     ) -> Taken<T> {
         handle.receive(queue)
     }
+
+    #[inline(always)]
+    fn take_or_seal(
+        handle: &mut PooledHandle<T>,
+        queue: &PooledQueue<T>,
+        _memory: &CellMemory,
+    ) -> TakenOrSealed<T> {
+        handle.receive_or_seal(queue)
+    }
 }
 
 /// Generations of bare queues, whose tokens have cells.
@@ -89,6 +114,8 @@ impl Kind<()> for Cells {
     ghost bare = { true };
 
     ghost takes = { ReceivesAt };
+
+    ghost seals = { ReceivesAtOrSeals };
 
     fn is_bare() -> bool {
         true
@@ -109,5 +136,14 @@ impl Kind<()> for Cells {
         memory: &CellMemory,
     ) -> Taken<CellAt> {
         memory.taken(handle.receive_cell(queue))
+    }
+
+    #[inline(always)]
+    fn take_or_seal(
+        handle: &mut PooledHandle<()>,
+        queue: &PooledQueue<()>,
+        memory: &CellMemory,
+    ) -> TakenOrSealed<CellAt> {
+        memory.taken_or_sealed(handle.receive_cell_or_seal(queue))
     }
 }

@@ -4,7 +4,7 @@ ghost use mathlib.Core.List.{IsPrefix};
 ghost use Rattle.logbook.specs.Pages.{Cell, may_make_home, may_write, nib};
 ghost use Rattle.kfifo_renewing.specs.History.{AreLabels, FindsThere, HasLeft, IsGone, IsKept, IsPlaced, WasNewest};
 ghost use Rattle.kfifo_renewing.specs.History.{key_of, label_of, newest_of, place_count};
-ghost use Rattle.kfifo_renewing.specs.Joining.{EndedEmpty};
+ghost use Rattle.kfifo_renewing.specs.Joining.{IsPart, IsSealedPart};
 
 use crate::change::Change;
 use crate::history::{Emptying, Filling, History, HistoryRule, LookingThere, Naming, NoGain};
@@ -88,17 +88,30 @@ impl Label {
         found == 0
     }
 
-    /// Takes the generation of this part out of the place, if no other handle has. It is the newest no more, and the last
-    /// call of the part found it empty.
+    /// Takes the generation of this part out of the place, if no other handle has. It is the newest no more, and the part
+    /// has seen it sealed empty.
     pub(crate) fn leave<T: Drop>(&self, part: &Leaving<Joined<T>>, history: &mut History)
         requires book { history.old.book ≡ self.now.book }
+        requires part { IsPart history.old.log part.now }
         requires over { part.now.number < newest_of history.old.log }
-        requires empty { EndedEmpty part.now }
+        requires empty { IsSealedPart part.now }
         ensures later { (history.new.book ≡ history.old.book) × IsPrefix history.old.log history.new.log }
         ensures left { IsPlaced history.old.log part.now.number self.now.place
             → HasLeft history.new.log part.now.number }
     {
-        self.empty(part.number(), history);
+        let mut offer: Offer<Change, u64, HistoryRule, NoGain> = history.plain::<
+            NoGain,
+            Leaving<Joined<T>>,
+            Emptying,
+        >(part);
+        let mut pen = history.no_pen();
+        self.word.compare_exchange::<Emptying, NoGain>(
+            u64::from(part.number()) + 1,
+            0,
+            history,
+            &mut offer,
+            &mut pen,
+        );
     }
 
     /// Takes the generation with this number out of the place, if no other handle has. It is the newest no more, and has
@@ -107,16 +120,6 @@ impl Label {
         requires book { history.old.book ≡ self.now.book }
         requires over { number < newest_of history.old.log }
         requires gone { WasNewest history.old.log number → IsGone history.old.log number }
-        ensures later { (history.new.book ≡ history.old.book) × IsPrefix history.old.log history.new.log }
-        ensures left { IsPlaced history.old.log number self.now.place → HasLeft history.new.log number }
-    {
-        self.empty(number, history);
-    }
-
-    /// Empties the place, if the generation with this number is still there. It is the newest no more.
-    fn empty(&self, number: u32, history: &mut History)
-        requires book { history.old.book ≡ self.now.book }
-        requires over { number < newest_of history.old.log }
         ensures later { (history.new.book ≡ history.old.book) × IsPrefix history.old.log history.new.log }
         ensures left { IsPlaced history.old.log number self.now.place → HasLeft history.new.log number }
     {

@@ -1,9 +1,9 @@
 //! The memory of the cells of a generation.
 ghost use Rattle.std.specs.Prelude.{◌≡◌, ◌≤◌, ◌*◌, ◌+◌, ℕ, IfOk, vec_capacity};
 ghost use Rattle.kfifo_live.specs.declared.payload.opening.TheConstants.{MOST_TOKENS};
-ghost use Rattle.kfifo_renewing.specs.Memory.{cell_reserved, cell_taken};
+ghost use Rattle.kfifo_renewing.specs.Memory.{cell_or_sealed, cell_reserved, cell_taken};
 
-use kfifo_live::Taken;
+use kfifo_live::{Taken, TakenOrSealed};
 use std::alloc::{AllocError, Global};
 use std::marker::Model;
 
@@ -82,6 +82,19 @@ impl CellMemory {
             Taken::Empty => Taken::Empty,
             Taken::Busy => Taken::Busy,
             Taken::Worn => Taken::Worn,
+        }
+    }
+
+    /// The same of a take that may seal the generation.
+    pub(crate) fn taken_or_sealed(&self, taken: TakenOrSealed<u32>) -> TakenOrSealed<CellAt>
+        ensures { cell_or_sealed result ≡ taken }
+    {
+        match taken {
+            TakenOrSealed::Got(index) => TakenOrSealed::Got(self.at(index)),
+            TakenOrSealed::Empty => TakenOrSealed::Empty,
+            TakenOrSealed::Sealed => TakenOrSealed::Sealed,
+            TakenOrSealed::Busy => TakenOrSealed::Busy,
+            TakenOrSealed::Worn => TakenOrSealed::Worn,
         }
     }
 

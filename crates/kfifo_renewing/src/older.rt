@@ -5,7 +5,7 @@ ghost use mathlib.Core.List.{IsPrefix};
 ghost use Rattle.kfifo_live.specs.declared.view.Opening.{Opening};
 ghost use Rattle.kfifo_renewing.specs.Cells.{CallsFirst, reserved_in};
 ghost use Rattle.kfifo_renewing.specs.History.{HasRisen, newest_of};
-ghost use Rattle.kfifo_renewing.specs.Joining.{AreSameParts, EndedEmpty, HasNoCell, IsPart, OlderView};
+ghost use Rattle.kfifo_renewing.specs.Joining.{AreSameParts, HasNoCell, IsPart, IsSealedPart, OlderView};
 ghost use Rattle.kfifo_renewing.specs.Joining.{held_by};
 ghost use Rattle.kfifo_renewing.specs.Memory.{cell_reserved};
 ghost use Rattle.kfifo_renewing.specs.Renewing.{IsOpenedAs, TakesFirst, slots_of};
@@ -110,8 +110,8 @@ impl<T: Drop> Older<T> {
         drop(gone);
     }
 
-    /// Takes from the first that is not found empty. Says whether it found one empty. Such a one goes from its place if
-    /// nobody gave to it any more.
+    /// Takes from the first that is not found empty. Says whether it found one empty. Such a one goes from its place once
+    /// it is sealed.
     #[inline(always)]
     pub(crate) fn take_first<K: Kind<T>>(
         &mut self,
@@ -125,7 +125,7 @@ impl<T: Drop> Older<T> {
         requires below { All (λ p. p.number < newest_of history.old.log) self.old.items }
         requires risen { HasRisen history.old.log }
         ensures same { AreSameParts self.old.items self.new.items }
-        ensures takes { TakesFirst K.takes result (held_by self.old.items) (held_by self.new.items) }
+        ensures takes { TakesFirst K.takes K.seals result (held_by self.old.items) (held_by self.new.items) }
         ensures later { (history.new.book ≡ history.old.book) × IsPrefix history.old.log history.new.log }
         ensures risen { HasRisen history.new.log }
     {
@@ -210,9 +210,10 @@ fn count_in<T: Drop>(parts: &[Leaving<Joined<T>>]) -> usize
     count_in(rest).saturating_add(first.generation().queue().len())
 }
 
-/// Takes the generation of this part, whose last call found it empty, out of its place, unless somebody gave to it then.
-fn retire_unless<T: Drop>(
-    has_givers: bool,
+/// Takes the generation of this part out of its place, if that has seen it sealed empty.
+#[inline(always)]
+fn retire_if<T: Drop>(
+    is_sealed: bool,
     places: &Places<T>,
     part: &Leaving<Joined<T>>,
     history: &mut History,
@@ -220,18 +221,18 @@ fn retire_unless<T: Drop>(
     requires book { history.old.book ≡ places.now.history.book }
     requires part { IsPart history.old.log part.now }
     requires over { part.now.number < newest_of history.old.log }
-    requires empty { EndedEmpty part.now }
+    requires empty { is_sealed ≡ true → IsSealedPart part.now }
     requires risen { HasRisen history.old.log }
     ensures later { (history.new.book ≡ history.old.book) × IsPrefix history.old.log history.new.log }
     ensures risen { HasRisen history.new.log }
 {
-    if !has_givers {
+    if is_sealed {
         places.retire(part, history);
     }
 }
 
 /// Takes from the first of these generations that is not empty. Says whether it found one empty: that one goes from its
-/// place if nobody gave to it any more before that.
+/// place once it is sealed.
 fn take_first<T: Drop, K: Kind<T>>(
     generations: &mut [Leaving<Joined<T>>],
     places: &Places<T>,
@@ -244,22 +245,21 @@ fn take_first<T: Drop, K: Kind<T>>(
     requires below { All (λ p. p.number < newest_of history.old.log) generations.old }
     requires risen { HasRisen history.old.log }
     ensures same { AreSameParts generations.old generations.new }
-    ensures takes { TakesFirst K.takes result (held_by generations.old) (held_by generations.new) }
+    ensures takes { TakesFirst K.takes K.seals result (held_by generations.old) (held_by generations.new) }
     ensures others { found_empty.new ≡ false → drop 1 generations.new ≡ drop 1 generations.old }
     ensures later { (history.new.book ≡ history.old.book) × IsPrefix history.old.log history.new.log }
     ensures risen { HasRisen history.new.log }
 {
     let (first, rest) = generations.split_first_mut()?;
-    // This look comes before the take: a payload that is given after the take would be lost with the generation.
-    let has_givers = first.generation().has_givers();
-    match first.take_here::<K>() {
-        Taken::Empty => {
-            retire_unless(has_givers, places, first, history);
+    let mut is_sealed = false;
+    match first.take_older::<K>(&mut is_sealed) {
+        Some(taken) => Some(taken),
+        None => {
+            retire_if(is_sealed, places, first, history);
             let taken = take_first::<T, K>(rest, places, history, found_empty);
             *found_empty = true;
             taken
         }
-        taken => Some(taken),
     }
 }
 

@@ -11,7 +11,7 @@ ghost use Rattle.logbook.specs.Pages.{Cell, may_write, nib};
 ghost use Rattle.kfifo_renewing.specs.declared.places.Lineage.{Lineage};
 ghost use Rattle.kfifo_renewing.specs.History.{AreLabels, FindsThere, HasLeft, HasRisen, IsGone, IsKept, IsPlaced};
 ghost use Rattle.kfifo_renewing.specs.History.{WasNewest, key_of, newest_of, place_count};
-ghost use Rattle.kfifo_renewing.specs.Joining.{AreAmong, EndedEmpty, HasNumber, HasOlder, IsPart};
+ghost use Rattle.kfifo_renewing.specs.Joining.{AreAmong, HasNumber, HasOlder, IsPart, IsSealedPart};
 ghost use Rattle.kfifo_renewing.specs.Renewing.{IsOfLineage};
 
 use crate::generation::Generation;
@@ -296,13 +296,13 @@ impl<T: Drop> Places<T> {
         None
     }
 
-    /// Takes the generation of this part out of its place: it is the newest no more, and the last call of the part found
-    /// it empty.
+    /// Takes the generation of this part out of its place: it is the newest no more, and the part has seen it sealed
+    /// empty.
     pub(crate) fn retire(&self, part: &Leaving<Joined<T>>, history: &mut History)
         requires book { history.old.book ≡ self.now.history.book }
         requires part { IsPart history.old.log part.now }
         requires over { part.now.number < newest_of history.old.log }
-        requires empty { EndedEmpty part.now }
+        requires empty { IsSealedPart part.now }
         ensures later { (history.new.book ≡ history.old.book) × IsPrefix history.old.log history.new.log }
         ensures left { HasLeft history.new.log part.now.number }
         ensures risen { HasRisen history.new.log }

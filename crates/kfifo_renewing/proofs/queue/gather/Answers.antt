@@ -14,7 +14,7 @@ returns-clause-all g c = (
   (
     c.generations.new.self,
     c.generations.ensures.follows,
-    c.in-Some-generations.ensures.newest,
+    c.in-Some-generations.ensures.count.1,
     c.generations.ensures.all,
     c.in_ok-shared.ensures.joined,
   ),

@@ -27,6 +27,7 @@ pub returns-then-later-len-ne0 : goal.returns-then-later-len-ne0
 returns-then-later-len-ne0 g c =
     let T = g.row.T.Denot in
     let R = g.K.Kind.takes in
+    let S = g.K.Kind.seals in
     let i = c.self.invariant.0 in
     let log = c.self.inside.history.log in
     let new = c.look-later.new.history.log in
@@ -48,8 +49,8 @@ returns-then-later-len-ne0 g c =
     (c.look-later.ensures.book ∙ ap (λ (v : Generations T). v.book) c.self.view_is)
     (ap (λ (v : Generations T). v.older) c.self.view_is) (ap (λ (v : Generations T). v.number) c.self.view_is) in
     let here = is ∙ ap (λ (x : Pooled T). with_newest (with_seen now new) x) (ap (λ (v : Generations T). v.newest) c.self.view_is) in
-    takes-from-after R r now (with_seen now new) end (looked-follows found new now looked)
-    (subst (λ (v : Generations T). TakesBy R r v end) here c.take_late-taken.ensures)
+    takes-from-after R S r now (with_seen now new) end (looked-follows found new now looked)
+    (subst (λ (v : Generations T). TakesBy R S r v end) here c.take_late-taken.ensures)
 
 pub invariant_of-self-in-Got : goal.invariant_of-self-in-Got
 invariant_of-self-in-Got g c = (
@@ -79,6 +80,7 @@ pub returns-in-Got : goal.returns-in-Got
 returns-in-Got g c =
     let T = g.row.T.Denot in
     let R = g.K.Kind.takes in
+    let S = g.K.Kind.seals in
     let i = c.self.invariant.0 in
     let log = c.self.inside.history.log in
     let new = c.look-later.new.history.log in
@@ -108,13 +110,14 @@ returns-in-Got g c =
     (ap (λ (v : Generations T). v.thread) c.self.view_is)
     (c.look-later.ensures.book ∙ ap (λ (v : Generations T). v.book) c.self.view_is)
     (ap (λ (v : Generations T). v.older) c.self.view_is) (ap (λ (v : Generations T). v.number) c.self.view_is) in
-    subst (λ (v : Generations T). TakesBy R (K.Got c.in-Got.got) now v) (sym is) (took-some R (K.Got c.in-Got.got) now found new h looked none all alone
+    subst (λ (v : Generations T). TakesBy R S (K.Got c.in-Got.got) now v) (sym is) (took-some R S (K.Got c.in-Got.got) now found new h looked none all alone
     (subst (λ a. TakesThere R a now.newest h) c.in-Got.is takes) (λ same. absurd cc))
 
 pub returns-in_default : goal.returns-in_default
 returns-in_default g c =
     let T = g.row.T.Denot in
     let R = g.K.Kind.takes in
+    let S = g.K.Kind.seals in
     let i = c.self.invariant.0 in
     let log = c.self.inside.history.log in
     let new = c.look-later.new.history.log in
@@ -146,7 +149,7 @@ returns-in_default g c =
     (ap (λ (v : Generations T). v.older) c.self.view_is) (ap (λ (v : Generations T). v.number) c.self.view_is) in
     let end = c.look_again-taken.new.self in
     let r = c.look_again-taken.result in
-    took-other R c.take.result r now end found new h looked none all alone takes
+    took-other R S c.take.result r now end found new h looked none all alone takes
     (subst (λ (v : Generations T). end ≡ with_seen v end.seen) is c.look_again-taken.ensures.same)
     (subst (λ (v : Generations T). IsLater v end) is c.look_again-taken.ensures.later)
     (subst (λ (v : Generations T). LooksAgain c.take.result r v end) is c.look_again-taken.ensures.looks)

@@ -1,7 +1,7 @@
 use Rattle.std.proofs.Common.{◌<◌, sym, ap, ◌∙◌, subst}
 use Rattle.kfifo_renewing.specs.declared.change.Change.TheVariants as C
 use Rattle.kfifo_renewing.specs.History.{NextView, WasNewest}
-use Rattle.kfifo_renewing.proofs.Keeping.{renews-moves}
+use Rattle.kfifo_renewing.proofs.Making.{renews-moves}
 use Rattle.kfifo_renewing.proofs.history.Next.renew.Goals as goal
 
 pub compare_exchange-found-requires : goal.compare_exchange-found-requires

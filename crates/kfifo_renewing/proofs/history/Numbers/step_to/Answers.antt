@@ -2,7 +2,8 @@ use Rattle.std.proofs.Common.{◌≡◌, ◌+◌, ◌-◌, ◌<◌, ◌^◌, ◌
 use prog.Atomic.{either}
 use Rattle.logbook.specs.Pages.{step, Moves}
 use Rattle.kfifo_renewing.specs.History.{GivesNumber, IsKept, making_of}
-use Rattle.kfifo_renewing.proofs.Keeping.{moved, numbers-moves, shown}
+use Rattle.kfifo_renewing.proofs.Keeping.{moved, shown}
+use Rattle.kfifo_renewing.proofs.Making.{numbers-moves}
 use Rattle.kfifo_renewing.proofs.history.Numbers.step_to.Goals as goal
 
 pub compare_exchange-requires : goal.compare_exchange-requires

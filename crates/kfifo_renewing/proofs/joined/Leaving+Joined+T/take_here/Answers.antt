@@ -4,7 +4,7 @@ use Rattle.kfifo_pool.specs.Pooled.{Pooled}
 use Rattle.kfifo_renewing.specs.declared.joined.Joined.{Joined}
 use Rattle.kfifo_renewing.specs.declared.leaving.Leaving.TheInside.{Inside}
 use Rattle.kfifo_renewing.specs.Joining.{PartView}
-use Rattle.kfifo_renewing.specs.Renewing.{FindsEmpty, TakesThere}
+use Rattle.kfifo_renewing.specs.Renewing.{TakesThere}
 use Rattle.kfifo_renewing.proofs.joined.Leaving+Joined+T.take_here.Goals as goal
 
 pub invariant_of-self-inside : goal.invariant_of-self-inside
@@ -17,9 +17,3 @@ returns-clause-takes g c =
     let T = g.row.T.Denot in
     let here = ap (λ (i : Inside (Joined T)). i.part.handle) c.self-inside.view_is ∙ ap (λ (p : PartView T). p.handle) c.self.view_is in
     subst (λ (h : Pooled T). TakesThere g.K.Kind.takes c.take.result h c.take.new.handle) here c.take.ensures.takes
-
-pub returns-clause-empty : goal.returns-clause-empty
-returns-clause-empty g c = λ is.
-    let T = g.row.T.Denot in
-    let here = ap (λ (i : Inside (Joined T)). i.part.handle) c.self-inside.view_is ∙ ap (λ (p : PartView T). p.handle) c.self.view_is in
-    subst (λ (h : Pooled T). FindsEmpty h c.take.new.handle) here (c.take.ensures.empty is)

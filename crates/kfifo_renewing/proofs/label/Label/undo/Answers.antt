@@ -3,7 +3,8 @@ use prog.Atomic.{either}
 use Rattle.logbook.specs.Pages.{Moves, step, may_write, nib}
 use Rattle.kfifo_renewing.specs.declared.change.Change.TheVariants as C
 use Rattle.kfifo_renewing.specs.History.{IsKept, IsPlaced, LabelView, Empties, key_of, label_of}
-use Rattle.kfifo_renewing.proofs.Keeping.{undoes-moves, moved, shown}
+use Rattle.kfifo_renewing.proofs.Emptying.{undoes-moves}
+use Rattle.kfifo_renewing.proofs.Keeping.{moved, shown}
 use Rattle.kfifo_renewing.proofs.label.Label.undo.Goals as goal
 
 pub compare_exchange-requires : goal.compare_exchange-requires

@@ -3,8 +3,9 @@ use prog.Atomic.{either}
 use Rattle.logbook.specs.Pages.{Moves, step}
 use Rattle.kfifo_renewing.specs.declared.change.Change.TheVariants as C
 use Rattle.kfifo_renewing.specs.History.{IsKept, IsPlaced, LabelView, Empties, label_of}
-use Rattle.kfifo_renewing.proofs.Keeping.{leaves-moves, moved, shown}
-use Rattle.kfifo_renewing.proofs.label.Label.empty.Goals as goal
+use Rattle.kfifo_renewing.proofs.Emptying.{passes-moves}
+use Rattle.kfifo_renewing.proofs.Keeping.{moved, shown}
+use Rattle.kfifo_renewing.proofs.label.Label.leave_other.Goals as goal
 
 pub compare_exchange-requires : goal.compare_exchange-requires
 compare_exchange-requires c =
@@ -22,7 +23,7 @@ compare_exchange-requires c =
       offer.0,
       rw (ap (λ w. w.key) h.0, offer.3) (subst (λ m. Moves IsKept shown moved (label_of place) (log, (pen, None))
           (λ k. either (k == m) 0 k) (Empties (step (label_of place) m 0 (C.Newest n)) (log, (pen, None)))) up
-          (leaves-moves log pen n place (C.Newest n) h.1 c.requires.over)),
+          (passes-moves log pen n place (C.Newest n) h.1 c.requires.over c.requires.gone)),
     )
 
 pub returns-clause-left : goal.returns-clause-left
