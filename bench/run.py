@@ -50,6 +50,8 @@ CAPACITIES = [1024, 16384]
 VALUES_CAPACITY = 1024
 # The spanning tree: threads, and the vertices and edges of the graph.
 TREES = [2, 4, 8]
+TREE_OF_VALUES = [("array-16", 0), ("mutex-16", 0), ("tbb-16", 0), ("vyukov-16", 0)]
+TREE_OF_VALUES += [(name, k) for name in ("kfifo-16", "kfifo-grows-16") for k in (4, 16, 64)]
 VERTICES, EDGES = 400_000, 1_600_000
 TREE_CAPACITY = 16384
 PEERS = [("array", 0), ("boost", 0), ("tbb", 0), ("ck", 0), ("mutex", 0), ("vyukov", 0)]
@@ -173,7 +175,9 @@ def workloads(milliseconds):
             made.append(Workload(title, queues(capacity), capacity, "rates", [*words, milliseconds]))
     for threads in TREES:
         title = f"spanning tree by {threads} threads, capacity {TREE_CAPACITY:,}"
-        made.append(Workload(title, queues(TREE_CAPACITY), TREE_CAPACITY, "spanning_tree", [threads, VERTICES, EDGES]))
+        words = [threads, VERTICES, EDGES]
+        made.append(Workload(title, queues(TREE_CAPACITY), TREE_CAPACITY, "spanning_tree", words))
+        made.append(Workload(f"values of 16 bytes, {title}", TREE_OF_VALUES, TREE_CAPACITY, "spanning_tree", words))
     for size in SIZES:
         # ArrayQueue comes first here too.
         compared = [*((f"{name}-{size}", 0) for name in OF_VALUES), *((f"kfifo-{size}", k) for k in (4, 16, 64))]
@@ -269,7 +273,7 @@ def ratios(rates):
 
 
 def table(title, rates):
-    unit = "vertices" if title.startswith("spanning") else "times" if ONLY_WORK in title else "calls"
+    unit = "vertices" if "spanning" in title else "times" if ONLY_WORK in title else "calls"
     one = {"vertices": "vertex", "times": "time", "calls": "call"}[unit]
     head = f"| Queue | Order | Million {unit} a second | ns a {one} | Ratio to {label(next(iter(rates)))} | Quartiles |"
     lines = [f"### {title}", "", head, "|---|---|---|---|---|---|"]
