@@ -102,7 +102,9 @@ fn tasks_without_errors_are_done() {
     assert_eq!(total(&done.expect("no error")), 1);
 }
 
-/// A run within limits of memory that are too few for 64 threads: it begins no task, and hands all back.
+/// A run whose 64 threads have stacks of 300 MB where 1.4 GB can be had: some start, and one does not. It begins no task,
+/// and hands all back. With stacks of the usual size a thread that has started would run out of memory as well, and then
+/// the standard library aborts.
 #[cfg(target_arch = "x86_64")]
 #[test]
 fn a_thread_that_is_not_started_ends_the_run() {
@@ -116,14 +118,18 @@ fn a_thread_that_is_not_started_ends_the_run() {
     }
     let this = std::env::current_exe().expect("it has a path");
     let limited = std::process::Command::new("sh")
-        .args(["-c", "ulimit -v 90000 && exec \"$0\" --exact \"$1\""])
+        .args(["-c", "ulimit -v 1400000 && exec \"$0\" --exact \"$1\""])
         .args([this.as_os_str(), NAME.as_ref()])
         .env("IS_LIMITED", "1")
+        .env("RUST_MIN_STACK", "300000000")
+        // Each further arena of malloc would take 64 MB or more of what can be had.
+        .env("MALLOC_ARENA_MAX", "1")
         .output()
         .expect("there is a shell");
     let said = String::from_utf8_lossy(&limited.stdout);
     assert!(
         limited.status.success() && said.contains("1 passed"),
-        "{said}"
+        "{said}{}",
+        String::from_utf8_lossy(&limited.stderr)
     );
 }
