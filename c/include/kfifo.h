@@ -938,7 +938,7 @@ KFIFO_MUST_USE static inline kfifo_status kfifo_close_values(kfifo_handle *handl
 */
 
 /* Where a cell begins. */
-static inline void *kfifo_place_of(const kfifo_cell_at *at, uint32_t size, uint32_t alignment) {
+static inline void *kfifo_bare_place(const kfifo_cell_at *at, uint32_t size, uint32_t alignment) {
     uintptr_t begins = KFIFO_CAST_POINTER(uintptr_t, at->block), mask = alignment - UINT32_C(1);
     return KFIFO_CAST(char *, at->block) + (((begins + mask) & ~mask) - begins) + KFIFO_CAST(size_t, at->index) * size;
 }
@@ -1031,7 +1031,7 @@ static inline kfifo_status kfifo_bare_release(kfifo_handle *handle) {
     return kfifo_after_take(KFIFO_WAITS(handle), status);
 }
 
-static inline kfifo_status kfifo_looking_receive(kfifo_handle *handle, kfifo_cell_at *at) {
+static inline kfifo_status kfifo_bare_looking_receive(kfifo_handle *handle, kfifo_cell_at *at) {
     KFIFO_LOOKING_TAKE(handle, kfifo_bare_receive(handle, at));
 }
 
@@ -1048,7 +1048,7 @@ KFIFO_MUST_USE static inline kfifo_status kfifo_reserve(kfifo_handle *handle, vo
     kfifo_cell_at at;
     if (!cell || !KFIFO_IS_OF(handle, KFIFO_CELLS)) return KFIFO_BAD_CALL;
     kfifo_status status = kfifo_bare_reserve(handle, &at);
-    if (__builtin_expect(status == KFIFO_DONE, 1)) *cell = kfifo_place_of(&at, handle->size, handle->alignment);
+    if (__builtin_expect(status == KFIFO_DONE, 1)) *cell = kfifo_bare_place(&at, handle->size, handle->alignment);
     return status;
 }
 
@@ -1095,8 +1095,8 @@ KFIFO_MUST_USE static inline kfifo_status kfifo_cancel(kfifo_handle *handle) {
 KFIFO_MUST_USE static inline kfifo_status kfifo_receive_once(kfifo_handle *handle, void **cell) {
     kfifo_cell_at at;
     if (!cell || !KFIFO_IS_OF(handle, KFIFO_CELLS)) return KFIFO_BAD_CALL;
-    kfifo_status status = kfifo_looking_receive(handle, &at);
-    if (__builtin_expect(status == KFIFO_DONE, 1)) *cell = kfifo_place_of(&at, handle->size, handle->alignment);
+    kfifo_status status = kfifo_bare_looking_receive(handle, &at);
+    if (__builtin_expect(status == KFIFO_DONE, 1)) *cell = kfifo_bare_place(&at, handle->size, handle->alignment);
     return status;
 }
 
@@ -1161,7 +1161,7 @@ KFIFO_MUST_USE static inline kfifo_status kfifo_next_left(kfifo_left *left, void
     kfifo_cell_at at;
     if (!left || !cell) return KFIFO_BAD_CALL;
     kfifo_status status = KFIFO_CAST(kfifo_status, kfifo_c_next_left(left, &at));
-    if (status == KFIFO_DONE) *cell = kfifo_place_of(&at, left->size, left->alignment);
+    if (status == KFIFO_DONE) *cell = kfifo_bare_place(&at, left->size, left->alignment);
     return status;
 }
 
