@@ -227,10 +227,11 @@ typedef struct kfifo_waits {
 } kfifo_waits;
 
 /* The same, with how many handles of the queue are open, and how many callers are left: in C the open handles, and in
-   C++ those that somebody has and the queue object, which hands out others. */
+   C++ those that somebody has and the queue object, which hands out others. And what kfifo_capacity returns. */
 typedef struct kfifo_shared {
     kfifo_waits waits;
     uint32_t handles, callers;
+    uint32_t capacity;
 } kfifo_shared;
 
 /* The parts of `state`. */
@@ -351,11 +352,12 @@ static inline uint32_t kfifo_mark_of(const kfifo_handle *handle) {
 }
 
 /* What the threads of a queue that is to be opened will wait by: NULL where there is no memory for it. */
-static inline kfifo_shared *kfifo_shared_new(size_t threads) {
+static inline kfifo_shared *kfifo_shared_new(size_t threads, uint32_t capacity) {
     kfifo_shared *shared = KFIFO_CAST(kfifo_shared *, malloc(sizeof *shared));
     if (!shared) return NULL;
     shared->waits.state = shared->waits.filled = shared->waits.emptied = 0;
     shared->handles = shared->callers = KFIFO_CAST(uint32_t, threads);
+    shared->capacity = capacity;
     return shared;
 }
 
@@ -367,8 +369,8 @@ static inline void kfifo_shared_leave(void *address) {
 }
 
 /* Opens handles by a call of the library, with what their threads wait by. */
-#define KFIFO_OPEN(handles, threads, call)                                                                             \
-    kfifo_shared *shared = kfifo_shared_new(threads);                                                                  \
+#define KFIFO_OPEN(handles, threads, capacity, call)                                                                   \
+    kfifo_shared *shared = kfifo_shared_new((threads), (capacity));                                                    \
     kfifo_status status = shared ? KFIFO_CAST(kfifo_status, call) : KFIFO_NO_MEMORY;                                   \
     if (status != KFIFO_DONE) free(shared);                                                                            \
     for (size_t i = 0; status == KFIFO_DONE && i < (threads); i++) {                                                   \
@@ -528,6 +530,24 @@ KFIFO_MUST_USE static inline size_t kfifo_len(kfifo_handle *handle) {
     return len;
 }
 
+/* Whether kfifo_len is 0, also of a null pointer or a closed handle.
+   Cost: as kfifo_len.
+
+       if (kfifo_is_empty(&handles[1])) puts("nothing is there");
+*/
+KFIFO_MUST_USE static inline int kfifo_is_empty(kfifo_handle *handle) { return kfifo_len(handle) == 0; }
+
+/* How many items, values or cells the queue has room for at least, as it was opened: of values and cells its capacity,
+   of items (segments - 1) * probes + 1. A queue that grows has room for that many in each generation. Returns 0 of a
+   null pointer or a closed handle. Any thread may call it, also while the handle is in a call.
+   Cost: a read.
+
+       uint32_t capacity = kfifo_capacity(&handles[0]);
+*/
+KFIFO_MUST_USE static inline uint32_t kfifo_capacity(const kfifo_handle *handle) {
+    return handle && handle->address ? KFIFO_CAST(const kfifo_shared *, handle->address)->capacity : 0;
+}
+
 /* Closes these handles, at most 64: DONE; BAD_CALL of a null pointer or of a handle that is there twice, or
    BAD_THREADS, and nothing was done. With the last open handle of a queue the queue goes, with the memory of its cells,
    and what is left in it. Values that are pointers are not freed.
@@ -572,7 +592,9 @@ KFIFO_MUST_USE static inline kfifo_status kfifo_open(uint32_t k, uint32_t segmen
                                                      kfifo_handle *handles, size_t threads) {
     if (!handles) return KFIFO_BAD_CALL;
     kfifo_zero(handles, threads);
-    KFIFO_OPEN(handles, threads, kfifo_c_open(k, segments, probes, last, handles, kfifo_at_most_one_over(threads)));
+    /* Where sizes are out of range the opening refuses them. */
+    KFIFO_OPEN(handles, threads, (segments - 1) * probes + 1,
+               kfifo_c_open(k, segments, probes, last, handles, kfifo_at_most_one_over(threads)));
 }
 
 /* Why a put, get, enqueue or dequeue with these arguments returns BAD_CALL: the first cause that holds, or NULL where
@@ -768,7 +790,7 @@ KFIFO_MUST_USE static inline kfifo_status kfifo_open_values_with(uint32_t k, uin
                                                                  kfifo_handle *handles, size_t threads) {
     if (!handles) return KFIFO_BAD_CALL;
     kfifo_zero(handles, threads);
-    KFIFO_OPEN(handles, threads,
+    KFIFO_OPEN(handles, threads, capacity,
                kfifo_c_open_values(k, capacity, last, reserve, generations, handles, kfifo_at_most_one_over(threads)));
 }
 
@@ -960,7 +982,7 @@ KFIFO_MUST_USE static inline kfifo_status kfifo_open_cells_with(uint32_t k, uint
                                                                 size_t threads) {
     if (!handles) return KFIFO_BAD_CALL;
     kfifo_zero(handles, threads);
-    KFIFO_OPEN(handles, threads,
+    KFIFO_OPEN(handles, threads, capacity,
                kfifo_c_open_cells(k, capacity, size, alignment, last, reserve, generations, handles,
                                   kfifo_at_most_one_over(threads)));
 }

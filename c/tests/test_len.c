@@ -1,6 +1,6 @@
-/* kfifo_len: exact while no call runs, for queues of each kind, and never more than a queue has slots. */
-#include "kfifo.h"
-
+/* kfifo_len, kfifo_is_empty and kfifo_capacity, for queues of each kind, from their opening until they are full, and
+   after their close: exact while no call runs. Beside other calls a queue never has more than it has slots. */
+#include "test_queues.h"
 #include <pthread.h>
 #include <sched.h>
 #include <stdio.h>
@@ -20,37 +20,53 @@ enum { CALLS = 2000 };
 enum { CALLS = 100000 };
 #endif
 
-static void of_items(void) {
-    kfifo_handle handles[2];
-    CHECK(kfifo_open(4, 8, 4, KFIFO_LAST, handles, 2) == KFIFO_DONE);
-    for (int turn = 0; turn < 5; turn++) {
-        for (uint32_t count = 1; count <= 25; count++) {
-            CHECK(kfifo_put(&handles[count % 2], count) == KFIFO_DONE);
-            CHECK(kfifo_len(&handles[0]) == count && kfifo_len(&handles[1]) == count);
-        }
-        for (uint32_t count = 25; count-- > 0;) {
-            uint32_t item = 0;
-            CHECK(kfifo_get(&handles[count % 2], &item) == KFIFO_DONE);
-            CHECK(kfifo_len(&handles[0]) == count && kfifo_len(&handles[1]) == count);
-        }
+/* Whether the three calls return this by each of the handles. */
+static int are(kfifo_handle *handles, size_t threads, size_t len, uint32_t capacity) {
+    for (size_t i = 0; i < threads; i++) {
+        if (kfifo_len(&handles[i]) != len || kfifo_is_empty(&handles[i]) != (len == 0)) return 0;
+        if (kfifo_capacity(&handles[i]) != capacity) return 0;
     }
+    return 1;
+}
+
+/* A queue of items takes at least as many as its capacity, which stays what it was. With fewer probes that is less. */
+static void of_items(void) {
+    enum { K = 4, SEGMENTS = 8, CAPACITY = (SEGMENTS - 1) * K + 1 };
+    kfifo_handle handles[2];
+    uint32_t inside = 0, item = 0, left[K * SEGMENTS];
+    size_t count = 0;
+    CHECK(kfifo_open(K, SEGMENTS, K, KFIFO_LAST, handles, 2) == KFIFO_DONE);
+    for (int turn = 0; turn < 5; turn++) {
+        CHECK(are(handles, 2, 0, CAPACITY));
+        while (kfifo_put(&handles[inside % 2], 1 + inside) == KFIFO_DONE) CHECK(are(handles, 2, ++inside, CAPACITY));
+        CHECK(inside >= CAPACITY && are(handles, 2, inside, CAPACITY));
+        while (kfifo_get(&handles[inside % 2], &item) == KFIFO_DONE) CHECK(are(handles, 2, --inside, CAPACITY));
+        CHECK(inside == 0);
+    }
+    CHECK(kfifo_close(handles, 2, left, K * SEGMENTS, &count) == KFIFO_DONE && are(handles, 2, 0, 0));
+    CHECK(kfifo_open(K, SEGMENTS, 3, KFIFO_LAST, handles, 2) == KFIFO_DONE && are(handles, 2, 0, 22));
     CHECK(kfifo_abandon(handles, 2) == KFIFO_DONE);
 }
 
-/* Values in one generation, and in many: those that the other handle opened are counted too. */
-static void of_values(uint32_t capacity, uint32_t generations, size_t most) {
-    kfifo_handle handles[2];
-    CHECK(kfifo_open_values_with(1, capacity, KFIFO_LAST, KFIFO_RESERVE, generations, handles, 2) == KFIFO_DONE);
-    for (size_t count = 1; count <= most; count++) {
-        CHECK(kfifo_give(&handles[0], count) == KFIFO_DONE);
-        CHECK(kfifo_len(&handles[0]) == count && kfifo_len(&handles[1]) == count);
+/* The same of values and cells, in one generation and in several: those that the other handle opened count too, and the
+   capacity stays that of one. A close leaves nothing. */
+static void of_others(int kind, uint32_t capacity, uint32_t generations) {
+    static struct any_queue queue;
+    kfifo_handle *handles = queue.handles;
+    size_t inside = 0, count = 0, most = (size_t)generations * (capacity + 64);
+    uint64_t value = 0;
+    kfifo_status status = KFIFO_DONE;
+    CHECK(any_open(&queue, kind, 1, capacity, KFIFO_LAST, KFIFO_RESERVE, generations, 2) == KFIFO_DONE);
+    CHECK(are(handles, 2, 0, capacity));
+    while ((status = any_give(&queue, 0, inside)) == KFIFO_DONE) CHECK(are(handles, 2, ++inside, capacity));
+    CHECK(status == KFIFO_FULL && inside >= (size_t)generations * capacity && are(handles, 2, inside, capacity));
+    for (size_t taken = 0; taken < inside; taken++) {
+        CHECK(any_take(&queue, 1, &value) == KFIFO_DONE && value == taken);
+        CHECK(are(handles, 2, inside - taken - 1, capacity));
     }
-    for (size_t count = most; count-- > 0;) {
-        uint64_t value = 0;
-        CHECK(kfifo_take(&handles[1], &value) == KFIFO_DONE && value == most - count);
-        CHECK(kfifo_len(&handles[0]) == count && kfifo_len(&handles[1]) == count);
-    }
-    CHECK(kfifo_abandon(handles, 2) == KFIFO_DONE);
+    CHECK(any_give(&queue, 0, 7) == KFIFO_DONE && are(handles, 2, 1, capacity));
+    free(any_left(&queue, most, &count, &status));
+    CHECK(status == KFIFO_DONE && count == 1 && are(handles, 2, 0, 0));
 }
 
 /* A cell counts from its publish to its receive. */
@@ -59,14 +75,14 @@ static void of_cells(void) {
     void *cell = NULL;
     CHECK(kfifo_open_cells(2, 16, 8, 8, handles, 2) == KFIFO_DONE);
     for (size_t count = 0; count < 16; count++) {
-        CHECK(kfifo_reserve(&handles[0], &cell) == KFIFO_DONE && kfifo_len(&handles[0]) == count);
-        CHECK(kfifo_publish(&handles[0]) == KFIFO_DONE && kfifo_len(&handles[1]) == count + 1);
+        CHECK(kfifo_reserve(&handles[0], &cell) == KFIFO_DONE && are(handles, 2, count, 16));
+        CHECK(kfifo_publish(&handles[0]) == KFIFO_DONE && are(handles, 2, count + 1, 16));
     }
     for (size_t count = 16; count-- > 0;) {
-        CHECK(kfifo_receive(&handles[1], &cell) == KFIFO_DONE && kfifo_len(&handles[1]) == count);
-        CHECK(kfifo_release(&handles[1]) == KFIFO_DONE && kfifo_len(&handles[0]) == count);
+        CHECK(kfifo_receive(&handles[1], &cell) == KFIFO_DONE && are(handles, 2, count, 16));
+        CHECK(kfifo_release(&handles[1]) == KFIFO_DONE && are(handles, 2, count, 16));
     }
-    CHECK(kfifo_abandon(handles, 2) == KFIFO_DONE);
+    CHECK(kfifo_abandon(handles, 2) == KFIFO_DONE && are(handles, 2, 0, 0));
 }
 
 /* The exports count nothing by a handle that is closed or of another kind. */
@@ -74,7 +90,7 @@ static void of_no_queue(void) {
     kfifo_handle closed = {0}, all[3];
     kfifo_handle *items = &all[0], *values = &all[1], *cells = &all[2];
     void *cell = NULL;
-    CHECK(kfifo_len(NULL) == 0 && kfifo_len(&closed) == 0);
+    CHECK(kfifo_len(NULL) == 0 && kfifo_is_empty(NULL) && kfifo_capacity(NULL) == 0 && are(&closed, 1, 0, 0));
     CHECK(kfifo_c_len(&closed) == 0 && kfifo_c_values_len(&closed) == 0 && kfifo_c_cells_len(&closed) == 0);
     CHECK(kfifo_open(1, 4, 1, KFIFO_LAST, items, 1) == KFIFO_DONE && kfifo_put(items, 1) == KFIFO_DONE);
     CHECK(kfifo_open_values(1, 4, values, 1) == KFIFO_DONE && kfifo_give(values, 1) == KFIFO_DONE);
@@ -83,8 +99,8 @@ static void of_no_queue(void) {
     CHECK(kfifo_c_len(items) == 1 && kfifo_c_values_len(items) == 0 && kfifo_c_cells_len(items) == 0);
     CHECK(kfifo_c_len(values) == 0 && kfifo_c_values_len(values) == 1 && kfifo_c_cells_len(values) == 0);
     CHECK(kfifo_c_len(cells) == 0 && kfifo_c_values_len(cells) == 0 && kfifo_c_cells_len(cells) == 1);
-    for (int i = 0; i < 3; i++) CHECK(kfifo_len(&all[i]) == 1);
-    CHECK(kfifo_abandon(all, 3) == KFIFO_DONE);
+    CHECK(are(all, 3, 1, 4));
+    CHECK(kfifo_abandon(all, 3) == KFIFO_DONE && are(all, 3, 0, 0));
 }
 
 static void *give_and_take(void *argument) {
@@ -104,19 +120,21 @@ static void beside_others(void) {
     CHECK(kfifo_open_values(4, 64, handles, 5) == KFIFO_DONE);
     size_t slots = kfifo_values_room(handles, 5);
     for (int i = 0; i < 4; i++) CHECK(pthread_create(&threads[i], NULL, give_and_take, &handles[i]) == 0);
-    for (int i = 0; i < CALLS; i++) CHECK(kfifo_len(&handles[4]) <= slots);
+    for (int i = 0; i < CALLS; i++) CHECK(kfifo_len(&handles[4]) <= slots && kfifo_capacity(&handles[i % 5]) == 64);
     for (int i = 0; i < 4; i++) CHECK(pthread_join(threads[i], NULL) == 0);
-    CHECK(kfifo_len(&handles[4]) == 0);
+    CHECK(are(handles, 5, 0, 64));
     CHECK(kfifo_abandon(handles, 5) == KFIFO_DONE);
 }
 
 int main(void) {
     of_items();
-    of_values(300, 1, 300);
-    of_values(8, 100, 300);
+    for (int kind = OF_VALUES; kind <= OF_CELLS; kind++) {
+        of_others(kind, 300, 1);
+        of_others(kind, 8, 20);
+    }
     of_cells();
     of_no_queue();
     beside_others();
-    puts("kfifo_len counts what is in the queue");
+    puts("kfifo_len, kfifo_is_empty and kfifo_capacity are right of each queue");
     return 0;
 }

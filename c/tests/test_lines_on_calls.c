@@ -35,9 +35,11 @@ static int of_items(void) {
     if (kfifo_get_wait(&handles[1], &item, KFIFO_FOREVER) != KFIFO_DONE) return 1;
     if (kfifo_put(&handles[0], 1) != KFIFO_DONE || kfifo_put(&handles[0], 2) != KFIFO_DONE) return 1;
     size_t backlog = kfifo_len(&handles[0]);
-    if (backlog != 2 || kfifo_len(&handles[1]) != 2) return 1;
+    uint32_t capacity = kfifo_capacity(&handles[0]);
+    if (backlog != 2 || kfifo_len(&handles[1]) != 2 || capacity != 4) return 1;
     if (kfifo_get(&handles[1], &item) != KFIFO_DONE || kfifo_len(&handles[1]) != 1) return 1;
     if (kfifo_get(&handles[1], &item) != KFIFO_DONE || kfifo_len(&handles[1]) != 0) return 1;
+    if (kfifo_is_empty(&handles[1])) puts("nothing is there");
     uint64_t ends = 0;
     if (kfifo_word(&handles[0], 0, &ends) != KFIFO_DONE) return 1;
     if (kfifo_finish(&handles[0]) != KFIFO_DONE) abort();
