@@ -107,11 +107,11 @@ struct ValuesInCpp {
 
 struct ItemsInCpp {
     kfifo::Queue queue;
-    kfifo::Pass giver, taker;
+    kfifo::Queue::Handle giver, taker;
     std::vector<std::uint32_t> in, out;
 
     ItemsInCpp(std::uint32_t k, std::uint32_t segments)
-        : queue(k, segments, 2), giver(queue.pass(0)), taker(queue.pass(1)), in(64) {}
+        : queue(k, segments, 2), giver(queue.handle(0)), taker(queue.handle(1)), in(64) {}
     std::size_t give(std::size_t most, std::uint32_t first) {
         if (most == 1) return giver.enqueue(first) == kfifo::Put::done;
         for (std::size_t i = 0; i < most; i++) in[i] = first + std::uint32_t(i);

@@ -68,13 +68,13 @@ struct NothingAttached {
 struct Kfifo {
     using Attached = NothingAttached;
     kfifo::Queue queue;
-    std::vector<kfifo::Pass> passes;
+    std::vector<kfifo::Queue::Handle> handles;
 
     Kfifo(std::uint32_t k, std::size_t capacity, std::size_t threads) : queue(k, std::uint32_t(capacity) / k, threads) {
-        for (std::size_t i = 0; i < threads; i++) passes.push_back(queue.pass(i));
+        for (std::size_t i = 0; i < threads; i++) handles.push_back(queue.handle(i));
     }
-    bool push(std::size_t thread, std::uint32_t item) { return passes[thread].enqueue(item) == kfifo::Put::done; }
-    std::uint32_t pop(std::size_t thread) { return passes[thread].dequeue().item.value_or(0); }
+    bool push(std::size_t thread, std::uint32_t item) { return handles[thread].enqueue(item) == kfifo::Put::done; }
+    std::uint32_t pop(std::size_t thread) { return handles[thread].dequeue().item.value_or(0); }
 };
 
 // The same queue, with a random start for each call.
@@ -96,9 +96,11 @@ struct KfifoAtRandom : Kfifo {
         return std::uint32_t((std::uint64_t(state) * k) >> 32);
     }
     bool push(std::size_t thread, std::uint32_t item) {
-        return passes[thread].enqueue_once(item, start(thread), turns) == kfifo::Put::done;
+        return handles[thread].enqueue_once(item, start(thread), turns) == kfifo::Put::done;
     }
-    std::uint32_t pop(std::size_t thread) { return passes[thread].dequeue_once(start(thread), turns).item.value_or(0); }
+    std::uint32_t pop(std::size_t thread) {
+        return handles[thread].dequeue_once(start(thread), turns).item.value_or(0);
+    }
 };
 
 // crossbeam's ArrayQueue.

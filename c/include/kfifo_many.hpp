@@ -152,7 +152,7 @@ template <typename Range> [[nodiscard]] auto moving(Range &range) {
 
 // ---- Items ----
 
-template <typename Iterator, typename End> GaveAll<Iterator> Pass::enqueue_all(Iterator first, End end) const {
+template <typename Iterator, typename End> GaveAll<Iterator> Queue::Handle::enqueue_all(Iterator first, End end) const {
     using Item = std::decay_t<decltype(*first)>;
     static_assert(std::is_unsigned_v<Item> && sizeof(Item) <= sizeof(std::uint32_t),
                   "an item is a std::uint32_t, or of an unsigned type for which it has room");
@@ -176,12 +176,12 @@ template <typename Iterator, typename End> GaveAll<Iterator> Pass::enqueue_all(I
     }
 }
 
-template <typename Range> auto Pass::enqueue_all(Range &&range) const {
+template <typename Range> auto Queue::Handle::enqueue_all(Range &&range) const {
     static_assert(detail::is_outlived<Range>, "what was not put would go with the range: give it a name");
     return enqueue_all(detail::begin_of(range), detail::end_of(range));
 }
 
-template <typename Container> TookUpTo Pass::dequeue_up_to(std::size_t most, Container &out) const {
+template <typename Container> TookUpTo Queue::Handle::dequeue_up_to(std::size_t most, Container &out) const {
     if (!KFIFO_WAITS(handle)) refuse(1, 0, 1, kfifo_status_text(KFIFO_BAD_CALL));
     detail::TakesMany takes(KFIFO_WAITS(handle));
     kfifo_status status = KFIFO_DONE;
@@ -208,7 +208,7 @@ template <typename Container> TookUpTo Pass::dequeue_up_to(std::size_t most, Con
     return takes.all;
 }
 
-inline TakenItems Pass::dequeue_up_to(std::size_t most) const {
+inline TakenItems Queue::Handle::dequeue_up_to(std::size_t most) const {
     TakenItems taken;
     KFIFO_TRY { taken.why = dequeue_up_to(most, taken.items).why; }
     KFIFO_CATCH {

@@ -27,11 +27,11 @@ struct Request {
 
 int main() {
     kfifo::Queue items(1, 2, 1);
-    kfifo::Pass pass = items.pass(0);
+    kfifo::Queue::Handle of_items = items.handle(0);
     kfifo::ValueQueue<std::string> queue(1, 2, 1);
     auto handle = queue.handle();
     auto soon = std::chrono::steady_clock::now() + std::chrono::milliseconds(1);
-    bool is_done = pass.enqueue(1) == kfifo::Put::done && pass.dequeue_once(0, 4).item == 1U;
+    bool is_done = of_items.enqueue(1) == kfifo::Put::done && of_items.dequeue_once(0, 4).item == 1U;
     is_done = is_done && handle.give_for("a", std::chrono::milliseconds(1)) == kfifo::Put::done;
     is_done = is_done && handle.give_until("b", soon) == kfifo::Put::done;
     is_done = is_done && handle.take_for(std::chrono::duration<float>(1)).value && handle.take_until(soon).value;
@@ -42,9 +42,9 @@ int main() {
     is_done = is_done && handle.take().value == "ee";
     std::vector<std::uint32_t> numbers{1};
     std::list<std::uint32_t> more;
-    is_done = is_done && pass.enqueue_all(numbers).given == 1 && pass.dequeue_up_to(2, more).taken == 1;
-    is_done =
-        is_done && pass.enqueue_all(more.begin(), more.end()).given == 1 && pass.dequeue_up_to(2).items == numbers;
+    is_done = is_done && of_items.enqueue_all(numbers).given == 1 && of_items.dequeue_up_to(2, more).taken == 1;
+    is_done = is_done && of_items.enqueue_all(more.begin(), more.end()).given == 1 &&
+              of_items.dequeue_up_to(2).items == numbers;
     std::vector<std::string> words{"f"};
     is_done = is_done && handle.give_all(words).given == 1 && handle.take_up_to(2, words).taken == 1;
     is_done = is_done && handle.give_all(kfifo::moving(words)).given == 2 && handle.take_up_to(2).values.size() == 2;

@@ -38,29 +38,29 @@ extern "C" {
 #define WRAPPED(name, parameters, arguments)                                                                           \
     std::uint32_t __real_##name parameters;                                                                            \
     std::uint32_t __wrap_##name parameters { return is_busy() ? std::uint32_t(KFIFO_BUSY) : __real_##name arguments; }
-WRAPPED(kfifo_c_put, (kfifo_handle * pass, std::uint32_t item), (pass, item))
-WRAPPED(kfifo_c_get, (kfifo_handle * pass, std::uint32_t *item), (pass, item))
-WRAPPED(kfifo_c_put_many, (kfifo_handle * pass, const std::uint32_t *array, std::size_t count, std::size_t *put),
-        (pass, array, count, put))
-WRAPPED(kfifo_c_get_many, (kfifo_handle * pass, std::uint32_t *array, std::size_t most, std::size_t *got),
-        (pass, array, most, got))
-WRAPPED(kfifo_c_publish, (kfifo_handle * pass), (pass))
-WRAPPED(kfifo_c_receive, (kfifo_handle * pass, kfifo_cell_at *cell), (pass, cell))
+WRAPPED(kfifo_c_put, (kfifo_handle * handle, std::uint32_t item), (handle, item))
+WRAPPED(kfifo_c_get, (kfifo_handle * handle, std::uint32_t *item), (handle, item))
+WRAPPED(kfifo_c_put_many, (kfifo_handle * handle, const std::uint32_t *array, std::size_t count, std::size_t *put),
+        (handle, array, count, put))
+WRAPPED(kfifo_c_get_many, (kfifo_handle * handle, std::uint32_t *array, std::size_t most, std::size_t *got),
+        (handle, array, most, got))
+WRAPPED(kfifo_c_publish, (kfifo_handle * handle), (handle))
+WRAPPED(kfifo_c_receive, (kfifo_handle * handle, kfifo_cell_at *cell), (handle, cell))
 }
 
 namespace {
 
 void items() {
     kfifo::Queue queue(1, 8, 1);
-    kfifo::Pass pass = queue.pass(0);
+    kfifo::Queue::Handle handle = queue.handle(0);
     std::vector<std::uint32_t> two{2, 3}, out;
     left = 2;
-    expect(pass.enqueue_once(1) == kfifo::Put::busy, "enqueue_once");
-    expect(pass.dequeue_once().why == kfifo::Miss::busy, "dequeue_once");
-    expect(looks(1, [&] { return pass.enqueue(1) == kfifo::Put::done; }), "enqueue");
-    expect(looks(1, [&] { return pass.dequeue().item == 1U; }), "dequeue");
-    expect(looks(1, [&] { return pass.enqueue_all(two).given == 2; }), "enqueue_all");
-    expect(looks(1, [&] { return pass.dequeue_up_to(2, out).taken == 2 && out == two; }), "dequeue_up_to");
+    expect(handle.enqueue_once(1) == kfifo::Put::busy, "enqueue_once");
+    expect(handle.dequeue_once().why == kfifo::Miss::busy, "dequeue_once");
+    expect(looks(1, [&] { return handle.enqueue(1) == kfifo::Put::done; }), "enqueue");
+    expect(looks(1, [&] { return handle.dequeue().item == 1U; }), "dequeue");
+    expect(looks(1, [&] { return handle.enqueue_all(two).given == 2; }), "enqueue_all");
+    expect(looks(1, [&] { return handle.dequeue_up_to(2, out).taken == 2 && out == two; }), "dequeue_up_to");
 }
 
 void values() {

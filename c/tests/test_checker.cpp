@@ -76,16 +76,16 @@ kfifo::Got got_of(const kfifo::Taken &taken) {
     }
 }
 
-// This repository's queue, whose threads call through passes.
+// This repository's queue, whose threads call through handles.
 CheckReport run_kfifo(const CheckOptions &options) {
     const std::uint32_t k = options.k;
     return kfifo::run_check_with_handles(
         [k](std::size_t capacity) {
             return kfifo::Queue(k, std::max(2U, std::uint32_t(capacity) / k), kfifo::checking::MAX_THREADS);
         },
-        [](kfifo::Queue &queue, unsigned thread) { return queue.pass(thread); },
-        [](kfifo::Pass &pass, std::uint32_t item) { return answer_of(pass.enqueue(item)); },
-        [](kfifo::Pass &pass) { return got_of(pass.dequeue()); }, options);
+        [](kfifo::Queue &queue, unsigned thread) { return queue.handle(thread); },
+        [](kfifo::Queue::Handle &handle, std::uint32_t item) { return answer_of(handle.enqueue(item)); },
+        [](kfifo::Queue::Handle &handle) { return got_of(handle.dequeue()); }, options);
 }
 
 // ---- Queues of values and of cells whose generations change all the time ----

@@ -12,30 +12,31 @@ int of_items() {
     auto opened = kfifo::Queue::try_open(1, 8, 1);
     if (!opened.queue) return opened.status;
     kfifo::Queue queue(1, 8, 2);
-    kfifo::Pass pass = queue.pass(0);
-    if (pass.enqueue(7) != kfifo::Put::done) return 1;
-    kfifo::Taken taken = pass.dequeue();
+    kfifo::Queue::Handle handle = queue.handle(0);
+    std::uint32_t capacity = queue.capacity();
+    if (handle.enqueue(7) != kfifo::Put::done) return 1;
+    kfifo::Taken taken = handle.dequeue();
     if (taken.item) std::printf("item %u came out\n", static_cast<unsigned>(*taken.item));
-    if (pass.enqueue_once(8) == kfifo::Put::busy) std::puts("not put, and a later call may do better");
-    kfifo::Put put_at = pass.enqueue_once(9, 0, 100);
+    if (handle.enqueue_once(8) == kfifo::Put::busy) std::puts("not put, and a later call may do better");
+    kfifo::Put put_at = handle.enqueue_once(9, 0, 100);
     if (put_at != kfifo::Put::done) return 1;
-    kfifo::Taken once = pass.dequeue_once();
+    kfifo::Taken once = handle.dequeue_once();
     if (!once.item && once.why == kfifo::Miss::busy) std::puts("a later call may do better");
-    kfifo::Taken taken_at = pass.dequeue_once(0, 100);
+    kfifo::Taken taken_at = handle.dequeue_once(0, 100);
     if (taken_at.item != 9U) return 1;
     for (std::uint32_t item : {3U, 4U, 5U, 6U})
-        if (pass.enqueue(item) != kfifo::Put::done) return 1;
-    auto some = pass.dequeue_up_to(3);
-    auto more = pass.dequeue_up_to(64, some.items);
+        if (handle.enqueue(item) != kfifo::Put::done) return 1;
+    auto some = handle.dequeue_up_to(3);
+    auto more = handle.dequeue_up_to(64, some.items);
     if (some.items != std::vector<std::uint32_t>{3, 4, 5, 6} || more.taken != 1) return 1;
-    if (pass.enqueue(8) != kfifo::Put::done || pass.enqueue(9) != kfifo::Put::done) return 1;
+    if (handle.enqueue(8) != kfifo::Put::done || handle.enqueue(9) != kfifo::Put::done) return 1;
     std::vector<std::uint32_t> numbers{1, 2, 3, 4, 5, 6, 7};
-    auto put = pass.enqueue_all(numbers);
+    auto put = handle.enqueue_all(numbers);
     numbers.erase(numbers.begin(), put.rest); // what is not put is still here
-    std::size_t waiting = pass.len();
-    if (pass.is_empty()) std::puts("no item is there");
-    if (waiting != 8) return 1;
-    std::uint64_t ends = pass.word(0);
+    std::size_t waiting = handle.len();
+    if (handle.is_empty()) std::puts("no item is there");
+    if (waiting != 8 || capacity != 8) return 1;
+    std::uint64_t ends = handle.word(0);
     std::vector<std::uint32_t> left = queue.close();
     return numbers.size() != 1 || left.size() != 8 || left[0] != 8 || ends == 0;
 }

@@ -321,29 +321,30 @@ void one_call_wakes_all() {
 
 void items() {
     kfifo::Queue queue(1, 8, 1);
-    kfifo::Pass pass = queue.pass(0);
+    kfifo::Queue::Handle handle = queue.handle(0);
     std::vector<std::uint32_t> numbers(12), out;
     std::iota(numbers.begin(), numbers.end(), 1);
-    auto put = pass.enqueue_all(numbers);
+    auto put = handle.enqueue_all(numbers);
     expect(put.given == 8 && put.rest == numbers.begin() + 8 && put.why == kfifo::Put::full, "a range that is longer");
-    auto took = pass.dequeue_up_to(3, out);
+    auto took = handle.dequeue_up_to(3, out);
     expect(took.taken == 3 && !took.why && out == std::vector<std::uint32_t>{1, 2, 3}, "three items");
-    auto taken = pass.dequeue_up_to(64);
+    auto taken = handle.dequeue_up_to(64);
     expect(taken.items.size() == 5 && taken.items[4] == 8 && taken.why == kfifo::Miss::empty, "what is left");
 
     numbers[3] = 0;
-    expect(refuses([&] { (void)pass.enqueue_all(numbers); }), "an item out of range");
-    expect(pass.dequeue_up_to(64).items.empty(), "none is put where one is out of range");
+    expect(refuses([&] { (void)handle.enqueue_all(numbers); }), "an item out of range");
+    expect(handle.dequeue_up_to(64).items.empty(), "none is put where one is out of range");
     std::istringstream text("7 8 16777216 9");
     using Reader = std::istream_iterator<std::uint32_t>;
-    expect(refuses([&] { (void)pass.enqueue_all(Reader(text), Reader()); }), "one of a range that is read once");
-    expect(pass.dequeue_up_to(64).items == std::vector<std::uint32_t>{7, 8}, "those before it are put");
+    expect(refuses([&] { (void)handle.enqueue_all(Reader(text), Reader()); }), "one of a range that is read once");
+    expect(handle.dequeue_up_to(64).items == std::vector<std::uint32_t>{7, 8}, "those before it are put");
     std::vector<std::uint8_t> small{1, 2};
-    expect(pass.enqueue_all(small).given == 2 && pass.dequeue_up_to(1).items.size() == 1, "items of a smaller type");
+    expect(handle.enqueue_all(small).given == 2 && handle.dequeue_up_to(1).items.size() == 1,
+           "items of a smaller type");
 
     (void)queue.close();
-    expect(refuses([&] { (void)pass.enqueue_all(small); }) && refuses([&] { (void)pass.dequeue_up_to(1, out); }),
-           "a pass of a queue that is closed");
+    expect(refuses([&] { (void)handle.enqueue_all(small); }) && refuses([&] { (void)handle.dequeue_up_to(1, out); }),
+           "a handle of a queue that is closed");
 }
 
 // An opening that throws nothing, and a value that has a handle of a queue of its own kind.
@@ -364,7 +365,7 @@ void openings() {
     expect(Values::try_open(1, 8, 1, {64, 64, 1}).status == KFIFO_BAD_RESERVE, "a reserve out of range");
     expect(Values::try_open(1, 8, 1, {64, 32, 0}).status == KFIFO_BAD_CALL, "no generation");
     auto items = kfifo::Queue::try_open(1, 8, 1);
-    expect(items.queue && items.queue->pass(0).enqueue(7) == kfifo::Put::done, "a queue of items");
+    expect(items.queue && items.queue->handle(0).enqueue(7) == kfifo::Put::done, "a queue of items");
     expect(!kfifo::Queue::try_open(1, 1, 1).queue && kfifo::Queue::try_open(1, 1, 1).status == KFIFO_BAD_SEGMENTS &&
                kfifo::Queue::try_open(1, 8, 0).status == KFIFO_BAD_THREADS &&
                kfifo::Queue::try_open(1, 8, 2, KFIFO_LAST, 1).status == KFIFO_BAD_PROBES,

@@ -32,7 +32,7 @@ int main() {
         for (int next = number + 1; next < 5; next++) more.give(next);
     });
     auto items = kfifo::Queue::try_open(1, 8, 1);
-    bool is_right = all == "onetwothree" && items.queue && items.queue->pass(0).enqueue(7) == kfifo::Put::done;
+    bool is_right = all == "onetwothree" && items.queue && items.queue->handle(0).enqueue(7) == kfifo::Put::done;
     is_right = is_right && report.done() == 8;
     std::puts(is_right ? "a program without exceptions opens a queue, and ends it"
                        : "a program without exceptions fails");
