@@ -105,11 +105,11 @@ class GivesMany {
 // How a call of many is made again that waits by these: before a wait it wakes the threads that wait for what it has
 // given, since they may make room.
 template <typename Calls> struct WakingFirst {
-    template <typename Call> kfifo_status operator()(const kfifo_handle *pass, Call call) const {
+    template <typename Call> kfifo_status operator()(const kfifo_handle *handle, Call call) const {
         kfifo_status status = call();
         if (!kfifo_may_retry(status)) return status;
         gives.wake();
-        return calls(pass, call);
+        return calls(handle, call);
     }
 
     GivesMany &gives;
@@ -297,23 +297,23 @@ auto ValueQueue<T>::Handle::give_all_until(Range &&range, const std::chrono::tim
 // The cell of the latest take of a call. The next one releases it, so that the last cell alone is released at the end.
 // One whose value could not be moved out is kept with it.
 template <typename T> struct ValueQueue<T>::Handle::LastCell {
-    explicit LastCell(Handle &by) : handle(by) {}
+    explicit LastCell(Handle &of) : by(of) {}
     LastCell(const LastCell &) = delete;
     LastCell &operator=(const LastCell &) = delete;
     ~LastCell() {
         if (has_value) {
-            handle.kept = cell;
-            (void)kfifo_after_take(KFIFO_WAITS(handle.pass), KFIFO_DONE);
+            by.kept = cell;
+            (void)kfifo_after_take(KFIFO_WAITS(by.handle), KFIFO_DONE);
         } else if (is_received) {
-            (void)kfifo_bare_release(handle.pass);
+            (void)kfifo_bare_release(by.handle);
         }
     }
 
     // Takes a value, if there is one: that of the cell that was kept, or one of the queue.
     template <typename Calls> kfifo_status take(Calls &&calls, kfifo_waits *waits) {
-        cell = std::exchange(handle.kept, kfifo_cell_at{});
+        cell = std::exchange(by.kept, kfifo_cell_at{});
         kfifo_status status = KFIFO_DONE;
-        if (!cell.block) status = calls(handle.pass, [&] { return handle.look(waits, &cell); });
+        if (!cell.block) status = calls(by.handle, [&] { return by.look(waits, &cell); });
         is_received = has_value = status == KFIFO_DONE;
         return status;
     }
@@ -326,7 +326,7 @@ template <typename T> struct ValueQueue<T>::Handle::LastCell {
         has_value = false;
     }
 
-    Handle &handle;
+    Handle &by;
     kfifo_cell_at cell{};
     bool is_received = false, has_value = false;
 };
@@ -336,7 +336,7 @@ template <typename T>
 template <typename Calls, typename Container>
 TookUpTo ValueQueue<T>::Handle::take_up_to_by(Calls calls, std::size_t most, Container &out) {
     detail::TakesMany takes(usable());
-    detail::InCall in_call(pass, "a take of kfifo::ValueQueue");
+    detail::InCall in_call(handle, "a take of kfifo::ValueQueue");
     LastCell last(*this);
     for (; takes.all.taken < most; takes.all.taken++) {
         kfifo_status status =
@@ -356,8 +356,8 @@ template <typename Calls>
 TakenValues<T> ValueQueue<T>::Handle::take_up_to_by(Calls calls, std::size_t most) {
     (void)usable();
     TakenValues<T> taken;
-    std::size_t room = state->passes.room;
-    most = most < state->passes.most() ? most : state->passes.most();
+    std::size_t room = state->handles.room;
+    most = most < state->handles.most() ? most : state->handles.most();
     taken.values.reserve(most < room ? most : room);
     KFIFO_TRY { taken.why = take_up_to_by(std::move(calls), most, taken.values).why; }
     KFIFO_CATCH {

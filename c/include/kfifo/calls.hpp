@@ -44,8 +44,8 @@ struct Once {
 
 // While it is busy.
 struct UnlessBusy {
-    template <typename Call> kfifo_status operator()(const kfifo_handle *pass, Call call) const {
-        KFIFO_UNLESS_BUSY(pass, call());
+    template <typename Call> kfifo_status operator()(const kfifo_handle *handle, Call call) const {
+        KFIFO_UNLESS_BUSY(handle, call());
     }
 };
 
@@ -79,10 +79,10 @@ template <typename Clock, typename Duration> class Until {
     Until(kfifo_waits *waits, std::uint32_t kind, const std::chrono::time_point<Clock, Duration> &time)
         : of(waits), which(kind), end(time) {}
 
-    template <typename Call> kfifo_status operator()(const kfifo_handle *pass, Call call) {
+    template <typename Call> kfifo_status operator()(const kfifo_handle *handle, Call call) {
         for (;;) {
             auto now = Clock::now();
-            kfifo_status status = Within(of, which, now < end ? nanoseconds_of(end - now) : 0)(pass, call);
+            kfifo_status status = Within(of, which, now < end ? nanoseconds_of(end - now) : 0)(handle, call);
             if (status != KFIFO_TIMED_OUT || Clock::now() >= end) return status;
         }
     }
@@ -97,11 +97,11 @@ template <typename Clock, typename Duration> class Until {
 class InCall {
   public:
 #ifdef KFIFO_DEBUG
-    InCall(kfifo_handle *by, const char *call) : pass(by) { kfifo_begin(pass, KFIFO_MARK_WRAPPER, call); }
-    ~InCall() { kfifo_end(pass, KFIFO_MARK_WRAPPER); }
+    InCall(kfifo_handle *by, const char *call) : handle(by) { kfifo_begin(handle, KFIFO_MARK_WRAPPER, call); }
+    ~InCall() { kfifo_end(handle, KFIFO_MARK_WRAPPER); }
 
   private:
-    kfifo_handle *pass;
+    kfifo_handle *handle;
 
   public:
 #else
@@ -114,26 +114,28 @@ class InCall {
 // ---- The calls with cells ----
 
 // Puts the cell that is reserved into the queue, and wakes a thread that waits for it.
-inline kfifo_status publish_cell(kfifo_handle *pass) {
-    KFIFO_LOOKING_GIVE(pass, KFIFO_FINISHED, kfifo_bare_publish(pass));
+inline kfifo_status publish_cell(kfifo_handle *handle) {
+    KFIFO_LOOKING_GIVE(handle, KFIFO_FINISHED, kfifo_bare_publish(handle));
 }
 
 // The same of one of many: where it is done it wakes nobody.
-inline kfifo_status publish_one(kfifo_handle *pass) { KFIFO_ONE_GIVE(KFIFO_WAITS(pass), kfifo_bare_publish(pass)); }
+inline kfifo_status publish_one(kfifo_handle *handle) {
+    KFIFO_ONE_GIVE(KFIFO_WAITS(handle), kfifo_bare_publish(handle));
+}
 
 // The handles of a queue of cells. They are closed where the opening did not come to DONE.
-struct CellPasses {
-    CellPasses(std::uint32_t k, std::uint32_t capacity, std::size_t threads, std::uint32_t size,
-               std::uint32_t alignment, const Options &options)
+struct CellHandles {
+    CellHandles(std::uint32_t k, std::uint32_t capacity, std::size_t threads, std::uint32_t size,
+                std::uint32_t alignment, const Options &options)
         : all(kfifo_at_most_one_over(threads)), room(capacity), generations(options.grows), status(KFIFO_BAD_THREADS) {
         if (all.empty()) return;
         status = kfifo_open_cells_with(k, capacity, size, alignment, options.last, options.reserve, options.grows,
                                        all.data(), all.size());
     }
     // The handles stay where they are.
-    CellPasses(CellPasses &&) noexcept = default;
-    CellPasses &operator=(CellPasses &&) = delete;
-    ~CellPasses() {
+    CellHandles(CellHandles &&) noexcept = default;
+    CellHandles &operator=(CellHandles &&) = delete;
+    ~CellHandles() {
         if (!all.empty()) (void)kfifo_abandon(all.data(), all.size());
     }
 

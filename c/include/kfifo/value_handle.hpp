@@ -30,10 +30,10 @@ namespace kfifo {
 // room.
 template <typename T> class ValueQueue<T>::Handle {
   public:
-    Handle(Handle &&other) noexcept : state(std::move(other.state)), pass(other.pass), kept(other.kept) {}
+    Handle(Handle &&other) noexcept : state(std::move(other.state)), handle(other.handle), kept(other.kept) {}
     Handle &operator=(Handle &&other) noexcept {
         std::swap(state, other.state);
-        std::swap(pass, other.pass);
+        std::swap(handle, other.handle);
         std::swap(kept, other.kept);
         return *this;
     }
@@ -41,9 +41,9 @@ template <typename T> class ValueQueue<T>::Handle {
     Handle &operator=(const Handle &) = delete;
     ~Handle() {
         if (!state) return;
-        { detail::InCall in_call(pass, "the end of a kfifo::ValueQueue::Handle"); }
+        { detail::InCall in_call(handle, "the end of a kfifo::ValueQueue::Handle"); }
         state->kept[which()] = kept;
-        state->return_pass(which());
+        state->return_handle(which());
         kfifo_caller_goes(state->waits());
     }
 
@@ -282,8 +282,8 @@ template <typename T> class ValueQueue<T>::Handle {
     //     std::size_t backlog = taker.len();
     [[nodiscard]] std::size_t len() {
         (void)usable();
-        detail::InCall in_call(pass, "len of kfifo::ValueQueue");
-        return kfifo_len(pass);
+        detail::InCall in_call(handle, "len of kfifo::ValueQueue");
+        return kfifo_len(handle);
     }
 
     // Whether len() is 0.
@@ -301,15 +301,15 @@ template <typename T> class ValueQueue<T>::Handle {
   private:
     friend class ValueQueue;
     Handle(std::shared_ptr<State> of, std::size_t number)
-        : state(std::move(of)), pass(&state->passes.all[number]), kept(state->kept[number]) {
+        : state(std::move(of)), handle(&state->handles.all[number]), kept(state->kept[number]) {
         kfifo_caller_comes(state->waits());
     }
 
-    std::size_t which() const { return std::size_t(pass - state->passes.all.data()); }
+    std::size_t which() const { return std::size_t(handle - state->handles.all.data()); }
 
     kfifo_waits *usable() const {
         if (!state) detail::raise(Error(KFIFO_BAD_CALL, "the handle was moved from"));
-        return KFIFO_WAITS(pass);
+        return KFIFO_WAITS(handle);
     }
 
     detail::Within within(std::uint32_t kind, std::uint64_t nanoseconds) const {
@@ -325,12 +325,12 @@ template <typename T> class ValueQueue<T>::Handle {
     // The cell that a give has reserved. Where the give comes to nothing, also by an exception, this destroys what
     // is left of the value, and gives the cell back: no other handle can have one that stays reserved.
     struct Reserved {
-        explicit Reserved(Handle &by) : handle(by) {}
+        explicit Reserved(Handle &of) : by(of) {}
         Reserved(const Reserved &) = delete;
         ~Reserved() {
             if (cell.block) give_back();
         }
-        kfifo_status reserve() { return kfifo_bare_reserve(handle.pass, &cell); }
+        kfifo_status reserve() { return kfifo_bare_reserve(by.handle, &cell); }
         template <typename... Arguments> void make(Arguments &&...arguments) {
             ::new (detail::place_in<T>(cell)) T(std::forward<Arguments>(arguments)...);
             is_made = true;
@@ -340,12 +340,12 @@ template <typename T> class ValueQueue<T>::Handle {
             if (is_made) value().~T();
             is_made = false;
             cell.block = nullptr;
-            (void)kfifo_bare_cancel(handle.pass);
+            (void)kfifo_bare_cancel(by.handle);
         }
         // Once it is published another thread may have the cell.
         void is_published() { cell.block = nullptr; }
 
-        Handle &handle;
+        Handle &by;
         kfifo_cell_at cell{};
         bool is_made = false;
     };
@@ -355,12 +355,12 @@ template <typename T> class ValueQueue<T>::Handle {
               typename Back>
     Put put(Calls calls, Make make, Back back) {
         (void)usable();
-        detail::InCall in_call(pass, "a give of kfifo::ValueQueue");
+        detail::InCall in_call(handle, "a give of kfifo::ValueQueue");
         Reserved reserved(*this);
-        kfifo_status status = calls(pass, [&] { return reserved.reserve(); });
+        kfifo_status status = calls(handle, [&] { return reserved.reserve(); });
         if (status != KFIFO_DONE) return detail::given(status);
         make(reserved);
-        status = calls(pass, [&] { return publish(pass); });
+        status = calls(handle, [&] { return publish(handle); });
         if (__builtin_expect(status == KFIFO_WORN, 0)) status = put_on<publish>(calls, reserved, back);
         if (status == KFIFO_DONE)
             reserved.is_published();
@@ -379,10 +379,10 @@ template <typename T> class ValueQueue<T>::Handle {
             worn = reserved.cell.block;
             std::optional<T> carried(std::in_place, std::move_if_noexcept(reserved.value()));
             reserved.give_back();
-            status = calls(pass, [&] { return reserved.reserve(); });
+            status = calls(handle, [&] { return reserved.reserve(); });
             if (status == KFIFO_DONE) {
                 reserved.make(std::move_if_noexcept(*carried));
-                status = calls(pass, [&] { return publish(pass); });
+                status = calls(handle, [&] { return publish(handle); });
             } else {
                 back(*carried);
             }
@@ -409,36 +409,36 @@ template <typename T> class ValueQueue<T>::Handle {
     // the value could not be moved out. Either looks for givers that wait: before the release the look would miss
     // one that then finds no room.
     struct Received {
-        Received(Handle &of, const kfifo_cell_at &what) : handle(of), cell(what) {}
+        Received(Handle &of, const kfifo_cell_at &what) : by(of), cell(what) {}
         Received(const Received &) = delete;
         ~Received() {
             if (!is_out) {
-                handle.kept = cell;
-                (void)kfifo_after_take(KFIFO_WAITS(handle.pass), KFIFO_DONE);
+                by.kept = cell;
+                (void)kfifo_after_take(KFIFO_WAITS(by.handle), KFIFO_DONE);
                 return;
             }
-            handle.kept.block = nullptr;
+            by.kept.block = nullptr;
             detail::value_in<T>(cell).~T();
-            (void)kfifo_bare_release(handle.pass);
+            (void)kfifo_bare_release(by.handle);
         }
         // The value is moved out.
         Miss out() {
             is_out = true;
             return Miss::empty;
         }
-        Handle &handle;
+        Handle &by;
         kfifo_cell_at cell;
         bool is_out = false;
     };
 
     // Receives a cell. Where it gets none, it wakes a thread that waits for room: else Received does so.
     kfifo_status look(kfifo_waits *waits, kfifo_cell_at *cell) {
-        kfifo_status status = kfifo_bare_receive(pass, cell);
+        kfifo_status status = kfifo_bare_receive(handle, cell);
         if (status == KFIFO_DONE) return status;
         (void)kfifo_after_take(waits, status);
         if (status != KFIFO_EMPTY || !kfifo_is_finished(waits)) return status;
         // A value may have come between the look and the end.
-        status = kfifo_bare_receive(pass, cell);
+        status = kfifo_bare_receive(handle, cell);
         if (status == KFIFO_DONE) return status;
         (void)kfifo_after_take(waits, status);
         return status == KFIFO_EMPTY ? KFIFO_FINISHED : status;
@@ -448,10 +448,10 @@ template <typename T> class ValueQueue<T>::Handle {
     // made where the caller wants it, since a move on the way could throw when the value's cell is gone.
     template <typename Calls, typename Use, typename None> auto receive(Calls calls, Use use, None none) {
         kfifo_waits *waits = usable();
-        detail::InCall in_call(pass, "a take of kfifo::ValueQueue");
+        detail::InCall in_call(handle, "a take of kfifo::ValueQueue");
         kfifo_cell_at cell = kept;
         if (!cell.block) {
-            kfifo_status status = calls(pass, [&] { return look(waits, &cell); });
+            kfifo_status status = calls(handle, [&] { return look(waits, &cell); });
             if (status != KFIFO_DONE) return none(static_cast<Miss>(detail::checked(status)));
         }
         Received received(*this, cell);
@@ -477,8 +477,8 @@ template <typename T> class ValueQueue<T>::Handle {
     template <typename Calls> TakenValues<T> take_up_to_by(Calls calls, std::size_t most);
 
     std::shared_ptr<State> state;
-    kfifo_handle *pass; // of the state
-    kfifo_cell_at kept; // the cell whose value a take could not move out, or none
+    kfifo_handle *handle; // of the state
+    kfifo_cell_at kept;   // the cell whose value a take could not move out, or none
 };
 
 // What comes out of a queue until its end, as a range, in C++20 a view: handle.values() | std::views::take(3). One

@@ -56,8 +56,8 @@ template <typename T> class ValueQueue {
         static_assert(alignof(T) <= 4096 && sizeof(T) <= UINT32_MAX,
                       "a cell has 4,294,967,295 bytes at most, aligned to 4,096");
 
-        explicit State(detail::CellPasses of)
-            : passes(std::move(of)), free_passes(all_passes()), kept(passes.all.size()) {
+        explicit State(detail::CellHandles of)
+            : handles(std::move(of)), free_handles(all_handles()), kept(handles.all.size()) {
             kfifo_callers_are(waits(), 1); // the queue object
         }
         ~State() {
@@ -65,34 +65,34 @@ template <typename T> class ValueQueue {
             kfifo_free_left(&closed);
         }
 
-        kfifo_waits *waits() const { return KFIFO_WAITS(&passes.all[0]); }
+        kfifo_waits *waits() const { return KFIFO_WAITS(&handles.all[0]); }
         State(const State &) = delete;
         State &operator=(const State &) = delete;
 
-        // A bit for each pass, of which there are 1 to 64.
-        std::uint64_t all_passes() const { return ~std::uint64_t(0) >> (64 - passes.all.size()); }
+        // A bit for each handle of the library, of which there are 1 to 64.
+        std::uint64_t all_handles() const { return ~std::uint64_t(0) >> (64 - handles.all.size()); }
 
-        // The number of a pass that nobody has, which is then in a Handle; none where each is in one. All are in one
-        // word, so that none comes only where each was in a Handle at one moment. A step fails only where another
-        // thread's step took that pass: some thread goes on.
-        std::optional<std::size_t> borrow_pass() {
-            std::uint64_t free = free_passes.load(std::memory_order_relaxed);
+        // The number of one that nobody has, which is then in a Handle; none where each is in one. All are in one word,
+        // so that none comes only where each was in a Handle at one moment. A step fails only where another thread's
+        // step took that one: some thread goes on.
+        std::optional<std::size_t> borrow_handle() {
+            std::uint64_t free = free_handles.load(std::memory_order_relaxed);
             while (free != 0) {
                 std::uint64_t lowest = free & (~free + 1);
-                free = free_passes.fetch_and(~lowest, std::memory_order_acquire);
+                free = free_handles.fetch_and(~lowest, std::memory_order_acquire);
                 if (free & lowest) return static_cast<std::size_t>(__builtin_ctzll(lowest));
             }
             return std::nullopt;
         }
 
-        // Release here and acquire in borrow_pass suffice: all steps that the pass made come before those that it makes
-        // next, also in the one order of all sequentially consistent steps.
-        void return_pass(std::size_t number) {
-            free_passes.fetch_or(std::uint64_t(1) << number, std::memory_order_release);
+        // Release here and acquire in borrow_handle suffice: all steps that the handle made come before those that it
+        // makes next, also in the one order of all sequentially consistent steps.
+        void return_handle(std::size_t number) {
+            free_handles.fetch_or(std::uint64_t(1) << number, std::memory_order_release);
         }
 
         // Whether no handle is out. Then all calls that were made have ended.
-        bool is_idle() const { return free_passes.load(std::memory_order_acquire) == all_passes(); }
+        bool is_idle() const { return free_handles.load(std::memory_order_acquire) == all_handles(); }
 
         // Hands each value that is left to `use`, in the queue's order, and destroys it then. No handle is out. Where
         // `use` throws, the next call goes on with that value. Where a take comes to WORN, the library closes the
@@ -116,11 +116,11 @@ template <typename T> class ValueQueue {
 
         // The next cell with a value: also EMPTY, where there is none.
         kfifo_status next() {
-            if (KFIFO_WAITS(&passes.all[0])) {
-                kfifo_status status =
-                    detail::UnlessBusy()(&passes.all[0], [&] { return kfifo_bare_receive(&passes.all[0], &kept[0]); });
+            if (KFIFO_WAITS(&handles.all[0])) {
+                kfifo_status status = detail::UnlessBusy()(
+                    &handles.all[0], [&] { return kfifo_bare_receive(&handles.all[0], &kept[0]); });
                 if (status != KFIFO_WORN) return status;
-                status = kfifo_close_cells(passes.all.data(), passes.all.size(), &closed);
+                status = kfifo_close_cells(handles.all.data(), handles.all.size(), &closed);
                 if (status != KFIFO_DONE) return status;
             }
             if (!closed.holds) return KFIFO_EMPTY; // they were lost
@@ -134,9 +134,9 @@ template <typename T> class ValueQueue {
             if (status != KFIFO_EMPTY) (void)detail::checked(status);
         }
 
-        detail::CellPasses passes;
-        std::atomic<std::uint64_t> free_passes; // a bit for each pass that is in no Handle
-        std::vector<kfifo_cell_at> kept; // by pass that is in none: the cell whose value a take could not move out
+        detail::CellHandles handles;
+        std::atomic<std::uint64_t> free_handles; // a bit for each that is in no Handle
+        std::vector<kfifo_cell_at> kept; // by handle that is in none: the cell whose value a take could not move out
         bool is_closed = false;
         kfifo_left closed{};
         std::vector<T> left;
@@ -198,9 +198,9 @@ template <typename T> class ValueQueue {
                                        Options options = Options()) {
         kfifo_status status = KFIFO_NO_MEMORY;
         KFIFO_TRY {
-            detail::CellPasses passes = cells_of(k, capacity, threads, options);
-            if (passes.status == KFIFO_DONE) return {ValueQueue(std::move(passes)), KFIFO_DONE};
-            status = passes.status;
+            detail::CellHandles handles = cells_of(k, capacity, threads, options);
+            if (handles.status == KFIFO_DONE) return {ValueQueue(std::move(handles)), KFIFO_DONE};
+            status = handles.status;
         }
         KFIFO_CATCH {}
         return {std::nullopt, status};
@@ -227,7 +227,7 @@ template <typename T> class ValueQueue {
     //     auto giver = queue.handle(), taker = queue.handle();
     [[nodiscard]] Handle handle() {
         if (usable().is_closed) detail::raise(Error(KFIFO_BAD_CALL, "the queue is closed"));
-        std::optional<std::size_t> number = state->borrow_pass();
+        std::optional<std::size_t> number = state->borrow_handle();
         if (!number) detail::raise(Error(KFIFO_BAD_CALL, "each handle of the queue is in use"));
         return Handle(state, *number);
     }
@@ -248,7 +248,7 @@ template <typename T> class ValueQueue {
     // Cost: a read.
     //
     //     std::uint32_t capacity = queue.capacity();
-    [[nodiscard]] std::uint32_t capacity() const { return usable().passes.room; }
+    [[nodiscard]] std::uint32_t capacity() const { return usable().handles.room; }
 
     // Closes the queue and gives back the values that are left, in its order. Throws Error, and nothing changes, where
     // a handle is still out. Throws std::bad_alloc where there is no memory for the vector: no value is lost then. The
@@ -271,21 +271,21 @@ template <typename T> class ValueQueue {
     }
 
   private:
-    explicit ValueQueue(detail::CellPasses passes) : state(std::make_shared<State>(std::move(passes))) {}
+    explicit ValueQueue(detail::CellHandles handles) : state(std::make_shared<State>(std::move(handles))) {}
 
-    static detail::CellPasses cells_of(std::uint32_t k, std::uint32_t capacity, std::size_t threads,
-                                       const Options &options) {
+    static detail::CellHandles cells_of(std::uint32_t k, std::uint32_t capacity, std::size_t threads,
+                                        const Options &options) {
         return {k, capacity, threads, std::uint32_t(sizeof(T)), std::uint32_t(alignof(T)), options};
     }
 
-    static detail::CellPasses open(std::uint32_t k, std::uint32_t capacity, std::size_t threads,
-                                   const Options &options) {
-        detail::CellPasses passes = cells_of(k, capacity, threads, options);
+    static detail::CellHandles open(std::uint32_t k, std::uint32_t capacity, std::size_t threads,
+                                    const Options &options) {
+        detail::CellHandles handles = cells_of(k, capacity, threads, options);
         // The handles are there, so this is the one argument that is left.
-        if (passes.status == KFIFO_BAD_CALL)
+        if (handles.status == KFIFO_BAD_CALL)
             detail::raise(Error(KFIFO_BAD_CALL, "the queue may not grow to so many generations"));
-        detail::checked(passes.status);
-        return passes;
+        detail::checked(handles.status);
+        return handles;
     }
 
     State &usable() const {
