@@ -24,56 +24,56 @@ std::uint32_t capacity(std::uint32_t k, std::uint32_t segments) {
 // Each kind gives the numbers from `first` on, as many as it says or as there is room for, and takes such. One at once
 // is a single call.
 struct ValuesInC {
-    std::vector<kfifo_handle> passes;
+    std::vector<kfifo_handle> handles;
     std::array<std::array<std::uint64_t, 64>, 2> batches{};
 
-    ValuesInC(std::uint32_t k, std::uint32_t segments) : passes(2) {
-        if (kfifo_open_values(k, capacity(k, segments), passes.data(), 2) != KFIFO_DONE) std::abort();
+    ValuesInC(std::uint32_t k, std::uint32_t segments) : handles(2) {
+        if (kfifo_open_values(k, capacity(k, segments), handles.data(), 2) != KFIFO_DONE) std::abort();
     }
-    ~ValuesInC() { (void)kfifo_abandon(passes.data(), 2); }
+    ~ValuesInC() { (void)kfifo_abandon(handles.data(), 2); }
     std::size_t give(std::size_t most, std::uint32_t first) {
         auto &batch = batches[0];
-        if (most == 1) return kfifo_give(&passes[0], first) == KFIFO_DONE;
+        if (most == 1) return kfifo_give(&handles[0], first) == KFIFO_DONE;
         for (std::size_t i = 0; i < most; i++) batch[i] = first + i;
         std::size_t given = 0;
-        (void)kfifo_give_all(&passes[0], batch.data(), most, &given);
+        (void)kfifo_give_all(&handles[0], batch.data(), most, &given);
         return given;
     }
     std::size_t take(std::size_t most, std::uint64_t &sum) {
         auto &batch = batches[1];
         std::size_t taken = 0;
         if (most == 1)
-            taken = kfifo_take(&passes[1], batch.data()) == KFIFO_DONE;
+            taken = kfifo_take(&handles[1], batch.data()) == KFIFO_DONE;
         else
-            (void)kfifo_take_up_to(&passes[1], batch.data(), most, &taken);
+            (void)kfifo_take_up_to(&handles[1], batch.data(), most, &taken);
         for (std::size_t i = 0; i < taken; i++) sum += batch[i];
         return taken;
     }
 };
 
 struct ItemsInC {
-    std::vector<kfifo_handle> passes;
+    std::vector<kfifo_handle> handles;
     std::array<std::array<std::uint32_t, 64>, 2> batches{};
 
-    ItemsInC(std::uint32_t k, std::uint32_t segments) : passes(2) {
-        if (kfifo_open(k, segments, k, KFIFO_LAST, passes.data(), 2) != KFIFO_DONE) std::abort();
+    ItemsInC(std::uint32_t k, std::uint32_t segments) : handles(2) {
+        if (kfifo_open(k, segments, k, KFIFO_LAST, handles.data(), 2) != KFIFO_DONE) std::abort();
     }
-    ~ItemsInC() { (void)kfifo_abandon(passes.data(), 2); }
+    ~ItemsInC() { (void)kfifo_abandon(handles.data(), 2); }
     std::size_t give(std::size_t most, std::uint32_t first) {
         auto &batch = batches[0];
-        if (most == 1) return kfifo_put(&passes[0], first) == KFIFO_DONE;
+        if (most == 1) return kfifo_put(&handles[0], first) == KFIFO_DONE;
         for (std::size_t i = 0; i < most; i++) batch[i] = first + std::uint32_t(i);
         std::size_t put = 0;
-        (void)kfifo_put_all(&passes[0], batch.data(), most, &put);
+        (void)kfifo_put_all(&handles[0], batch.data(), most, &put);
         return put;
     }
     std::size_t take(std::size_t most, std::uint64_t &sum) {
         auto &batch = batches[1];
         std::size_t got = 0;
         if (most == 1)
-            got = kfifo_get(&passes[1], batch.data()) == KFIFO_DONE;
+            got = kfifo_get(&handles[1], batch.data()) == KFIFO_DONE;
         else
-            (void)kfifo_get_up_to(&passes[1], batch.data(), most, &got);
+            (void)kfifo_get_up_to(&handles[1], batch.data(), most, &got);
         for (std::size_t i = 0; i < got; i++) sum += batch[i];
         return got;
     }

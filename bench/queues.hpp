@@ -299,33 +299,33 @@ template <std::size_t count> struct KfifoValues {
 // the exports, which do not.
 template <bool of_items, bool looks> struct KfifoInC {
     using Attached = NothingAttached;
-    std::vector<kfifo_handle> passes;
+    std::vector<kfifo_handle> handles;
 
-    KfifoInC(std::uint32_t k, std::size_t capacity, std::size_t threads) : passes(threads) {
+    KfifoInC(std::uint32_t k, std::size_t capacity, std::size_t threads) : handles(threads) {
         auto room = std::uint32_t(capacity);
         kfifo_status status;
         if constexpr (of_items)
-            status = kfifo_open(k, room / k, k, KFIFO_LAST, passes.data(), threads);
+            status = kfifo_open(k, room / k, k, KFIFO_LAST, handles.data(), threads);
         else
-            status = kfifo_open_values(k, room, passes.data(), threads);
+            status = kfifo_open_values(k, room, handles.data(), threads);
         if (status != KFIFO_DONE) throw std::runtime_error(kfifo_status_text(status));
     }
-    ~KfifoInC() { (void)kfifo_abandon(passes.data(), passes.size()); }
+    ~KfifoInC() { (void)kfifo_abandon(handles.data(), handles.size()); }
     bool push(std::size_t thread, std::uint32_t item) {
-        kfifo_handle *pass = &passes[thread];
+        kfifo_handle *handle = &handles[thread];
         if constexpr (of_items)
-            return (looks ? kfifo_put(pass, item) : kfifo_status(kfifo_c_put(pass, item))) == KFIFO_DONE;
+            return (looks ? kfifo_put(handle, item) : kfifo_status(kfifo_c_put(handle, item))) == KFIFO_DONE;
         else
-            return (looks ? kfifo_give(pass, item) : kfifo_status(kfifo_c_give(pass, item))) == KFIFO_DONE;
+            return (looks ? kfifo_give(handle, item) : kfifo_status(kfifo_c_give(handle, item))) == KFIFO_DONE;
     }
     std::uint32_t pop(std::size_t thread) {
-        kfifo_handle *pass = &passes[thread];
+        kfifo_handle *handle = &handles[thread];
         Value value = 0;
         kfifo_status status;
         if constexpr (of_items)
-            status = looks ? kfifo_get(pass, &value) : kfifo_taken(kfifo_c_get(pass, &value));
+            status = looks ? kfifo_get(handle, &value) : kfifo_taken(kfifo_c_get(handle, &value));
         else
-            status = looks ? kfifo_take(pass, &value) : kfifo_taken(kfifo_c_take(pass, &value));
+            status = looks ? kfifo_take(handle, &value) : kfifo_taken(kfifo_c_take(handle, &value));
         return status == KFIFO_DONE ? std::uint32_t(value) : 0;
     }
 

@@ -119,40 +119,40 @@ constexpr unsigned CALLS = 2000;
 
 struct OfValues {
     static kfifo_status open(std::uint32_t k, std::uint32_t capacity, std::uint64_t last, std::uint64_t reserve,
-                             kfifo_handle *passes, unsigned threads) {
-        return kfifo_open_values_with(k, capacity, last, reserve, 1, passes, threads);
+                             kfifo_handle *handles, unsigned threads) {
+        return kfifo_open_values_with(k, capacity, last, reserve, 1, handles, threads);
     }
-    static kfifo_status give(kfifo_handle *pass, std::uint32_t value) { return kfifo_give(pass, value); }
-    static kfifo_status take(kfifo_handle *pass, std::uint64_t *value) { return kfifo_take(pass, value); }
+    static kfifo_status give(kfifo_handle *handle, std::uint32_t value) { return kfifo_give(handle, value); }
+    static kfifo_status take(kfifo_handle *handle, std::uint64_t *value) { return kfifo_take(handle, value); }
 };
 
 struct OfCells {
     static kfifo_status open(std::uint32_t k, std::uint32_t capacity, std::uint64_t last, std::uint64_t reserve,
-                             kfifo_handle *passes, unsigned threads) {
+                             kfifo_handle *handles, unsigned threads) {
         return kfifo_open_cells_with(k, capacity, sizeof(std::uint64_t), alignof(std::uint64_t), last, reserve, 1,
-                                     passes, threads);
+                                     handles, threads);
     }
 
     // Where the generation of a cell takes no more, the value goes into a cell of the next one.
-    static kfifo_status give(kfifo_handle *pass, std::uint32_t value) {
+    static kfifo_status give(kfifo_handle *handle, std::uint32_t value) {
         kfifo_status status = KFIFO_WORN;
         for (int tries = 0; tries < 2 && status == KFIFO_WORN; tries++) {
             void *cell = nullptr;
-            status = kfifo_reserve(pass, &cell);
+            status = kfifo_reserve(handle, &cell);
             if (status != KFIFO_DONE) return status;
             *static_cast<std::uint64_t *>(cell) = value;
-            status = kfifo_publish(pass);
-            if (status != KFIFO_DONE && kfifo_cancel(pass) != KFIFO_DONE) return KFIFO_BAD_CALL;
+            status = kfifo_publish(handle);
+            if (status != KFIFO_DONE && kfifo_cancel(handle) != KFIFO_DONE) return KFIFO_BAD_CALL;
         }
         return status;
     }
 
-    static kfifo_status take(kfifo_handle *pass, std::uint64_t *value) {
+    static kfifo_status take(kfifo_handle *handle, std::uint64_t *value) {
         void *cell = nullptr;
-        const kfifo_status status = kfifo_receive(pass, &cell);
+        const kfifo_status status = kfifo_receive(handle, &cell);
         if (status != KFIFO_DONE) return status;
         *value = std::exchange(*static_cast<std::uint64_t *>(cell), 0);
-        return kfifo_release(pass) == KFIFO_DONE ? status : KFIFO_BAD_CALL;
+        return kfifo_release(handle) == KFIFO_DONE ? status : KFIFO_BAD_CALL;
     }
 };
 
@@ -171,26 +171,26 @@ kfifo::Answer answer_of(kfifo_status status, kfifo::Answer done) {
 // empty a generation, and for what all threads do before they find the next one.
 template <class Kind> class Changing {
   public:
-    Changing(std::uint32_t k, std::uint32_t capacity, unsigned threads) : passes(threads) {
+    Changing(std::uint32_t k, std::uint32_t capacity, unsigned threads) : handles(threads) {
         const std::uint64_t reserve = (64 * threads + 4 * capacity) / k + 16 * threads, last = 2 * reserve;
-        if (Kind::open(k, capacity, last, reserve, passes.data(), threads) != KFIFO_DONE) throw std::bad_alloc();
+        if (Kind::open(k, capacity, last, reserve, handles.data(), threads) != KFIFO_DONE) throw std::bad_alloc();
         // At most k values go in or out with each version of the ends.
         share = 1 / (double(k) * double(last));
         used().queues++;
     }
     Changing(Changing &&) noexcept = default;
     ~Changing() {
-        if (!passes.empty() && kfifo_abandon(passes.data(), passes.size()) != KFIFO_DONE) std::abort();
+        if (!handles.empty() && kfifo_abandon(handles.data(), handles.size()) != KFIFO_DONE) std::abort();
     }
 
     kfifo::Answer give(unsigned thread, std::uint32_t item) {
-        return counted(thread, answer_of(Kind::give(&passes[thread], item), kfifo::Answer::done));
+        return counted(thread, answer_of(Kind::give(&handles[thread], item), kfifo::Answer::done));
     }
 
     kfifo::Got take(unsigned thread) {
         std::uint64_t value = 0;
         const kfifo::Answer answer =
-            counted(thread, answer_of(Kind::take(&passes[thread], &value), kfifo::Answer::got));
+            counted(thread, answer_of(Kind::take(&handles[thread], &value), kfifo::Answer::got));
         return {answer, value};
     }
 
@@ -200,7 +200,7 @@ template <class Kind> class Changing {
         return answer;
     }
 
-    std::vector<kfifo_handle> passes;
+    std::vector<kfifo_handle> handles;
     double share = 0; // of the versions of a generation, for each value that goes in or out
 };
 

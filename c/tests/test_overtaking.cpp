@@ -93,12 +93,12 @@ constexpr bool CAN_STEP = false;
 void at_instruction(int, siginfo_t *, void *) {}
 #endif
 
-void make(Call &call, kfifo_handle *pass) {
+void make(Call &call, kfifo_handle *handle) {
     std::uint64_t before = requests;
     stepped = &call;
     call.begins = now++;
     if (call.steps > 0) std::raise(SIGTRAP);
-    call.status = call.is_give ? kfifo_give(pass, call.value) : kfifo_take(pass, &call.value);
+    call.status = call.is_give ? kfifo_give(handle, call.value) : kfifo_take(handle, &call.value);
     stepped = nullptr;
     call.ends = now++;
     call.requests = requests - before;
@@ -152,25 +152,25 @@ bool overtakes(const Value &one, const Value &other) {
 // A queue whose generations have few versions, or one that grows, and the values that the test follows.
 class Run {
   public:
-    Run(std::uint32_t k, std::uint32_t handles) : passes(handles), values(1), last(64 * handles) {
-        expect(kfifo_open_values_with(k, 8, last, last / 2, 1, passes.data(), handles), KFIFO_DONE, "open");
+    Run(std::uint32_t k, std::uint32_t handles) : all(handles), values(1), last(64 * handles) {
+        expect(kfifo_open_values_with(k, 8, last, last / 2, 1, all.data(), handles), KFIFO_DONE, "open");
     }
     // It has up to so many generations, and each has versions enough.
     struct Grows {
         std::uint32_t generations;
     };
-    Run(std::uint32_t k, std::uint32_t handles, Grows grows) : passes(handles), values(1), last(KFIFO_LAST) {
-        expect(kfifo_open_values_with(k, 8, last, KFIFO_RESERVE, grows.generations, passes.data(), handles), KFIFO_DONE,
+    Run(std::uint32_t k, std::uint32_t handles, Grows grows) : all(handles), values(1), last(KFIFO_LAST) {
+        expect(kfifo_open_values_with(k, 8, last, KFIFO_RESERVE, grows.generations, all.data(), handles), KFIFO_DONE,
                "open");
     }
-    ~Run() { expect(kfifo_abandon(passes.data(), passes.size()), KFIFO_DONE, "abandon"); }
+    ~Run() { expect(kfifo_abandon(all.data(), all.size()), KFIFO_DONE, "abandon"); }
 
     // A call by this handle begins in a thread of its own, and stops after that many instructions, or ends before.
     std::unique_ptr<Call> begin(std::uint32_t handle, bool is_give, long steps) {
         auto call = std::make_unique<Call>();
         prepare(*call, handle, is_give);
         call->steps = steps;
-        call->thread = std::thread([&made = *call, pass = &passes[handle]] { make(made, pass); });
+        call->thread = std::thread([&made = *call, by = &all[handle]] { make(made, by); });
         wait_for(call->is_there);
         return call;
     }
@@ -187,9 +187,9 @@ class Run {
 
     // Gives a value that is not followed, and takes one.
     void pair(std::uint32_t handle) {
-        expect(kfifo_give(&passes[handle], 0), KFIFO_DONE, "a give before a take");
+        expect(kfifo_give(&all[handle], 0), KFIFO_DONE, "a give before a take");
         std::uint64_t value = 0, begins = now++;
-        expect(kfifo_take(&passes[handle], &value), KFIFO_DONE, "a take after a give");
+        expect(kfifo_take(&all[handle], &value), KFIFO_DONE, "a take after a give");
         note_take(value, handle, begins, now++);
     }
 
@@ -260,7 +260,7 @@ class Run {
     kfifo_status call(std::uint32_t handle, bool is_give) {
         Call made;
         prepare(made, handle, is_give);
-        make(made, &passes[handle]);
+        make(made, &all[handle]);
         note(made);
         return made.status;
     }
@@ -287,7 +287,7 @@ class Run {
         }
     }
 
-    std::vector<kfifo_handle> passes;
+    std::vector<kfifo_handle> all;
     std::vector<Value> values; // by their numbers, from 1 on; 0 is that of those that are not followed
     std::vector<kfifo_judge_call> log;
     std::uint64_t last;

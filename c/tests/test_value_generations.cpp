@@ -119,9 +119,9 @@ void does_not_renew() {
     expect(left.size() == given - taken && Parcel::alive == long(left.size()), "what is left of a worn queue");
 }
 
-// A handle that is destroyed goes back to the queue: its pass stays in the generation of its last call, as that of a
-// thread that makes no calls, and whoever asks for a handle next goes on with it. So at whatever moment of a change
-// that is, what the handle gave comes out in order, and so does what it gives when it is in use again.
+// A handle that is destroyed goes back to the queue. It stays in the generation of its last call, as that of a thread
+// that makes no calls, and whoever asks for a handle next goes on with it. So at whatever moment of a change that is,
+// what the handle gave comes out in order, and so does what it gives when it is in use again.
 void handles_that_go() {
     for (std::uint64_t moment = 0; moment < 150; moment++) {
         Parcels queue = few_versions(1, 8, 2, 64);

@@ -54,11 +54,11 @@ __attribute__((noinline)) void operator delete(void *block, std::size_t, std::al
 
 // The linker hands the library's closes to this function.
 extern "C" {
-std::uint32_t __real_kfifo_c_close_cells(kfifo_handle *passes, std::size_t threads, kfifo_left *left);
+std::uint32_t __real_kfifo_c_close_cells(kfifo_handle *handles, std::size_t threads, kfifo_left *left);
 
-std::uint32_t __wrap_kfifo_c_close_cells(kfifo_handle *passes, std::size_t threads, kfifo_left *left) {
+std::uint32_t __wrap_kfifo_c_close_cells(kfifo_handle *handles, std::size_t threads, kfifo_left *left) {
     if (closes == KFIFO_NO_MEMORY) return closes;
-    std::uint32_t status = __real_kfifo_c_close_cells(passes, threads, left);
+    std::uint32_t status = __real_kfifo_c_close_cells(handles, threads, left);
     if (closes == KFIFO_DONE) return status;
     kfifo_cell_at cell{};
     while (kfifo_c_next_left(left, &cell) == KFIFO_DONE) loses(cell);
