@@ -98,7 +98,7 @@ impl Waiter {
 
 /// A handle of a queue of cells, or of values: `kfifo_handle`. All bytes 0 is a closed one.
 #[repr(C)]
-pub(crate) struct Pass {
+pub(crate) struct Handle {
     inside: *mut c_void,
     address: *mut c_void,
     starts: u32,
@@ -108,11 +108,11 @@ pub(crate) struct Pass {
     alignment: u32,
 }
 
-const _: () = assert!(size_of::<Pass>() == 40);
+const _: () = assert!(size_of::<Handle>() == 40);
 
-impl Pass {
-    pub(crate) const fn closed() -> Pass {
-        Pass {
+impl Handle {
+    pub(crate) const fn closed() -> Handle {
+        Handle {
             inside: std::ptr::null_mut(),
             address: std::ptr::null_mut(),
             starts: 0,
@@ -162,35 +162,35 @@ impl LeftCells {
 /// looks at none.
 pub(crate) type Value = MaybeUninit<u64>;
 
-// What the library promises, and has proved, of the calls by a pass of cells:
+// What the library promises, and has proved, of the calls by a handle of cells:
 //
-// - `open_cells`: DONE opens the passes, of a queue with room for `capacity` values. A cell has `size` bytes. It
+// - `open_cells`: DONE opens the handles, of a queue with room for `capacity` values. A cell has `size` bytes. It
 //   begins at a multiple of `alignment`, as `CellAt` says, in a block that is there while somebody has a cell of it, or
 //   one of its cells is in the queue.
-// - `reserve`: DONE writes where a cell is that is this pass's alone until `publish` puts it into the queue,
+// - `reserve`: DONE writes where a cell is that is this handle's alone until `publish` puts it into the queue,
 //   or `cancel` gives it back. It writes the same cell until then.
 // - `publish`: DONE puts the reserved cell into the queue. After anything else it is still reserved.
-// - `cancel`: the reserved cell may be reserved again, by any pass, or its block is freed.
+// - `cancel`: the reserved cell may be reserved again, by any handle, or its block is freed.
 // - `receive`: GOT writes where a cell is that was in the queue, once for each time that it was published. The
-//   cell is this pass's alone until its next `receive` or `release`.
-// - `release`: the cell that was received may be reserved again, by any pass, or its block is freed.
+//   cell is this handle's alone until its next `receive` or `release`.
+// - `release`: the cell that was received may be reserved again, by any handle, or its block is freed.
 // - Between these calls they order what threads do: what comes before a `publish` of a cell comes before what
 //   follows its `receive`, and what comes before its `release` comes before what follows its next
 //   `reserve`.
-// - `close_cells`: DONE closes the passes, and `next_left` then writes where each cell is that is in the queue, in
+// - `close_cells`: DONE closes the handles, and `next_left` then writes where each cell is that is in the queue, in
 //   its order, until it returns EMPTY. They are there until `free_left`. NO_MEMORY does nothing. LOST closes the
-//   passes, and the cells are gone.
+//   handles, and the cells are gone.
 //
-// And of those by a pass of values:
+// And of those by a handle of values:
 //
-// - `open_values`: DONE opens the passes, of a queue with room for `capacity` values.
+// - `open_values`: DONE opens the handles, of a queue with room for `capacity` values.
 // - `give`: DONE puts the value into the queue. After anything else it is not there.
 // - `take`: GOT writes a value that was in the queue, once for each time that it was given.
 // - What comes before a `give` comes before what follows the `take` of its value.
 // - `close_values`: DONE writes the values that are in the queue. There is room for `values_room` of them, else it does
 //   nothing.
 //
-// They require of the caller that one thread at a time uses a pass, and that it is open.
+// They require of the caller that one thread at a time uses a handle, and that it is open.
 unsafe extern "C" {
     pub(crate) fn kfifo_c_open_cells(
         k: u32,
@@ -200,44 +200,44 @@ unsafe extern "C" {
         last: u64,
         reserve: u64,
         generations: u32,
-        passes: *mut Pass,
+        handles: *mut Handle,
         threads: usize,
     ) -> u32;
-    pub(crate) fn kfifo_c_reserve(pass: *mut Pass, cell: *mut CellAt) -> u32;
-    pub(crate) fn kfifo_c_why_no_cell(pass: *mut Pass) -> u32;
-    pub(crate) fn kfifo_c_publish(pass: *mut Pass) -> u32;
-    pub(crate) fn kfifo_c_cancel(pass: *mut Pass) -> u32;
-    pub(crate) fn kfifo_c_receive(pass: *mut Pass, cell: *mut CellAt) -> u32;
-    pub(crate) fn kfifo_c_release(pass: *mut Pass) -> u32;
-    pub(crate) fn kfifo_c_cells_len(pass: *mut Pass) -> usize;
+    pub(crate) fn kfifo_c_reserve(handle: *mut Handle, cell: *mut CellAt) -> u32;
+    pub(crate) fn kfifo_c_why_no_cell(handle: *mut Handle) -> u32;
+    pub(crate) fn kfifo_c_publish(handle: *mut Handle) -> u32;
+    pub(crate) fn kfifo_c_cancel(handle: *mut Handle) -> u32;
+    pub(crate) fn kfifo_c_receive(handle: *mut Handle, cell: *mut CellAt) -> u32;
+    pub(crate) fn kfifo_c_release(handle: *mut Handle) -> u32;
+    pub(crate) fn kfifo_c_cells_len(handle: *mut Handle) -> usize;
     pub(crate) fn kfifo_c_close_cells(
-        passes: *mut Pass,
+        handles: *mut Handle,
         threads: usize,
         left: *mut LeftCells,
     ) -> u32;
     pub(crate) fn kfifo_c_next_left(left: *mut LeftCells, cell: *mut CellAt) -> u32;
     pub(crate) fn kfifo_c_free_left(left: *mut LeftCells);
-    pub(crate) fn kfifo_c_abandon_cells(passes: *mut Pass, threads: usize);
+    pub(crate) fn kfifo_c_abandon_cells(handles: *mut Handle, threads: usize);
     pub(crate) fn kfifo_c_open_values(
         k: u32,
         capacity: u32,
         last: u64,
         reserve: u64,
         generations: u32,
-        passes: *mut Pass,
+        handles: *mut Handle,
         threads: usize,
     ) -> u32;
-    pub(crate) fn kfifo_c_give(pass: *mut Pass, value: Value) -> u32;
-    pub(crate) fn kfifo_c_take(pass: *mut Pass, value: *mut Value) -> u32;
-    pub(crate) fn kfifo_c_values_room(passes: *mut Pass, threads: usize) -> usize;
+    pub(crate) fn kfifo_c_give(handle: *mut Handle, value: Value) -> u32;
+    pub(crate) fn kfifo_c_take(handle: *mut Handle, value: *mut Value) -> u32;
+    pub(crate) fn kfifo_c_values_room(handles: *mut Handle, threads: usize) -> usize;
     pub(crate) fn kfifo_c_close_values(
-        passes: *mut Pass,
+        handles: *mut Handle,
         threads: usize,
         values: *mut Value,
         room: usize,
         count: *mut usize,
     ) -> u32;
-    pub(crate) fn kfifo_c_abandon_values(passes: *mut Pass, threads: usize);
+    pub(crate) fn kfifo_c_abandon_values(handles: *mut Handle, threads: usize);
     pub(crate) fn kfifo_wait_again(waiter: *mut Waiter, status: *mut u32) -> c_int;
     pub(crate) fn kfifo_wait_given(waits: *const Waits, status: u32) -> u32;
     pub(crate) fn kfifo_wait_taken(waits: *const Waits, status: u32) -> u32;

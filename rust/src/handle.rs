@@ -56,7 +56,7 @@ pub struct Handle<T> {
 }
 
 impl<T> Handle<T> {
-    /// The handle that has a pass, from now on alone.
+    /// The handle with this number, which it has alone from now on.
     pub(crate) fn new(shared: User<T>, number: usize) -> Handle<T> {
         Handle {
             shared,
@@ -88,8 +88,8 @@ impl<T> Handle<T> {
     /// # Ok::<(), kfifo::OpenError>(())
     /// ```
     pub fn push(&self, value: T) -> Result<(), PushError<T>> {
-        // SAFETY: this handle alone has its pass, and as it is not `Sync`, no other thread is in a call by it. Nor is
-        // this one: no call runs code of the caller's while it uses the pass.
+        // SAFETY: this handle alone has its number, and as it is not `Sync`, no other thread is in a call by it. Nor is
+        // this one: no call runs code of the caller's while it uses the library's handle.
         unsafe { self.shared.push(self.number, value, Looks::UnlessBusy) }
     }
 
@@ -325,7 +325,7 @@ pub(crate) fn nanoseconds_of(time: Duration) -> u64 {
 
 impl<T> Drop for Handle<T> {
     fn drop(&mut self) {
-        self.shared.return_pass(self.number);
+        self.shared.return_handle(self.number);
     }
 }
 

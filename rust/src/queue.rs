@@ -172,7 +172,7 @@ impl<T> Queue<T> {
     /// ```
     #[must_use]
     pub fn handle(&self) -> Option<Handle<T>> {
-        let number = self.shared.borrow_pass()?;
+        let number = self.shared.borrow_handle()?;
         Some(Handle::new(self.shared.clone(), number))
     }
 

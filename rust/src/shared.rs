@@ -1,4 +1,4 @@
-//! What a queue and its handles share: the passes of the C library, and which of them are in use.
+//! What a queue and its handles share: the handles of the C library, and which of them are in use.
 mod left;
 mod many;
 
@@ -18,25 +18,25 @@ use std::ptr;
 use std::sync::Arc;
 use std::sync::atomic::{AtomicU64, AtomicUsize, Ordering};
 
-/// The passes of a queue, which are closed when they are dropped.
-struct Passes(Box<[UnsafeCell<ffi::Pass>]>);
+/// The handles of a queue, which are closed when they are dropped.
+struct Handles(Box<[UnsafeCell<ffi::Handle>]>);
 
-impl Passes {
-    /// The passes of a queue whose cells have this size and alignment.
+impl Handles {
+    /// The handles of a queue whose cells have this size and alignment.
     fn open(
         k: u32,
         capacity: usize,
         threads: usize,
         options: Options,
         (size, alignment): (u32, u32),
-    ) -> Result<Passes, OpenError> {
+    ) -> Result<Handles, OpenError> {
         // More than 64 threads are refused as 65 are, without memory for them.
         let threads = threads.min(65);
-        let mut passes = Vec::new();
-        let room = passes.try_reserve_exact(threads);
+        let mut handles = Vec::new();
+        let room = handles.try_reserve_exact(threads);
         room.map_err(|_| OpenError::OutOfMemory)?;
-        passes.resize_with(threads, ffi::Pass::closed);
-        // SAFETY: the array has as many passes as is said, and each is closed.
+        handles.resize_with(threads, ffi::Handle::closed);
+        // SAFETY: the array has as many handles as is said, and each is closed.
         let status = unsafe {
             ffi::kfifo_c_open_cells(
                 k,
@@ -46,19 +46,19 @@ impl Passes {
                 options.last,
                 options.reserve,
                 options.grows,
-                passes.as_mut_ptr(),
+                handles.as_mut_ptr(),
                 threads,
             )
         };
         match status {
-            ffi::DONE => Ok(Passes(passes.into_iter().map(UnsafeCell::new).collect())),
+            ffi::DONE => Ok(Handles(handles.into_iter().map(UnsafeCell::new).collect())),
             ffi::BAD_K => Err(OpenError::KOutOfRange),
             ffi::BAD_CAPACITY => Err(OpenError::CapacityOutOfRange),
             ffi::BAD_THREADS => Err(OpenError::ThreadsOutOfRange),
             ffi::BAD_LAYOUT => Err(OpenError::LayoutOutOfRange),
             ffi::BAD_LAST => Err(OpenError::LastOutOfRange),
             ffi::BAD_RESERVE => Err(OpenError::ReserveOutOfRange),
-            // The passes are there, so this is the one argument that is left.
+            // The handles are there, so this is the one argument that is left.
             ffi::BAD_CALL => Err(OpenError::GrowsOutOfRange),
             status => {
                 debug_assert_eq!(status, ffi::NO_MEMORY);
@@ -67,15 +67,15 @@ impl Passes {
         }
     }
 
-    fn at(&self, number: usize) -> *mut ffi::Pass {
+    fn at(&self, number: usize) -> *mut ffi::Handle {
         self.0[number].get()
     }
 }
 
-impl Drop for Passes {
+impl Drop for Handles {
     fn drop(&mut self) {
-        // SAFETY: these are all passes of a queue, and nobody else uses one: `&mut self`. Those that are closed already
-        // stay so.
+        // SAFETY: these are all handles of a queue, and nobody else uses one: `&mut self`. Those that are closed
+        // already stay so.
         unsafe { ffi::kfifo_c_abandon_cells(self.0.as_mut_ptr().cast(), self.0.len()) };
     }
 }
@@ -141,7 +141,7 @@ pub(crate) fn pause(number: usize, times: u32) {
     }
 }
 
-/// A call by a pass, from its beginning to its end.
+/// A call by a handle, from its beginning to its end.
 struct InCall<'a> {
     all: &'a AtomicU64,
     bit: u64,
@@ -162,15 +162,15 @@ fn misused(number: usize, call: &str, what: &str) -> ! {
     abort()
 }
 
-/// When it is dropped, the values that are left are dropped, and the queue is closed with its passes.
+/// When it is dropped, the values that are left are dropped, and the queue is closed with its handles.
 ///
 /// A value goes in by one handle and comes out by another, so `T` may not vary: else a reference of a short life that
 /// one handle puts could come out of another as one of a long life. `UnsafeCell` sees to that.
 pub(crate) struct Shared<T> {
-    passes: Passes,
-    /// A bit for each pass that nobody has.
+    handles: Handles,
+    /// A bit for each handle that nobody has.
     free: AtomicU64,
-    /// A bit for each pass that is in a call, in a debug build.
+    /// A bit for each handle that is in a call, in a debug build.
     in_call: AtomicU64,
     capacity: usize,
     waits: ffi::Waits,
@@ -180,9 +180,9 @@ pub(crate) struct Shared<T> {
     values: PhantomData<UnsafeCell<T>>,
 }
 
-// SAFETY: `T` may go to another thread, and so may the passes: the library ties none to a thread.
+// SAFETY: `T` may go to another thread, and so may the handles: the library ties none to a thread.
 unsafe impl<T: Send> Send for Shared<T> {}
-// SAFETY: a pass is reached by `push` and `pop` alone, whose callers see to it that one thread at a time uses it, and
+// SAFETY: a handle is reached by `push` and `pop` alone, whose callers see to it that one thread at a time uses it, and
 // by those that have the queue alone, who alone reach what is left too. A cell is reached by whoever the library says
 // has it, one thread at a time, and the library orders one after the other. So values go from thread to thread, which
 // `T: Send` allows. A reference gives no `&T`, so `T: Sync` is not asked for.
@@ -195,10 +195,10 @@ impl<T> Shared<T> {
         threads: usize,
         options: Options,
     ) -> Result<Shared<T>, OpenError> {
-        let passes = Passes::open(k, capacity, threads, options, layout_of::<T>())?;
+        let handles = Handles::open(k, capacity, threads, options, layout_of::<T>())?;
         // The library has looked at the number of threads: it is 1 to 64.
         Ok(Shared {
-            passes,
+            handles,
             free: AtomicU64::new(u64::MAX >> (64 - threads)),
             in_call: AtomicU64::new(0),
             capacity,
@@ -214,24 +214,24 @@ impl<T> Shared<T> {
         self.capacity
     }
 
-    /// The number of a pass that nobody has, which is then in use; none where each was in use at one moment.
-    pub(crate) fn borrow_pass(&self) -> Option<usize> {
+    /// The number of a handle that nobody has, which is then in use; none where each was in use at one moment.
+    pub(crate) fn borrow_handle(&self) -> Option<usize> {
         let mut free = self.free.load(Ordering::Relaxed);
         while free != 0 {
             let lowest = free & free.wrapping_neg();
-            // Acquire here and release below suffice: all steps that the pass made come before those that it makes
+            // Acquire here and release below suffice: all steps that the handle made come before those that it makes
             // next, also in the one order of all sequentially consistent steps. The contracts of the running queue ask
             // for no more: they speak of a pass, not of threads.
             free = self.free.fetch_and(!lowest, Ordering::Acquire);
             if free & lowest != 0 {
                 return Some(lowest.trailing_zeros() as usize);
             }
-            // Another thread's step took that pass meanwhile. So some thread goes on.
+            // Another thread's step took that handle meanwhile. So some thread goes on.
         }
         None
     }
 
-    pub(crate) fn return_pass(&self, number: usize) {
+    pub(crate) fn return_handle(&self, number: usize) {
         drop(self.enter(number, "the drop"));
         let free = self.free.fetch_or(1 << number, Ordering::Release);
         if cfg!(debug_assertions) && free & 1 << number != 0 {
@@ -239,8 +239,8 @@ impl<T> Shared<T> {
         }
     }
 
-    /// Marks the pass while a call runs by it, in a debug build. Only `unsafe` code lets two threads use a handle, or a
-    /// handle and its copy.
+    /// Marks the handle while a call runs by it, in a debug build. Only `unsafe` code lets two threads use a handle, or
+    /// a handle and its copy.
     fn enter(&self, number: usize, call: &str) -> InCall<'_> {
         let bit = 1 << number;
         if cfg!(debug_assertions) && self.in_call.fetch_or(bit, Ordering::Relaxed) & bit != 0 {
@@ -345,26 +345,26 @@ impl<T> Shared<T> {
         cell: &mut CellAt,
         between: &mut impl FnMut(),
     ) -> u32 {
-        let pass = self.passes.at(number);
-        // SAFETY: the pass is of an open queue, and the caller says that nobody else uses it.
-        let status = unsafe { ffi::kfifo_c_reserve(pass, cell) };
+        let handle = self.handles.at(number);
+        // SAFETY: the handle is of an open queue, and the caller says that nobody else uses it.
+        let status = unsafe { ffi::kfifo_c_reserve(handle, cell) };
         if status == ffi::FULL {
             // SAFETY: as of `reserve_cell`.
-            return unsafe { ffi::kfifo_c_why_no_cell(pass) };
+            return unsafe { ffi::kfifo_c_why_no_cell(handle) };
         }
         if status != ffi::DONE {
             return status;
         }
-        // SAFETY: `reserve_cell` promises that the cell is this pass's alone until it is published. The caller gives up
-        // the value where that comes to DONE, and else nobody looks at what is in the cell.
+        // SAFETY: `reserve_cell` promises that the cell is this handle's alone until it is published. The caller gives
+        // up the value where that comes to DONE, and else nobody looks at what is in the cell.
         unsafe { cell.copy_in(value) };
         between();
         // SAFETY: as of `reserve_cell`.
-        let status = unsafe { ffi::kfifo_c_publish(pass) };
+        let status = unsafe { ffi::kfifo_c_publish(handle) };
         if status != ffi::DONE {
             // A cell that stayed reserved would be one that no other handle can have.
             // SAFETY: as of `reserve_cell`.
-            unsafe { ffi::kfifo_c_cancel(pass) };
+            unsafe { ffi::kfifo_c_cancel(handle) };
             self.wake_for_room(ffi::GOT);
         }
         status
@@ -377,7 +377,7 @@ impl<T> Shared<T> {
     /// As of `pop`. After GOT the value of the cell is moved out next.
     unsafe fn look(&self, number: usize, cell: &mut CellAt) -> u32 {
         // SAFETY: as of `reserve_cell` in `publish_once`.
-        let status = unsafe { ffi::kfifo_c_receive(self.passes.at(number), cell) };
+        let status = unsafe { ffi::kfifo_c_receive(self.handles.at(number), cell) };
         if status != ffi::GOT {
             self.wake_for_room(status);
         }
@@ -418,20 +418,20 @@ impl<T> Shared<T> {
     /// As of `pop`.
     pub(crate) unsafe fn len(&self, number: usize) -> usize {
         // SAFETY: as of `receive_cell` in `look`.
-        unsafe { ffi::kfifo_c_cells_len(self.passes.at(number)) }
+        unsafe { ffi::kfifo_c_cells_len(self.handles.at(number)) }
     }
 
     /// Moves the value out of a cell that was received, and releases the cell.
     ///
     /// # Safety
     ///
-    /// As of `pop`, and `look` has just received the cell by this pass.
+    /// As of `pop`, and `look` has just received the cell by this handle.
     unsafe fn move_out(&self, number: usize, cell: CellAt) -> T {
-        // SAFETY: `receive_cell` promises that the cell is this pass's alone until it is released, and that it came out
-        // once for each time that it was published. `publish` above puts a value into it each time.
+        // SAFETY: `receive_cell` promises that the cell is this handle's alone until it is released, and that it came
+        // out once for each time that it was published. `publish` above puts a value into it each time.
         let value = unsafe { cell.move_out() };
         // SAFETY: as of `receive_cell` in `look`.
-        let status = unsafe { ffi::kfifo_c_release(self.passes.at(number)) };
+        let status = unsafe { ffi::kfifo_c_release(self.handles.at(number)) };
         debug_assert_eq!(status, ffi::DONE);
         // A giver may wait for the cell that is free only now.
         self.wake_for_room(ffi::GOT);
@@ -482,7 +482,7 @@ impl<T> Shared<T> {
     ///
     /// # Safety
     ///
-    /// No other call uses the pass at the same time.
+    /// No other call uses the handle at the same time.
     pub(crate) unsafe fn push(
         &self,
         number: usize,
@@ -491,7 +491,7 @@ impl<T> Shared<T> {
     ) -> Result<(), PushError<T>> {
         let _call = self.enter(number, "a push");
         let value = ManuallyDrop::new(value);
-        // SAFETY: the caller says that nobody else uses the pass. The value is given up below after DONE, which ends
+        // SAFETY: the caller says that nobody else uses the handle. The value is given up below after DONE, which ends
         // the calls.
         let give = || unsafe { self.give(number, &value) };
         let mut status = give();
@@ -519,7 +519,7 @@ impl<T> Shared<T> {
     ///
     /// # Safety
     ///
-    /// No other call uses the pass at the same time.
+    /// No other call uses the handle at the same time.
     pub(crate) unsafe fn pop(&self, number: usize, looks: Looks) -> Result<T, PopError> {
         let _call = self.enter(number, "a pop");
         // SAFETY: as the caller says, and the cell has just been received.
@@ -533,7 +533,7 @@ impl<T> Shared<T> {
     ///
     /// # Safety
     ///
-    /// As of `pop`. The cell is this pass's until its next receive or release.
+    /// As of `pop`. The cell is this handle's until its next receive or release.
     unsafe fn receive_by(&self, number: usize, looks: Looks) -> Result<CellAt, PopError> {
         let mut cell = CellAt::none();
         // SAFETY: as in `push`. GOT ends the calls.

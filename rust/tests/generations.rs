@@ -149,7 +149,7 @@ fn a_handle_may_stop() {
     assert_eq!(Arc::strong_count(&alive), 1);
 }
 
-/// A handle that is dropped goes back to the queue: its pass stays in the generation of its last call, as that of a
+/// A handle that is dropped goes back to the queue. It stays in the generation of its last call, as that of a
 /// thread that makes no calls, and whoever asks for a handle next goes on with it. So at whatever moment of a change
 /// that is, what the handle put comes out in order, and so does what it puts when it is in use again.
 #[test]

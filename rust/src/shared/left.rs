@@ -62,18 +62,18 @@ impl<T> Shared<T> {
     /// Closes a queue whose versions are used up: no pop reaches what is left in it.
     #[cold]
     pub(super) fn close(&mut self) -> Result<(), NoMemory> {
-        let passes = &mut self.passes.0;
-        // SAFETY: these are all passes of the queue, and `&mut self` says that nobody else uses one.
+        let handles = &mut self.handles.0;
+        // SAFETY: these are all handles of the queue, and `&mut self` says that nobody else uses one.
         let status = unsafe {
             ffi::kfifo_c_close_cells(
-                passes.as_mut_ptr().cast(),
-                passes.len(),
+                handles.as_mut_ptr().cast(),
+                handles.len(),
                 &mut self.left.cells,
             )
         };
         if status == ffi::DONE || status == ffi::LOST {
             self.left.is_closed = true;
-            // The passes are closed, so nobody may have one.
+            // The handles are closed, so nobody may have one.
             *self.free.get_mut() = 0;
         }
         if status == ffi::DONE {

@@ -17,8 +17,8 @@ struct Pops<'a, T> {
 impl<T> Drop for Pops<'_, T> {
     fn drop(&mut self) {
         if self.has_cell {
-            // SAFETY: the call by this pass has not ended, so that nobody else uses it.
-            let status = unsafe { ffi::kfifo_c_release(self.shared.passes.at(self.number)) };
+            // SAFETY: the call by this handle has not ended, so that nobody else uses it.
+            let status = unsafe { ffi::kfifo_c_release(self.shared.handles.at(self.number)) };
             debug_assert_eq!(status, ffi::DONE);
         }
         self.shared.wake_for_rooms(self.taken);
@@ -39,7 +39,7 @@ impl<T> Shared<T> {
     ///
     /// # Safety
     ///
-    /// No other call uses the pass at the same time.
+    /// No other call uses the handle at the same time.
     pub(crate) unsafe fn pop_up_to(
         &self,
         number: usize,
@@ -64,7 +64,7 @@ impl<T> Shared<T> {
                 Ok(cell) => {
                     looks = Looks::UnlessBusy;
                     pops.has_cell = true;
-                    // SAFETY: the cell has just been received, and is the pass's alone until the next one is.
+                    // SAFETY: the cell has just been received, and is the handle's alone until the next one is.
                     values.push(unsafe { cell.move_out() });
                     pops.taken += 1;
                 }

@@ -22,7 +22,7 @@ use std::sync::{Mutex, MutexGuard, PoisonError};
 /// that opens a generation pays for it, so a run of few tasks is cheap, and what many tasks need goes through the list.
 const ROOM: u32 = 4_096;
 const GENERATIONS: u32 = 4;
-/// How many slots a queue has for each k, and how many of them go to what each pass may keep for itself.
+/// How many slots a queue has for each k, and how many of them go to what each handle may keep for itself.
 const SLOTS: u32 = 1_022;
 const KEPT: u32 = 32;
 /// How many tasks move from the list into the queue at once.
@@ -49,12 +49,12 @@ impl Sizes {
     /// least that will do.
     pub(crate) fn of(k: u32, workers: usize) -> Sizes {
         let options = Options::default();
-        let passes = workers as u32;
-        let k = k.max((passes * (KEPT + 1)).div_ceil(SLOTS));
+        let handles = workers as u32;
+        let k = k.max((handles * (KEPT + 1)).div_ceil(SLOTS));
         Sizes {
             k,
-            capacity: ROOM.min(passes * (SLOTS * k / passes - KEPT)),
-            generations: GENERATIONS.min(129 - 2 * passes),
+            capacity: ROOM.min(handles * (SLOTS * k / handles - KEPT)),
+            generations: GENERATIONS.min(129 - 2 * handles),
             versions: Versions {
                 last: options.last,
                 reserve: options.reserve,
@@ -63,16 +63,16 @@ impl Sizes {
     }
 }
 
-/// The passes of a queue of values, which are closed when they are dropped.
-struct Passes(Box<[UnsafeCell<ffi::Pass>]>);
+/// The handles of a queue of values, which are closed when they are dropped.
+struct Handles(Box<[UnsafeCell<ffi::Handle>]>);
 
-impl Passes {
-    fn open<E>(sizes: &Sizes, workers: usize) -> Result<Passes, Cause<E>> {
-        let mut passes = Vec::new();
-        let room = passes.try_reserve_exact(workers);
+impl Handles {
+    fn open<E>(sizes: &Sizes, workers: usize) -> Result<Handles, Cause<E>> {
+        let mut handles = Vec::new();
+        let room = handles.try_reserve_exact(workers);
         room.map_err(|_| Cause::OutOfMemory)?;
-        passes.resize_with(workers, ffi::Pass::closed);
-        // SAFETY: the array has as many passes as is said, and each is closed.
+        handles.resize_with(workers, ffi::Handle::closed);
+        // SAFETY: the array has as many handles as is said, and each is closed.
         let status = unsafe {
             ffi::kfifo_c_open_values(
                 sizes.k,
@@ -80,26 +80,26 @@ impl Passes {
                 sizes.versions.last,
                 sizes.versions.reserve,
                 sizes.generations,
-                passes.as_mut_ptr(),
-                passes.len(),
+                handles.as_mut_ptr(),
+                handles.len(),
             )
         };
         if status != ffi::DONE {
             debug_assert_eq!(status, ffi::NO_MEMORY);
             return Err(Cause::OutOfMemory);
         }
-        Ok(Passes(passes.into_iter().map(UnsafeCell::new).collect()))
+        Ok(Handles(handles.into_iter().map(UnsafeCell::new).collect()))
     }
 
-    fn at(&self, number: usize) -> *mut ffi::Pass {
+    fn at(&self, number: usize) -> *mut ffi::Handle {
         self.0[number].get()
     }
 
     /// Closes the queue, and returns the values that are in it; none where there is no memory for that.
     fn close(&mut self) -> Vec<Value> {
-        let passes = self.0.as_mut_ptr().cast();
-        // SAFETY: these are all passes of the queue, and nobody else uses one: `&mut self`.
-        let room = unsafe { ffi::kfifo_c_values_room(passes, self.0.len()) };
+        let handles = self.0.as_mut_ptr().cast();
+        // SAFETY: these are all handles of the queue, and nobody else uses one: `&mut self`.
+        let room = unsafe { ffi::kfifo_c_values_room(handles, self.0.len()) };
         let mut values = Vec::new();
         if values.try_reserve_exact(room).is_err() {
             return values;
@@ -108,40 +108,40 @@ impl Passes {
         let mut count = 0;
         // SAFETY: as above, and there is room for each value.
         let status = unsafe {
-            ffi::kfifo_c_close_values(passes, self.0.len(), values.as_mut_ptr(), room, &mut count)
+            ffi::kfifo_c_close_values(handles, self.0.len(), values.as_mut_ptr(), room, &mut count)
         };
         values.truncate(if status == ffi::DONE { count } else { 0 });
         values
     }
 }
 
-impl Drop for Passes {
+impl Drop for Handles {
     fn drop(&mut self) {
-        // SAFETY: these are all passes of a queue, and nobody else uses one: `&mut self`. Those that are closed already
-        // stay so.
+        // SAFETY: these are all handles of a queue, and nobody else uses one: `&mut self`. Those that are closed
+        // already stay so.
         unsafe { ffi::kfifo_c_abandon_values(self.0.as_mut_ptr().cast(), self.0.len()) };
     }
 }
 
 /// The queue of a run. With it the values go that are left; it does not know what they are.
 pub(crate) struct Queue {
-    passes: Passes,
+    handles: Handles,
     pub(crate) waits: ffi::Waits,
     list: Mutex<VecDeque<Value>>,
     /// How many tasks are in the list: it changes under the lock alone.
     listed: AtomicUsize,
 }
 
-// SAFETY: a pass is reached by `give`, `take` and `refill`, whose callers see to it that one thread at a time uses it,
-// and by those that have the queue alone. A value is no more than bits.
+// SAFETY: a handle is reached by `give`, `take` and `refill`, whose callers see to it that one thread at a time uses
+// it, and by those that have the queue alone. A value is no more than bits.
 unsafe impl Sync for Queue {}
-// SAFETY: the library ties no pass to a thread.
+// SAFETY: the library ties no handle to a thread.
 unsafe impl Send for Queue {}
 
 impl Queue {
     pub(crate) fn open<E>(sizes: &Sizes, workers: usize) -> Result<Queue, Cause<E>> {
         Ok(Queue {
-            passes: Passes::open(sizes, workers)?,
+            handles: Handles::open(sizes, workers)?,
             waits: ffi::Waits::open(),
             list: Mutex::new(VecDeque::new()),
             listed: AtomicUsize::new(0),
@@ -180,17 +180,17 @@ impl Queue {
     ///
     /// # Safety
     ///
-    /// One thread at a time uses the pass.
+    /// One thread at a time uses the handle.
     #[inline]
-    unsafe fn put(&self, pass: usize, value: Value) -> bool {
+    unsafe fn put(&self, handle: usize, value: Value) -> bool {
         let mut times = 0;
         loop {
-            // SAFETY: the pass is of an open queue, and the caller says that nobody else uses it.
-            let status = unsafe { ffi::kfifo_c_give(self.passes.at(pass), value) };
+            // SAFETY: the handle is of an open queue, and the caller says that nobody else uses it.
+            let status = unsafe { ffi::kfifo_c_give(self.handles.at(handle), value) };
             if status != ffi::BUSY {
                 return status == ffi::DONE;
             }
-            pause(pass, times);
+            pause(handle, times);
             times += 1;
         }
     }
@@ -201,9 +201,9 @@ impl Queue {
     ///
     /// As of `put`.
     #[inline]
-    pub(crate) unsafe fn give(&self, pass: usize, value: Value) -> Result<(), Value> {
+    pub(crate) unsafe fn give(&self, handle: usize, value: Value) -> Result<(), Value> {
         // SAFETY: as the caller says.
-        if self.listed.load(Ordering::SeqCst) > 0 || unsafe { !self.put(pass, value) } {
+        if self.listed.load(Ordering::SeqCst) > 0 || unsafe { !self.put(handle, value) } {
             self.list(value)?;
         }
         self.wake();
@@ -234,22 +234,22 @@ impl Queue {
     ///
     /// As of `put`.
     #[cold]
-    pub(crate) unsafe fn refill(&self, pass: usize) {
+    pub(crate) unsafe fn refill(&self, handle: usize) {
         // The worker that has the lock moves them, or gives more.
         if let Ok(mut list) = self.list.try_lock() {
             // SAFETY: as the caller says.
-            unsafe { self.move_some(pass, &mut list) };
+            unsafe { self.move_some(handle, &mut list) };
         }
     }
 
     /// # Safety
     ///
     /// As of `put`.
-    unsafe fn move_some(&self, pass: usize, list: &mut VecDeque<Value>) {
+    unsafe fn move_some(&self, handle: usize, list: &mut VecDeque<Value>) {
         for _ in 0..MOVED {
             let Some(value) = list.front() else { break };
             // SAFETY: as the caller says.
-            if unsafe { !self.put(pass, *value) } {
+            if unsafe { !self.put(handle, *value) } {
                 break;
             }
             list.pop_front();
@@ -264,22 +264,22 @@ impl Queue {
     ///
     /// As of `put`.
     #[inline]
-    pub(crate) unsafe fn take(&self, pass: usize, value: &mut Value) -> u32 {
+    pub(crate) unsafe fn take(&self, handle: usize, value: &mut Value) -> u32 {
         let mut times = 0;
         loop {
             if self.is_finished() {
                 return ffi::FINISHED;
             }
             // SAFETY: as of `put`.
-            let mut status = unsafe { ffi::kfifo_c_take(self.passes.at(pass), value) };
+            let mut status = unsafe { ffi::kfifo_c_take(self.handles.at(handle), value) };
             if status == ffi::EMPTY && self.has_list() {
                 // SAFETY: as the caller says.
-                status = unsafe { self.take_listed(pass, value) };
+                status = unsafe { self.take_listed(handle, value) };
             }
             if status != ffi::BUSY {
                 return status;
             }
-            pause(pass, times);
+            pause(handle, times);
             times += 1;
         }
     }
@@ -291,10 +291,10 @@ impl Queue {
     ///
     /// As of `put`.
     #[cold]
-    unsafe fn take_listed(&self, pass: usize, value: &mut Value) -> u32 {
+    unsafe fn take_listed(&self, handle: usize, value: &mut Value) -> u32 {
         let mut list = self.lock();
         // SAFETY: as of `put`.
-        let status = unsafe { ffi::kfifo_c_take(self.passes.at(pass), value) };
+        let status = unsafe { ffi::kfifo_c_take(self.handles.at(handle), value) };
         if status != ffi::EMPTY {
             return status;
         }
@@ -304,7 +304,7 @@ impl Queue {
         *value = oldest;
         self.listed.store(list.len(), Ordering::SeqCst);
         // SAFETY: as the caller says.
-        unsafe { self.move_some(pass, &mut list) };
+        unsafe { self.move_some(handle, &mut list) };
         ffi::GOT
     }
 
@@ -314,14 +314,14 @@ impl Queue {
         let end = loop {
             let mut value = Value::uninit();
             // SAFETY: `self` is no reference: nobody else makes a call.
-            match unsafe { ffi::kfifo_c_take(self.passes.at(0), &mut value) } {
+            match unsafe { ffi::kfifo_c_take(self.handles.at(0), &mut value) } {
                 ffi::GOT => values.push(value),
                 ffi::BUSY => {}
                 end => break end,
             }
         };
         if end != ffi::EMPTY {
-            values.append(&mut self.passes.close());
+            values.append(&mut self.handles.close());
         }
         let list = self.list.get_mut().unwrap_or_else(PoisonError::into_inner);
         values.extend(list.iter());

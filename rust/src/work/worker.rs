@@ -107,7 +107,7 @@ pub(crate) struct Told {
 pub struct More<'a, T> {
     shared: &'a Shared<T>,
     nodes: Nodes<'a, T>,
-    /// The number of the worker, and of its pass.
+    /// The number of the worker, and of its handle.
     number: usize,
     takes: u32,
     given: u64,
@@ -157,7 +157,7 @@ impl<'a, T> More<'a, T> {
         // Before it is given: the worker that takes it and has done it finds this count.
         self.given += 1;
         self.shared.counts.set_given(self.number, self.given);
-        // SAFETY: the pass is this worker's, and so this thread's.
+        // SAFETY: the handle is this worker's, and so this thread's.
         if let Err(value) = unsafe { self.shared.queue.give(self.number, value) } {
             return Err(GiveError(self.take_back(value)));
         }
@@ -269,7 +269,7 @@ impl<'a, T> More<'a, T> {
     fn look(&mut self, value: &mut Value) -> u32 {
         self.takes = self.takes.wrapping_add(1);
         if self.takes % TAKES_BETWEEN_REFILLS == 0 && self.shared.queue.has_list() {
-            // SAFETY: the pass is this worker's, and so this thread's.
+            // SAFETY: the handle is this worker's, and so this thread's.
             unsafe { self.shared.queue.refill(self.number) };
         }
         // SAFETY: likewise.

@@ -8,16 +8,17 @@ use std::thread;
 
 const CASE: &str = "KFIFO_MISUSE";
 
-/// Uses a pass as the case says.
+/// Uses a handle as the case says.
 fn misuse(case: &str) {
     let shared = Shared::<u64>::open(1, 8, 2, Options::default()).expect("the sizes are in range");
-    let number = shared.borrow_pass().expect("a handle is free");
+    let number = shared.borrow_handle().expect("a handle is free");
     if case == "returned twice" {
-        shared.return_pass(number);
-        shared.return_pass(number);
+        shared.return_handle(number);
+        shared.return_handle(number);
     }
     thread::scope(|scope| {
-        // SAFETY: this is what `pop` asks not to do. The process ends before two calls change the pass: the one sleeps.
+        // SAFETY: this is what `pop` asks not to do. The process ends before two calls change the handle: the one
+        // sleeps.
         scope.spawn(|| unsafe { shared.pop(number, Looks::Within(ffi::FOREVER)) });
         while shared.waits.state.load(Ordering::SeqCst) < ffi::TAKER {
             thread::yield_now();
@@ -27,7 +28,7 @@ fn misuse(case: &str) {
             "pushed" => drop(unsafe { shared.push(number, 7, Looks::UnlessBusy) }),
             // SAFETY: as above.
             "popped" => drop(unsafe { shared.pop(number, Looks::UnlessBusy) }),
-            "dropped" => shared.return_pass(number),
+            "dropped" => shared.return_handle(number),
             _ => shared.finish(),
         }
     });

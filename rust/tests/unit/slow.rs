@@ -28,22 +28,22 @@ impl Slow {
         Slow { shared, alive }
     }
 
-    /// The passes of those two.
+    /// The handles of those two.
     fn others(&self) -> [usize; 2] {
-        let passes = self.shared.passes.0.len();
-        [passes - 2, passes - 1]
+        let handles = self.shared.handles.0.len();
+        [handles - 2, handles - 1]
     }
 
-    fn push(&self, pass: usize, number: u64) {
+    fn push(&self, handle: usize, number: u64) {
         let value = (number, Rc::clone(&self.alive));
         // SAFETY: one thread makes all calls.
-        let pushed = unsafe { self.shared.push(pass, value, Looks::UnlessBusy) };
+        let pushed = unsafe { self.shared.push(handle, value, Looks::UnlessBusy) };
         assert!(pushed.is_ok(), "{pushed:?}");
     }
 
-    fn pop(&self, pass: usize) -> Result<u64, PopError> {
+    fn pop(&self, handle: usize) -> Result<u64, PopError> {
         // SAFETY: as in `push`.
-        unsafe { self.shared.pop(pass, Looks::UnlessBusy) }.map(|it| it.0)
+        unsafe { self.shared.pop(handle, Looks::UnlessBusy) }.map(|it| it.0)
     }
 
     /// The generation changes so often, or a few times more.
@@ -56,30 +56,30 @@ impl Slow {
     }
 
     fn assert_is_empty(&self) {
-        for pass in self.others() {
-            assert_eq!(self.pop(pass), Err(PopError::Empty));
+        for handle in self.others() {
+            assert_eq!(self.pop(handle), Err(PopError::Empty));
         }
         assert_eq!(Rc::strong_count(&self.alive), 1);
     }
 
-    /// Pushes a value by each of the slow passes from this one on. Each has its value in a cell before one puts it into
-    /// the queue, and the generation changes then. Returns in how many cells the values were.
-    fn push_slowly(&self, pass: usize, changes: u64) -> usize {
+    /// Pushes a value by each of the slow handles from this one on. Each has its value in a cell before one puts it
+    /// into the queue, and the generation changes then. Returns in how many cells the values were.
+    fn push_slowly(&self, handle: usize, changes: u64) -> usize {
         let mut cells = 0;
-        if pass == self.others()[0] {
+        if handle == self.others()[0] {
             self.change(changes);
             return cells;
         }
-        let value = ManuallyDrop::new((1000 + pass as u64, Rc::clone(&self.alive)));
+        let value = ManuallyDrop::new((1000 + handle as u64, Rc::clone(&self.alive)));
         let mut is_first = true;
         let between = || {
             cells += 1;
             if replace(&mut is_first, false) {
-                cells += self.push_slowly(pass + 1, changes);
+                cells += self.push_slowly(handle + 1, changes);
             }
         };
-        // SAFETY: one thread makes all calls, and none by a pass while another one by it runs. The value is given up.
-        let status = unsafe { self.shared.publish_by(pass, &value, between) };
+        // SAFETY: one thread makes all calls, and none by a handle while another one by it runs. The value is given up.
+        let status = unsafe { self.shared.publish_by(handle, &value, between) };
         assert_eq!(status, ffi::DONE);
         cells
     }
@@ -145,7 +145,7 @@ fn a_queue_is_dropped_with_a_cell_that_was_reserved() {
         let slow = Slow::open(1, 32, 1);
         let mut cell = CellAt::none();
         // SAFETY: one thread makes all calls.
-        let status = unsafe { ffi::kfifo_c_reserve(slow.shared.passes.at(0), &mut cell) };
+        let status = unsafe { ffi::kfifo_c_reserve(slow.shared.handles.at(0), &mut cell) };
         assert_eq!(status, ffi::DONE);
         slow.change(changes);
         slow.push(1, 7);

@@ -32,36 +32,36 @@ impl Worn {
         Worn { shared, alive }
     }
 
-    fn push(&self, pass: usize, number: u64) -> Result<(), PushError<Value>> {
+    fn push(&self, handle: usize, number: u64) -> Result<(), PushError<Value>> {
         // SAFETY: one thread makes all calls.
         unsafe {
             self.shared
-                .push(pass, (number, Rc::clone(&self.alive)), Looks::UnlessBusy)
+                .push(handle, (number, Rc::clone(&self.alive)), Looks::UnlessBusy)
         }
     }
 
-    fn pop(&self, pass: usize) -> Result<u64, PopError> {
+    fn pop(&self, handle: usize) -> Result<u64, PopError> {
         // SAFETY: as in `push`.
-        unsafe { self.shared.pop(pass, Looks::UnlessBusy) }.map(|value| value.0)
+        unsafe { self.shared.pop(handle, Looks::UnlessBusy) }.map(|value| value.0)
     }
 
     fn alive(&self) -> usize {
         Rc::strong_count(&self.alive) - 1
     }
 
-    /// Puts values by one pass after the other, and takes one now and then, until a version is used up: what is left.
+    /// Puts values by one handle after the other, and takes one now and then, until a version is used up: what is left.
     fn wear(&self, takes_each: u64) -> Vec<u64> {
-        let passes = self.shared.passes.0.len() as u64;
+        let handles = self.shared.handles.0.len() as u64;
         let mut left = Vec::new();
         for number in 0.. {
-            let pass = (number % passes) as usize;
-            match self.push(pass, number) {
+            let handle = (number % handles) as usize;
+            match self.push(handle, number) {
                 Ok(()) => left.push(number),
                 Err(PushError::Worn(value)) if value.0 == number => return left,
                 Err(refused) => assert!(refused.may_retry(), "{refused}"),
             }
             if number % takes_each == 0 {
-                match self.pop(pass) {
+                match self.pop(handle) {
                     Ok(taken) => left.retain(|it| *it != taken),
                     Err(PopError::Worn) => return left,
                     Err(end) => assert!(end.may_retry(), "{end}"),
@@ -98,8 +98,8 @@ fn each_case(then: impl Fn(Worn, Vec<u64>)) {
 fn refusals_hand_values_back() {
     each_case(|worn, left| {
         let mut alive = left.len();
-        for pass in 0..worn.shared.passes.0.len() {
-            match worn.push(pass, 7) {
+        for handle in 0..worn.shared.handles.0.len() {
+            match worn.push(handle, 7) {
                 Ok(()) => alive += 1,
                 Err(refused) => assert_eq!(refused.into_inner().0, 7),
             }
@@ -168,21 +168,21 @@ fn what_is_left_comes_out_in_order() {
     assert!(most > 4);
 }
 
-/// Here the library refuses the first close, as one pass is closed: nothing is lost, and a further call goes on.
+/// Here the library refuses the first close, as one handle is closed: nothing is lost, and a further call goes on.
 #[test]
 fn what_is_left_comes_out_once_after_a_close_that_is_refused() {
     let mut refused = 0;
     each_case(|Worn { mut shared, alive }, left| {
-        let last = shared.passes.0.len() - 1;
-        let pass =
-            |shared: &mut Shared<Value>, next| replace(shared.passes.0[last].get_mut(), next);
-        // A pass makes the calls, so the only one stays open.
+        let last = shared.handles.0.len() - 1;
+        let handle =
+            |shared: &mut Shared<Value>, next| replace(shared.handles.0[last].get_mut(), next);
+        // A handle makes the calls, so the only one stays open.
         let values = match last {
             0 => shared.take_left(),
             _ => {
-                let whole = pass(&mut shared, ffi::Pass::closed());
+                let whole = handle(&mut shared, ffi::Handle::closed());
                 let first = shared.take_left();
-                pass(&mut shared, whole);
+                handle(&mut shared, whole);
                 first.or_else(|NoMemory| shared.take_left())
             }
         };
@@ -194,18 +194,18 @@ fn what_is_left_comes_out_once_after_a_close_that_is_refused() {
     for last in 2..20 {
         let mut worn = Worn::open(1, 16, 2, last);
         let left = worn.wear(3);
-        let whole = replace(worn.shared.passes.0[1].get_mut(), ffi::Pass::closed());
+        let whole = replace(worn.shared.handles.0[1].get_mut(), ffi::Handle::closed());
         refused += usize::from(worn.shared.take_left().is_err());
-        assert!(worn.shared.borrow_pass().is_some());
-        *worn.shared.passes.0[1].get_mut() = whole;
+        assert!(worn.shared.borrow_handle().is_some());
+        *worn.shared.handles.0[1].get_mut() = whole;
         let values = worn.shared.take_left().expect("there is memory");
         assert_eq!(numbers_of(&values), left);
     }
     assert!(refused > 0);
 }
 
-/// Here the library closes a queue, but cannot say what was left, as the passes are of two queues. What came out before
-/// is not lost, and nobody has a handle any more.
+/// Here the library closes a queue, but cannot say what was left, as the handles are of two queues. What came out
+/// before is not lost, and nobody has a handle any more.
 #[test]
 fn a_queue_goes_whose_close_loses_what_was_left() {
     let mut lost = 0;
@@ -213,13 +213,13 @@ fn a_queue_goes_whose_close_loses_what_was_left() {
         let [mut worn, mut other] = [last, 9].map(|last| Worn::open(1, 16, 2, last));
         let left = worn.wear(3);
         swap(
-            worn.shared.passes.0[1].get_mut(),
-            other.shared.passes.0[1].get_mut(),
+            worn.shared.handles.0[1].get_mut(),
+            other.shared.handles.0[1].get_mut(),
         );
         let Err(NoMemory) = worn.shared.take_left() else {
             panic!("a pop comes to WORN");
         };
-        assert!(worn.shared.borrow_pass().is_none());
+        assert!(worn.shared.borrow_handle().is_none());
         let values = worn.shared.take_left().expect("it is closed");
         assert!(left.starts_with(&numbers_of(&values)));
         lost += left.len() - values.len();
@@ -253,7 +253,7 @@ fn a_close_gives_back_several_generations() {
             assert!(worn.push(1, number).is_ok());
         }
         assert!(worn.shared.close().is_ok());
-        assert!(worn.shared.borrow_pass().is_none());
+        assert!(worn.shared.borrow_handle().is_none());
         assert_eq!(worn.alive(), 150);
         let values = worn.shared.take_left().expect("it is closed");
         assert!(numbers_of(&values).into_iter().eq(before..next));
