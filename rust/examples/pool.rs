@@ -13,20 +13,19 @@ struct Job {
 
 /// Does jobs until there are no more, and returns the sum of their squares, and why it ended.
 fn work(handle: &Handle<Job>) -> (u64, PopError) {
+    let _end = handle.finish_on_drop(); // the others end too, whatever ends this one
     let mut sum = 0;
     loop {
         match handle.pop_wait() {
             Ok(job) => sum += job.number * job.number,
-            Err(end) => {
-                handle.finish(); // the others end too, whatever ended this one
-                return (sum, end);
-            }
+            Err(end) => return (sum, end),
         }
     }
 }
 
 /// Puts the jobs, and returns whether each found its way.
 fn put_all(handle: &Handle<Job>) -> bool {
+    let _end = handle.finish_on_drop(); // a worker ends when it then finds the queue empty
     for number in 1..=JOBS {
         if let Err(refused) = handle.push_wait(Job { number }) {
             eprintln!("job {number} was not put: {refused}");
@@ -46,7 +45,6 @@ fn main() -> Result<ExitCode, OpenError> {
             })
             .collect();
         let all_put = put_all(&queue.handle().expect("a handle is free"));
-        queue.finish(); // a worker ends when it then finds the queue empty
         let ends: Vec<_> = workers
             .into_iter()
             .map(|worker| worker.join().expect("no worker panics"))

@@ -120,17 +120,16 @@ impl<T> Handle<T> {
     /// let consumer = queue.handle().expect("a handle is free");
     /// std::thread::scope(|scope| {
     ///     scope.spawn(move || {
+    ///         let _end = producer.finish_on_drop(); // in any case, or the consumer sleeps for ever
     ///         for number in 0..1000 {
     ///             if let Err(refused) = producer.push_wait(number) {
     ///                 eprintln!("{number} was not put: {refused}");
     ///                 break;
     ///             }
     ///         }
-    ///         producer.finish(); // in any case, or the consumer sleeps for ever
     ///     });
-    ///     let values: Vec<_> = consumer.values().collect();
-    ///     consumer.finish(); // the producer ends too, whatever ended the values
-    ///     assert!(values.into_iter().eq(0..1000));
+    ///     let _end = consumer.finish_on_drop(); // the producer ends too, whatever ends the values
+    ///     assert!(consumer.values().eq(0..1000));
     /// });
     /// # Ok::<(), kfifo::OpenError>(())
     /// ```
@@ -238,9 +237,8 @@ impl<T> Handle<T> {
     /// let consumer = queue.handle().expect("a handle is free");
     /// std::thread::scope(|scope| {
     ///     scope.spawn(move || assert_eq!(consumer.pop_wait(), Ok(7)));
-    ///     let put = producer.push_wait(7);
-    ///     producer.finish(); // in any case, or the consumer sleeps for ever
-    ///     assert_eq!(put, Ok(()));
+    ///     let _end = producer.finish_on_drop(); // in any case, or the consumer sleeps for ever
+    ///     assert_eq!(producer.push_wait(7), Ok(()));
     /// });
     /// # Ok::<(), kfifo::OpenError>(())
     /// ```

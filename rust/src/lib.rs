@@ -20,21 +20,19 @@
 //! let mut sum = 0;
 //! let end = thread::scope(|scope| {
 //!     scope.spawn(move || {
+//!         let _end = producer.finish_on_drop(); // in any case, or the consumer sleeps for ever
 //!         for number in 0..20_000 {
 //!             if let Err(refused) = producer.push_wait(number) {
 //!                 eprintln!("{number} was not put: {refused}"); // worn, or finished by the consumer
 //!                 break;
 //!             }
 //!         }
-//!         producer.finish(); // in any case, or the consumer sleeps for ever
 //!     });
+//!     let _end = consumer.finish_on_drop(); // the producer ends too
 //!     loop {
 //!         match consumer.pop_wait() {
 //!             Ok(number) => sum += number,
-//!             Err(end) => {
-//!                 consumer.finish(); // the producer ends too
-//!                 break end;
-//!             }
+//!             Err(end) => break end,
 //!         }
 //!     }
 //! });
