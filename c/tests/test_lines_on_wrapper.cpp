@@ -10,7 +10,10 @@ namespace {
 
 int of_items() {
     auto opened = kfifo::Queue::try_open(1, 8, 1);
-    if (!opened.queue) return opened.status;
+    if (!opened.queue) {
+        std::fprintf(stderr, "no queue: %s\n", kfifo_status_text(opened.status));
+        return 1;
+    }
     kfifo::Queue queue(1, 8, 2);
     kfifo::Queue::Handle handle = queue.handle(0);
     std::uint32_t capacity = queue.capacity();

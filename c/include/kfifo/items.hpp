@@ -51,7 +51,10 @@ class Queue {
     // Cost: as that of the constructor.
     //
     //     auto opened = kfifo::Queue::try_open(1, 8, 1);
-    //     if (!opened.queue) return opened.status;
+    //     if (!opened.queue) {
+    //         std::fprintf(stderr, "no queue: %s\n", kfifo_status_text(opened.status));
+    //         return 1;
+    //     }
     static Opened<Queue> try_open(std::uint32_t k, std::uint32_t segments, std::size_t threads) {
         return try_open(k, segments, k, KFIFO_LAST, threads);
     }
