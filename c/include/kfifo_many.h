@@ -335,8 +335,8 @@ KFIFO_MUST_USE static inline kfifo_status kfifo_get_up_to(kfifo_handle *handle, 
    and BUSY never come back. With 0 nanoseconds a call does not sleep. */
 
 /* Gives the values of an array in their order, and waits while there is no room for the next one: DONE, and all are in
-   the queue. Else TIMED_OUT, FINISHED, WORN or BAD_CALL: the first *given are in the queue, and the others stay the
-   caller's.
+   the queue. Else TIMED_OUT, NO_MEMORY, FINISHED, WORN or BAD_CALL: the first *given are in the queue, and the others
+   stay the caller's.
    Cost: as kfifo_give_all where it need not wait, and a look for threads that wait before each wait.
 
        kfifo_status all = kfifo_give_all_wait(&handles[0], values, 64, &given, KFIFO_FOREVER);

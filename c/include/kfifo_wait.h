@@ -110,13 +110,13 @@ static inline int kfifo_may_be_over(kfifo_waits *waits, kfifo_status status) {
 
 /* ---- Values ----
 
-   A call that waits returns DONE; TIMED_OUT, and nothing was given or taken; NO_MEMORY of a give to a queue that was to
-   grow; FINISHED; WORN; or BAD_CALL. It never returns FULL, EMPTY or BUSY. FINISHED comes too where no other handle of
-   the queue is open. With 0 nanoseconds it looks once and does not sleep. A call that need not wait costs as much as
-   one of kfifo.h; one that sleeps makes a call of the system, and so does the one that wakes it. After WORN call
-   kfifo_finish, so that the others end too, and then close the queue. */
+   A call that waits never returns FULL, EMPTY or BUSY. After any status but DONE nothing was given or taken. FINISHED
+   comes too where no other handle of the queue is open. With 0 nanoseconds a call looks once and does not sleep. A call
+   that need not wait costs as much as one of kfifo.h; one that sleeps makes a call of the system, and so does the one
+   that wakes it. After WORN call kfifo_finish, so that the others end too, and then close the queue. */
 
-/* Gives a value, and waits at most `nanoseconds` while there is no room for it.
+/* Gives a value, and waits at most `nanoseconds` while there is no room for it: DONE; else TIMED_OUT, NO_MEMORY of a
+   queue that was to grow, FINISHED, WORN or BAD_CALL.
    Cost: as kfifo_give where it need not wait.
 
        if (kfifo_give_wait(&handles[0], 7, KFIFO_FOREVER) != KFIFO_DONE) return 1;
@@ -125,8 +125,8 @@ KFIFO_MUST_USE static inline kfifo_status kfifo_give_wait(kfifo_handle *handle, 
     KFIFO_WAITING(handle, KFIFO_WAITS_GIVER, kfifo_give_once(handle, value));
 }
 
-/* Takes a value, and waits at most `nanoseconds` while there is none. FINISHED comes exactly where the queue was
-   finished, and then found empty.
+/* Takes a value, and waits at most `nanoseconds` while there is none: DONE; else TIMED_OUT, FINISHED, WORN or BAD_CALL.
+   FINISHED says that the queue was finished, or no other handle was open, and that it was then found empty.
    Cost: as kfifo_take where it need not wait.
 
        while (kfifo_take_wait(&handles[1], &value, KFIFO_FOREVER) == KFIFO_DONE) sum += value;
@@ -157,7 +157,8 @@ KFIFO_MUST_USE static inline kfifo_status kfifo_take_pointer_wait(kfifo_handle *
 
 /* ---- Cells: the same. After any but DONE the cell that was reserved still is ---- */
 
-/* Reserves a cell, and waits at most `nanoseconds` while there is none.
+/* Reserves a cell, and waits at most `nanoseconds` while there is none: DONE; else TIMED_OUT, NO_MEMORY of a queue that
+   was to grow, FINISHED or BAD_CALL.
    Cost: as kfifo_reserve where it need not wait.
 
        if (kfifo_reserve_wait(&handles[0], &cell, KFIFO_FOREVER) != KFIFO_DONE) return 1;
@@ -166,7 +167,8 @@ KFIFO_MUST_USE static inline kfifo_status kfifo_reserve_wait(kfifo_handle *handl
     KFIFO_WAITING(handle, KFIFO_WAITS_GIVER, kfifo_reserve(handle, cell));
 }
 
-/* Puts the reserved cell into the queue, and waits at most `nanoseconds` while there is no room for it.
+/* Puts the reserved cell into the queue, and waits at most `nanoseconds` while there is no room for it: DONE; else
+   TIMED_OUT, FINISHED, WORN or BAD_CALL.
    Cost: as kfifo_publish where it need not wait.
 
        if (kfifo_publish_wait(&handles[0], KFIFO_FOREVER) != KFIFO_DONE) return 1;
@@ -175,8 +177,8 @@ KFIFO_MUST_USE static inline kfifo_status kfifo_publish_wait(kfifo_handle *handl
     KFIFO_WAITING(handle, KFIFO_WAITS_GIVER, kfifo_publish_once(handle));
 }
 
-/* Takes a cell, and waits at most `nanoseconds` while there is none. The call first releases the cell that the
-   handle received before. FINISHED comes exactly where the queue was finished, and then found empty.
+/* Takes a cell, and waits at most `nanoseconds` while there is none: DONE; else TIMED_OUT, FINISHED, WORN or BAD_CALL,
+   as kfifo_take_wait. The call first releases the cell that the handle received before.
    Cost: as kfifo_receive where it need not wait.
 
        if (kfifo_receive_wait(&handles[1], &cell, KFIFO_FOREVER) != KFIFO_DONE) return 1;
@@ -187,7 +189,8 @@ KFIFO_MUST_USE static inline kfifo_status kfifo_receive_wait(kfifo_handle *handl
 
 /* ---- Items: the same ---- */
 
-/* Puts an item, and takes one, and waits at most `nanoseconds` while there is no room or no item.
+/* Puts an item, and takes one, and waits at most `nanoseconds` while there is no room or no item: DONE; else TIMED_OUT,
+   FINISHED, WORN or BAD_CALL.
    Cost: as kfifo_put and kfifo_get where they need not wait.
 
        if (kfifo_put_wait(&handles[0], 7, KFIFO_FOREVER) != KFIFO_DONE) return 1;

@@ -65,8 +65,8 @@ impl<T> Handle<T> {
         }
     }
 
-    /// Puts a value into the queue. What is refused hands it back. It never waits or locks, and allocates only where it
-    /// opens a generation.
+    /// Puts a value into the queue. It is refused as `Full`, `OutOfMemory` by a queue that was to grow, `Finished` or
+    /// `Worn`, which hand it back. It never waits or locks, and allocates only where it opens a generation.
     ///
     /// What this thread wrote before is seen by the thread that takes the value.
     ///
@@ -109,8 +109,8 @@ impl<T> Handle<T> {
         unsafe { self.shared.push(self.number, value, Looks::Once) }
     }
 
-    /// Puts a value, and sleeps while there is no room for it: refused is `Finished` or `Worn` alone. It is `Finished`
-    /// too where neither the queue object nor another handle is left, since nobody makes room then.
+    /// Puts a value, and sleeps while there is no room for it. It is refused as `OutOfMemory`, `Finished` or `Worn`, and
+    /// as `Finished` too where neither the queue object nor another handle is left, since nobody makes room then.
     ///
     /// Cost: as [`Handle::push`] where it need not sleep, and a copy of the value more for each further look.
     ///
@@ -163,8 +163,8 @@ impl<T> Handle<T> {
         }
     }
 
-    /// Takes one of the k oldest values. It never waits or locks, and allocates only where nine old generations are
-    /// there that growth has not opened.
+    /// Takes one of the k oldest values: an error is `Empty`, `Finished` or `Worn`. It never waits or locks, and
+    /// allocates only where nine old generations are there that growth has not opened.
     ///
     /// Cost: as [`Handle::push`]. One that returns `Empty` has looked at all k slots of a segment.
     ///

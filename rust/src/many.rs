@@ -110,8 +110,8 @@ impl<T> Handle<T> {
         self.push_each(values, |value| self.push(value))
     }
 
-    /// As [`Handle::push_all`], but it sleeps while there is no room for the next value: that is refused as `Finished`
-    /// or `Worn` alone.
+    /// As [`Handle::push_all`], but it sleeps while there is no room for the next value: that is never refused as
+    /// `Full`.
     ///
     /// Cost: as [`Handle::push_all`] where it need not sleep.
     ///

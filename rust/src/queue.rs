@@ -89,7 +89,8 @@ impl<T> Queue<T> {
     /// 8 to 64 threads seldom meet; with k of 1 values come out in their order.
     ///
     /// The greatest capacity is `threads * (1022 * k / threads - 32)`, divided downwards: for one thread, 990 with k of
-    /// 1 and 65,376 with k of 64. With k of 1, at most 30 threads have one. A queue that grows has room for more.
+    /// 1 and 65,376 with k of 64. With k of 1, at most 30 threads have one. A queue that grows has room for more. An
+    /// error says which number is out of range, or that there is no memory.
     ///
     /// Cost: it asks for all memory of a generation here, about `(capacity + 32 * threads) * (size_of::<T>() + 30)`
     /// bytes, and `4000 * threads` more. The words of the queue are written.
