@@ -113,7 +113,10 @@ std::vector<std::atomic<std::uint8_t>> search_by_all(const Stacks &stacks, kfifo
 
 int main(int count, char **words) {
     int pancakes = count > 1 ? std::atoi(words[1]) : usual_pancakes;
-    if (pancakes < 2 || pancakes > 11) return 2;
+    if (pancakes < 2 || pancakes > 11) {
+        std::fputs("usage: explore [PANCAKES], 2 to 11\n", stderr);
+        return 2;
+    }
     try {
         Stacks stacks(pancakes);
         kfifo::work::Report<Stack> report;

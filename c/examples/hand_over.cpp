@@ -28,6 +28,7 @@ int main() {
         }
     });
     std::thread consumer([&, handle = queue.handle()]() mutable {
+        auto end = handle.finish_at_end(); // the producer ends too
         try {
             for (Message message : handle.values()) { // until the queue is finished and empty
                 read++;
@@ -35,7 +36,6 @@ int main() {
             }
         } catch (const std::exception &error) {
             std::fprintf(stderr, "the consumer ended: %s\n", error.what());
-            handle.finish(); // the producer ends too
         }
     });
     producer.join();

@@ -27,6 +27,20 @@ static void *work(void *argument) {
     return NULL;
 }
 
+/* Puts the jobs, and adds up their numbers. Returns how many found their way. */
+static uint32_t put_all(kfifo_handle *handle, uint64_t *sum) {
+    for (uint32_t job = 1; job <= JOBS; job++) {
+        numbers[job] = (uint64_t)job * job;
+        kfifo_status status = kfifo_put_wait(handle, job, KFIFO_FOREVER);
+        if (status != KFIFO_DONE) {
+            fprintf(stderr, "job %u was not put: %s\n", (unsigned)job, kfifo_status_text(status));
+            return job - 1;
+        }
+        *sum += numbers[job];
+    }
+    return JOBS;
+}
+
 int main(void) {
     kfifo_handle handles[WORKERS + 1]; /* the last one is main's */
     struct worker workers[WORKERS];
@@ -40,21 +54,9 @@ int main(void) {
         workers[i] = (struct worker){.handle = &handles[i]};
         if (pthread_create(&threads[i], NULL, work, &workers[i])) return 1;
     }
-    uint32_t put = 0;
-    uint64_t sum = 0;
-    for (uint32_t job = 1; job <= JOBS; job++) {
-        numbers[job] = (uint64_t)job * job;
-        status = kfifo_put_wait(&handles[WORKERS], job, KFIFO_FOREVER);
-        if (status != KFIFO_DONE) {
-            fprintf(stderr, "job %u was not put: %s\n", (unsigned)job, kfifo_status_text(status));
-            break;
-        }
-        put++;
-        sum += numbers[job];
-    }
+    uint64_t sum = 0, total = 0;
+    uint32_t put = put_all(&handles[WORKERS], &sum), jobs = 0;
     if (kfifo_finish(&handles[WORKERS]) != KFIFO_DONE) abort(); /* a worker ends when it then finds the queue empty */
-    uint32_t jobs = 0;
-    uint64_t total = 0;
     for (uint32_t i = 0; i < WORKERS; i++) {
         pthread_join(threads[i], NULL);
         if (workers[i].end != KFIFO_FINISHED)
@@ -63,7 +65,7 @@ int main(void) {
         total += workers[i].sum;
     }
     static uint32_t left[K * SEGMENTS];
-    size_t count = 1;
+    size_t count = 0;
     if (kfifo_close(handles, WORKERS + 1, left, K * SEGMENTS, &count) != KFIFO_DONE) return 1;
     printf("%u jobs were put and %u done, %zu are left\n", (unsigned)put, (unsigned)jobs, count);
     return put == JOBS && jobs == JOBS && sum == total && count == 0 ? 0 : 1;
