@@ -1,5 +1,6 @@
 """Logs and rounds that other threads, processes or machines judge."""
 import concurrent.futures
+import contextlib
 import multiprocessing
 import os
 import pathlib
@@ -16,25 +17,36 @@ from kfifo_test import Call
 from .common import FOLDER, Checks, faults, get_nowait, put_nowait, with_path
 
 
+@contextlib.contextmanager
+def cluster():
+    """A client of a cluster whose workers are threads here, or None where Debian's package is not there."""
+    with warnings.catch_warnings():
+        warnings.simplefilter("ignore")  # those of the package
+        try:
+            from distributed import Client, LocalCluster
+        except ImportError:
+            print("skipped: a cluster, since this Python has no python3-distributed", file=sys.stderr)
+            yield None
+            return
+        workers = {"n_workers": 2, "threads_per_worker": 1, "processes": False}
+        with LocalCluster(protocol="tcp://", dashboard_address=None, **workers) as machines:
+            with Client(machines) as client:
+                yield client
+
+
 class ManyLogs(Checks):
     """Logs and rounds that other threads, processes or machines judge."""
 
     def executors(self):
-        """An executor of threads, one of processes, and that of a cluster where Debian's package is there."""
+        """An executor of threads, one of processes, and that of a cluster where there is one."""
         with concurrent.futures.ThreadPoolExecutor(2) as threads:
             yield "threads", threads
         context = multiprocessing.get_context("spawn")
         with mock.patch.dict(os.environ, with_path()):
             with concurrent.futures.ProcessPoolExecutor(2, mp_context=context) as processes:
                 yield "processes", processes
-        try:
-            from distributed import Client
-        except ImportError:
-            print("skipped: the executor of a cluster, since there is no python3-distributed", file=sys.stderr)
-            return
-        with warnings.catch_warnings():
-            warnings.simplefilter("ignore")  # those of the package
-            with Client(processes=False, n_workers=1, threads_per_worker=2, dashboard_address=None) as client:
+        with cluster() as client:
+            if client:
                 yield "a cluster", client.get_executor()
 
     def logs(self):
@@ -66,15 +78,21 @@ class ManyLogs(Checks):
         with self.assertRaises(ValueError):
             kfifo_test.judge_logs(paths, k=65)
 
-    def test_the_campaign_prints_what_is_not_legal(self):
-        self.logs()
-        words = [sys.executable, "-W", "error", str(FOLDER / "campaign.py"), self.folder]
-        ran = subprocess.run(words, env=with_path(), capture_output=True, text=True)
+    def check_campaign(self, *words):
+        ran = subprocess.run([sys.executable, *words], env=with_path(), capture_output=True, text=True)
         self.assertEqual((ran.returncode, ran.stderr), (0, ""))
         lines = ran.stdout.splitlines()
         self.assertEqual(len(lines), 11, ran.stdout)
         headline = "a get found nothing, while the queue held item 1"
         self.assertEqual(sum(line.endswith(f".csv: {headline}") for line in lines), 10)
+
+    def test_the_campaign_prints_what_is_not_legal(self):
+        self.logs()
+        words = [str(FOLDER / "campaign.py"), self.folder]
+        self.check_campaign("-W", "error", *words)
+        with cluster() as client:
+            if client:
+                self.check_campaign("-W", "ignore", *words, client.scheduler.address)
 
     def test_rounds_are_judged_by_any_executor(self):
         for name, executor in self.executors():
