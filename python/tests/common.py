@@ -25,10 +25,10 @@ HARDLY = 0.05
 USUAL = 30 if "KFIFO_JUDGE_LONG" in os.environ else 2
 
 
-def faults(name):
-    """The kinds of evidence that may be found of a faulty queue."""
+def faults():
+    """The kinds of evidence that may be found of each faulty queue of the shared table."""
     with SHARED.open() as table:
-        return [int(kind) for row in csv.DictReader(table) if row["queue"] == name for kind in row["evidence"].split()]
+        return {row["queue"]: [int(kind) for kind in row["evidence"].split()] for row in csv.DictReader(table)}
 
 
 def put_nowait(shared, item):

@@ -99,7 +99,7 @@ class ManyLogs(Checks):
             with self.subTest(name):
                 report = self.run_right(queue.Queue, put_nowait, get_nowait, rounds=30, executor=executor)
                 self.assertEqual(report.rounds, 30)
-                self.finds(queue.LifoQueue, put_nowait, get_nowait, faults("lifo"), executor=executor)
+                self.finds(queue.LifoQueue, put_nowait, get_nowait, faults()["lifo"], executor=executor)
 
     def test_a_round_that_was_judged_late_is_named(self):
         held = []

@@ -12,20 +12,20 @@ from .queues import LostUpdate, Pair, TestOutside, Wrapping
 
 
 class FaultyQueues(Checks):
-    def test_a_stack_is_found(self):
-        self.finds(queue.LifoQueue, put_nowait, get_nowait, faults("lifo"))
+    # The queues of the table that the tests in C++ and Rust share: how each is made, and its calls.
+    SHARED = {
+        "lifo": (queue.LifoQueue, put_nowait, get_nowait),
+        "ring-lost-update": (LostUpdate, put, get),
+        "full-outside-lock": (TestOutside, put, get),
+        "wrap-16": (Wrapping, put, get),
+        "two-thread-ring": (Pair, put, get),
+    }
 
-    def test_a_lost_update_is_found(self):
-        self.finds(LostUpdate, put, get, faults("ring-lost-update"), sized=True)
-
-    def test_a_test_outside_the_lock_is_found(self):
-        self.finds(TestOutside, put, get, faults("full-outside-lock"), sized=True)
-
-    def test_an_index_that_wraps_is_found(self):
-        self.finds(Wrapping, put, get, faults("wrap-16"), sized=True)
-
-    def test_a_ring_for_two_threads_is_found_where_more_use_it(self):
-        self.finds(Pair, put, get, faults("two-thread-ring"), sized=True)
+    def test_each_queue_of_the_shared_table_is_found(self):
+        self.assertEqual(sorted(faults()), sorted(self.SHARED))
+        for name, calls in self.SHARED.items():
+            with self.subTest(name):
+                self.finds(*calls, faults()[name], sized=name != "lifo")
 
     def test_the_assertion_has_the_report(self):
         with self.assertRaises(AssertionError) as caught:

@@ -1,7 +1,8 @@
 //! The check finds the fault of each faulty queue.
 use crate::queues::{Linked, Pair, Ring, RingFault, Stack, TestOutside, Wrapping};
 use crate::{finding, finds, had_no_race, turn};
-use kfifo::judge::{Outcome, run_check, run_check_sized};
+use kfifo::judge::{BadOption, Options, Outcome, Report, run_check, run_check_sized};
+use std::collections::BTreeMap;
 use std::fs;
 use std::path::Path;
 
@@ -9,34 +10,58 @@ use std::path::Path;
 const NOWHERE: u32 = 1;
 const TWICE: u32 = 2;
 
-/// The kinds of evidence that may be found of a faulty queue, from the table that the tests in C++ and Python share.
-fn faults(queue: &str) -> Vec<u32> {
+type Run = fn(Options) -> Result<Report, BadOption>;
+
+/// The queues of the table that the tests in C++ and Python share.
+const SHARED: [(&str, Run); 5] = [
+    ("lifo", |of| {
+        run_check(Stack::default, Stack::push, Stack::pop, of)
+    }),
+    ("ring-lost-update", |of| {
+        let make = |capacity| Ring::new(capacity, RingFault::LostUpdate);
+        run_check_sized(make, Ring::push, Ring::pop, of)
+    }),
+    // The length is two loads. Where the head moves on between them, it may be 0 with items inside.
+    ("full-outside-lock", |of| {
+        run_check_sized(TestOutside::new, TestOutside::push, TestOutside::pop, of)
+    }),
+    ("wrap-16", |of| {
+        run_check_sized(Wrapping::new, Wrapping::push, Wrapping::pop, of)
+    }),
+    ("two-thread-ring", |of| {
+        run_check_sized(Pair::new, Pair::push, Pair::pop, of)
+    }),
+];
+
+/// The kinds of evidence that may be found of each queue of that table.
+fn shared_kinds() -> BTreeMap<String, Vec<u32>> {
     let table = Path::new(env!("CARGO_MANIFEST_DIR")).join("../c/tests/checker/faulty_queues.csv");
     let table = fs::read_to_string(table).expect("the table can be read");
-    let row = table
+    let kinds_of = |kinds: &str| {
+        let kinds = kinds.split(' ').map(|kind| kind.parse());
+        kinds.collect::<Result<_, _>>().expect("kinds are numbers")
+    };
+    let rows = table
         .lines()
-        .find_map(|line| line.strip_prefix(queue)?.strip_prefix(','));
-    row.expect("the table has the queue")
-        .split(' ')
-        .map(|kind| kind.parse().expect("a kind is a number"))
+        .skip(1)
+        .filter_map(|line| line.split_once(','));
+    rows.map(|(queue, kinds)| (queue.to_string(), kinds_of(kinds)))
         .collect()
 }
 
 #[test]
-fn a_stack_is_found() {
+fn each_queue_of_the_shared_table_is_found() {
     let _turn = turn();
-    finds(
-        run_check(Stack::default, Stack::push, Stack::pop, finding("stack")),
-        &faults("lifo"),
+    let kinds = shared_kinds();
+    let mut names = SHARED.map(|(name, _)| name);
+    names.sort_unstable();
+    assert!(
+        kinds.keys().eq(&names),
+        "the table has other queues: {kinds:?}"
     );
-}
-
-#[test]
-fn a_lost_update_of_the_tail_is_found() {
-    let _turn = turn();
-    let make = |capacity| Ring::new(capacity, RingFault::LostUpdate);
-    let report = run_check_sized(make, Ring::push, Ring::pop, finding("lost_update"));
-    finds(report, &faults("ring-lost-update"));
+    for (name, run) in SHARED {
+        finds(run(finding(name)), &kinds[name]);
+    }
 }
 
 #[test]
@@ -45,31 +70,6 @@ fn a_slot_that_is_published_before_its_item_is_found() {
     let make = |capacity| Ring::new(capacity, RingFault::EarlyPublish);
     let report = run_check_sized(make, Ring::push, Ring::pop, finding("early_publish"));
     finds(report, &[NOWHERE, TWICE]);
-}
-
-#[test]
-fn a_test_of_the_length_outside_the_lock_is_found() {
-    let _turn = turn();
-    let report = run_check_sized(
-        TestOutside::new,
-        TestOutside::push,
-        TestOutside::pop,
-        finding("test_outside"),
-    );
-    // The length is two loads. Where the head moves on between them, it may be 0 with items inside.
-    finds(report, &faults("full-outside-lock"));
-}
-
-#[test]
-fn an_index_that_wraps_is_found() {
-    let _turn = turn();
-    let report = run_check_sized(
-        Wrapping::new,
-        Wrapping::push,
-        Wrapping::pop,
-        finding("wrapping"),
-    );
-    finds(report, &faults("wrap-16"));
 }
 
 #[test]
@@ -87,11 +87,4 @@ fn a_linked_queue_without_tags_is_found() {
         ) || had_no_race(&report),
         "{report}"
     );
-}
-
-#[test]
-fn a_ring_for_two_threads_is_found_where_more_use_it() {
-    let _turn = turn();
-    let report = run_check_sized(Pair::new, Pair::push, Pair::pop, finding("pair_of_many"));
-    finds(report, &faults("two-thread-ring"));
 }
