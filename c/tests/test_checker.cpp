@@ -340,7 +340,7 @@ std::string names_of(unsigned faults) {
     return names;
 }
 
-// The logs of the faulty queues go beside the program.
+// The logs of the faulty queues go into a folder beside the program.
 std::string folder = ".";
 
 CheckOptions options_of(const Row &row, double seconds) {
@@ -349,7 +349,7 @@ CheckOptions options_of(const Row &row, double seconds) {
     options.one_producer = options.one_consumer = row.is_one_of_each;
     options.hang_seconds = row.hang_seconds;
     options.seconds = seconds;
-    options.files = folder + "/test_checker";
+    options.folder = folder + "/test_checker.files";
 #ifdef FEWER
     options.in_process = true;
 #endif

@@ -3,6 +3,7 @@ from __future__ import annotations
 
 import collections
 import concurrent.futures
+import contextlib
 import itertools
 import operator
 import os
@@ -15,14 +16,14 @@ import time
 from typing import Any, Callable, NamedTuple, Optional
 
 from ._designs import Design, draw_design
-from ._hangs import LOOK, Watch, describe, stop
+from ._hangs import LOOK, Watch, stop
 from ._judge import Least, Verdict, draw, judge_packed, least_packed
 from ._library import Fault, load, packed
 from ._log import MAX_ITEM, Call, csv
 from ._options import Options
 from ._report import Report
 from ._rounds import Round
-from ._workers import Get, Lane, Make, Put
+from ._workers import WAITING, Get, Lane, Make, Put
 
 _KEPT_ROUNDS = 2_000  # faults of an index that wraps show in an old queue alone
 _SAMPLED, _SAMPLED_FOR_K = 8, 16  # of how many rounds one is looked at for overlaps, and for its least k
@@ -71,6 +72,7 @@ class _Check:
         self.pending: collections.deque[_Pending] = collections.deque()
         self.sampled = self.overlapped = 0
         self.told = time.monotonic()
+        self.has_told = False
 
     def run(self) -> Report:
         start = time.monotonic()
@@ -89,13 +91,14 @@ class _Check:
                 lane.inbox.put(None)
             # The executor may end after this: it has no round of this check any more.
             concurrent.futures.wait([it.judging for it in self.pending], timeout=_TO_JUDGE)
-        self.report.overlapping = self.overlapped / max(self.sampled, 1)
         if self.report.passed and self.report.undecided == self.report.rounds:
-            self.report.outcome, self.report.text = "undecided", "no round has a verdict"
+            self.report.outcome = "undecided"
         if self.report.passed and not self.report.taken:
             self.report.outcome = "nothing taken"
+        if self.has_told:
+            print("\r\033[K", end="", file=sys.stderr, flush=True)
         if self.report.passed and not self.options.quiet:
-            print(("\n" if sys.stderr.isatty() else "") + str(self.report))
+            print(self.report)
         return self.report
 
     def _queue_for(self, design: Design) -> _Kept:
@@ -117,19 +120,19 @@ class _Check:
         for lane in self.lanes:
             lane.log, lane.begun, lane.error, lane.latest, lane.is_empty = [], None, None, 0, False
         sys.setswitchinterval(interval if design.interval is None else design.interval)
-        hangs = self._run_jobs(lanes, turn.take_part)
+        hang = self._run_jobs(lanes, turn.take_part)
         sys.setswitchinterval(interval)
-        has_failed = any(lane.error for lane in lanes)
-        hangs = hangs or (not has_failed and self._run_jobs(lanes[:1], turn.empty))
+        if not hang and not any(lane.error for lane in lanes):
+            hang = self._run_jobs(lanes[:1], turn.empty)
         self.report.rounds += 1
-        self._end_round(turn, lanes, hangs)
+        self._end_round(turn, lanes, hang)
         if not lanes[0].is_empty:
             self.kept.pop(design.capacity, None)
 
-    def _run_jobs(self, lanes: list[Lane], job: Callable[[Lane], None]) -> bool:
-        """Has each of these workers do the job, and returns whether one hangs."""
+    def _run_jobs(self, lanes: list[Lane], job: Callable[[Lane], None]) -> str:
+        """Has each of these workers do the job, and returns what they are in if one hangs, else nothing."""
         for lane in lanes:
-            lane.phase = "was about to begin"
+            lane.phase = WAITING
         for lane in lanes:
             lane.inbox.put(job)
         watch, left, looked = Watch(lanes, self.options.hang_seconds), len(lanes), time.monotonic()
@@ -142,10 +145,10 @@ class _Check:
             if left and time.monotonic() - looked >= LOOK:
                 looked = time.monotonic()
                 if watch.sees_hang():
-                    return True
-        return False
+                    return watch.describe()
+        return ""
 
-    def _end_round(self, turn: Round, lanes: list[Lane], hangs: bool) -> None:
+    def _end_round(self, turn: Round, lanes: list[Lane], hang: str) -> None:
         design = turn.design
         calls = [call for lane in lanes for call in list(lane.log)]
         begun = [(lane.number, lane.begun) for lane in lanes if lane.begun]
@@ -154,18 +157,18 @@ class _Check:
         self.report.calls += len(calls)
         self.report.taken += sum(call.answer == "got" for call in calls)
         errors = [lane for lane in lanes if lane.error]
-        if errors or hangs:
+        if errors or hang:
             self._collect(0)  # a round before this one may already have no order, and says more
         if not self.report.passed:
             pass
         elif errors:
-            text = f"thread {errors[0].number}:\n{errors[0].error}"
+            text = f"thread {errors[0].number}: {errors[0].error}"
             self._fail("raised", text, self.report.rounds, design, calls)
-        elif hangs:
-            self._fail("hang", describe(lanes), self.report.rounds, design, calls)
+        elif hang:
+            self._fail("hang", hang, self.report.rounds, design, calls)
         else:
             self._judge(design, calls)
-        if hangs:
+        if hang:
             turn.start.abort()  # who waits for the others to begin goes on, and ends at its first call
             stop(lanes)
 
@@ -203,10 +206,12 @@ class _Check:
             self.report.tries = max(self.report.tries, verdict.tries)
         if verdict.status == "no order" or (verdict.status == "undecided" and self.options.undecided_fails):
             self.report.headline, self.report.evidence = verdict.headline, verdict.evidence
+            self.report.evidence_name, self.report.named = verdict.evidence_name, verdict.named
             self._fail(verdict.status, verdict.text, judged.number, judged.design, judged.calls)
-        elif found and found.at_least is not None and found.at_most is not None:
+        elif found and found.at_least is not None:
             low, high = self.report.least or (1, 1)
-            self.report.least = (max(low, found.at_least), max(high, found.at_most))
+            most = None if high is None or found.at_most is None else max(high, found.at_most)
+            self.report.least = (max(low, found.at_least), most)
 
     def _count_overlaps(self, calls: list[Call]) -> None:
         latest = 0
@@ -214,35 +219,36 @@ class _Check:
             self.overlapped += latest >= call.first or (after is not None and after.first <= call.last)
             latest = max(latest, call.last)
         self.sampled += len(calls)
+        self.report.overlapping = self.overlapped / max(self.sampled, 1)
 
     def _fail(self, outcome: str, text: str, number: int, design: Design, calls: list[Call]) -> None:
         report = self.report
         report.outcome, report.text = outcome, text
-        capacity = f", capacity {design.capacity}" if self.options.sized else ""
-        switches = ", switches between bytecodes" if design.traced else ""
-        made = f"{design.threads} threads, {design.calls} calls each, {design.mix}"
-        report.failed_round = f"round {number}: {made}{capacity}{switches}"
-        folder = pathlib.Path(self.options.folder or tempfile.gettempdir())
-        stem = folder / f"kfifo-{report.name}-{os.getpid()}-{next(_files)}"
+        report.failed_round = f"round {number}: {design.text()}; times are nanoseconds"
+        folder = self.options.folder or tempfile.gettempdir()
+        stem = os.path.join(folder, f"kfifo-{report.name}-{os.getpid()}-{next(_files)}")
+        report.log = self._written(f"{stem}.csv", csv(calls))
+        part = {"no order": "evidence", "hang": "all", "raised": "all"}.get(outcome)
+        if part:
+            with contextlib.suppress(Fault):  # of too many calls there is no picture
+                report.picture = self._written(f"{stem}.svg", draw(calls, report.k, part))
+
+    def _written(self, name: str, content: str) -> Optional[str]:
+        """Writes a file, and returns its name, or notes why it cannot be written."""
         try:
-            folder.mkdir(parents=True, exist_ok=True)
-            stem.with_name(stem.name + ".csv").write_text(csv(calls))
-            report.log = f"{stem}.csv"
-            if outcome == "no order":
-                stem.with_name(stem.name + ".svg").write_text(draw(calls, report.k))
-                report.picture = f"{stem}.svg"
-        except (OSError, Fault) as fault:
-            report.unwritten = str(fault)
+            os.makedirs(os.path.dirname(name), exist_ok=True)
+            pathlib.Path(name).write_text(content)
+        except OSError as fault:
+            self.report.unwritten.append(f"{name}: {fault.strerror}")
+            return None
+        return name
 
     def _tell(self) -> None:
         """Says on a terminal how far the check is."""
         if self.options.quiet or time.monotonic() - self.told < 0.5 or not sys.stderr.isatty():
             return
-        self.told = time.monotonic()
-        share = 100 * self.overlapped // max(self.sampled, 1)
-        report = self.report
-        text = f"{report.name}: {report.rounds} rounds, {report.calls} calls, {share} % overlapping, "
-        print(f"\r{text}{report._undecided_rounds()} ", end="", file=sys.stderr, flush=True)
+        self.told, self.has_told = time.monotonic(), True
+        print(f"\r\033[K{self.report.name}: {self.report.counts()}", end="", file=sys.stderr, flush=True)
 
 
 def run_check(make: Make, put: Put, get: Get, **options: Any) -> Report:

@@ -27,6 +27,14 @@ class Design:
     one_producer: bool
     one_consumer: bool
 
+    def text(self) -> str:
+        """What the report says of it."""
+        lone = [word for word, one in (("one producer", self.one_producer), ("one consumer", self.one_consumer)) if one]
+        capacity = f", capacity {self.capacity}" if self.capacity else ""
+        switches = ", switches between bytecodes" if self.traced else ""
+        callers = " and ".join(lone) or self.mix
+        return f"{self.threads} threads, {self.calls} calls each, {callers}{capacity}{switches}"
+
     def role(self, thread: int) -> Optional[bool]:
         """Whether a thread only puts (True) or only gets (False); None where it does both."""
         if self.one_consumer:

@@ -11,7 +11,7 @@ import traceback
 from typing import Any, Optional
 
 from ._tracing import is_tracing
-from ._workers import Lane, Stopped
+from ._workers import CALLING, EMPTYING, Lane, Stopped
 
 LOOK = 0.02  # seconds between two looks at the threads
 _LATE = 10  # how many times as much may lie between two looks, as time in which the threads could run
@@ -42,26 +42,24 @@ class Watch:
             seen = self.seen.get(lane.number)
             if seen is None or seen[0] != where:
                 self.seen[lane.number] = (where, self.waited, used)
-            elif lane.phase == "calling":
+            elif lane.phase in CALLING:
                 hangs |= used - seen[2] >= self.limit or self.waited - seen[1] >= _WAIT_FACTOR * self.limit
         return hangs
 
-
-def describe(lanes: list[Lane]) -> str:
-    """What each thread was in, with the newest frames of those in a call."""
-    frames = sys._current_frames()
-    lines = []
-    for lane in lanes:
-        begun, frame = lane.begun, frames.get(lane.thread.ident or 0)
-        if lane.phase != "calling":
-            lines.append(f"thread {lane.number} {lane.phase}")
-        elif begun is None or frame is None:
-            lines.append(f"thread {lane.number} was between two calls")
-        else:
-            what = f"a put of item {begun[1]}" if begun[0] == "put" else "a get"
-            lines.append(f"thread {lane.number} was in {what}, call {len(lane.log) + 1} of its own:")
-            lines += newest_frames(frame)
-    return "\n".join(lines)
+    def describe(self) -> str:
+        """What each thread is in that is in a call, as it was when it was last looked at, with its newest frames."""
+        frames = sys._current_frames()
+        lines = []
+        for lane in self.lanes:
+            begun, frame, seen = lane.begun, frames.get(lane.thread.ident or 0), self.seen.get(lane.number)
+            if begun and frame and seen and lane.phase in CALLING:
+                what = f"a put of item {begun[1]}" if begun[0] == "put" else "a get"
+                empties = " that empties the queue" if lane.phase == EMPTYING else ""
+                used, lasted = lane.processor_time() - seen[2], self.waited - seen[1]
+                times = f"{used:.2f} s of processor time and {lasted:.2f} s in all"
+                where = f"{what}{empties}, call {len(lane.log) + 1} of its own"
+                lines += [f"thread {lane.number} was in {where}, for {times}", *newest_frames(frame)]
+        return "\n".join(lines) or "no thread was in a call of the queue"
 
 
 def newest_frames(frame: Any) -> list[str]:
@@ -85,7 +83,7 @@ def stop(lanes: list[Lane]) -> None:
     """
     for lane in lanes:
         lane.put = lane.get = _refuse
-    stuck = [lane.thread for lane in lanes if lane.phase == "calling"]
+    stuck = [lane.thread for lane in lanes if lane.phase in CALLING]
     stopped = _thread.allocate_lock()
     stopped.acquire()
     # This thread may be traced, by a debugger, say. It could not go on while the flag of _stop_each is set.

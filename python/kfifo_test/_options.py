@@ -25,7 +25,7 @@ class Options:
     seconds: float = 5.0  # when rounds end; the first is made in any case
     rounds: Optional[int] = None  # after how many rounds they end, where the time is not up before
     seed: Optional[int] = None  # what the designs are drawn by; it repeats the designs, not the schedules
-    folder: Optional[str] = None  # for the log and the picture of a failure: None is the one for temporary files
+    folder: Optional[str] = None  # of the log and the picture of a failure: None is the one for temporary files
     one_producer: bool = False  # whether the last thread alone puts, and puts only
     one_consumer: bool = False  # whether thread 0 alone gets, and gets only
     repeated: Optional[int] = None  # how many different items there are: None gives each put an item of its own

@@ -10,7 +10,7 @@ from typing import Any, Optional
 from ._designs import Design
 from ._options import SPARE
 from ._tracing import tracer
-from ._workers import Lane
+from ._workers import EMPTYING, MAKING_CALLS, WAITING, Lane
 
 
 @dataclass
@@ -36,7 +36,7 @@ class Round:
             dice = random.Random(self.seed * 64 + lane.number)
             plan = self.design.plan(lane.number, dice)
             if lane.number == self.design.threads - 1:
-                lane.phase = "calling"
+                lane.phase = MAKING_CALLS
                 first = self.base + self.design.threads * self.design.puts()
                 for number in range(first, first + self.design.before):
                     lane.make_put(self.shared, self._item(number, dice))
@@ -44,9 +44,9 @@ class Round:
             numbers = (self._item(number, dice) for number in itertools.count(first))
             items = [next(numbers) if is_put else 0 for is_put in plan]
             lane.tracer = tracer(dice) if self.design.traced else None
-            lane.phase = "waited for the others to begin"
+            lane.phase = WAITING
             self._wait()
-            lane.phase = "calling"
+            lane.phase = MAKING_CALLS
             for item in items:
                 if item:
                     lane.make_put(self.shared, item)
@@ -66,7 +66,7 @@ class Round:
 
     def empty(self, lane: Lane) -> None:
         """Gets until the queue says that it is empty, or has given more items than it can have had."""
-        lane.phase = "calling"
+        lane.phase = EMPTYING
         for _ in range(self.design.threads * self.design.calls_of(0) + self.design.items() + SPARE):
             if lane.make_get(self.shared) == "empty":
                 lane.is_empty = True

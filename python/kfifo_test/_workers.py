@@ -13,6 +13,10 @@ from ._log import Call
 BUSY = object()
 """What a put or a get returns that gave up because of others, and changed nothing."""
 
+# What a worker does: nothing that can hang, or calls of a round, or those that empty the queue after it.
+WAITING, MAKING_CALLS, EMPTYING = "waiting", "making calls", "emptying"
+CALLING = (MAKING_CALLS, EMPTYING)
+
 Make = Callable[..., Any]
 Put = Callable[[Any, int], Any]
 Get = Callable[[Any], Any]
@@ -28,6 +32,13 @@ class NotAnItem(Exception):
     __module__ = "kfifo_test"  # so a traceback shows the name by which callers know it
 
 
+def _text_of(error: BaseException) -> str:
+    """What an exception says, and below it where it came from."""
+    words = "".join(traceback.format_exception_only(type(error), error)).rstrip()
+    whole = "".join(traceback.format_exception(type(error), error, error.__traceback__)).rstrip()
+    return f"{words}\n{whole.removesuffix(words).rstrip()}"
+
+
 class Lane:
     """One worker thread and its log."""
 
@@ -37,8 +48,8 @@ class Lane:
         self.get = get
         self.log: list[Call] = []
         self.begun: Optional[tuple[str, int, int]] = None  # the call that has not returned: op, item and first time
-        self.phase = "had ended its calls"
-        self.error: Optional[str] = None
+        self.phase = WAITING
+        self.error: Optional[str] = None  # of an exception that came out of a call: what it says, and its traceback
         self.is_empty = False  # whether the queue was empty when this thread emptied it
         self.tracer: Optional[Callable[..., Any]] = None
         self.latest = 0
@@ -61,9 +72,9 @@ class Lane:
                     job(self)
                 except Stopped:
                     raise
-                except BaseException:  # SystemExit too, and what a test framework fails by: the queue raised it
-                    self.error = traceback.format_exc()
-                self.phase = "had ended its calls"
+                except BaseException as error:  # SystemExit too, and what a test framework fails by
+                    self.error = _text_of(error)
+                self.phase = WAITING
                 self.done.put(self.number)
         except Stopped:
             pass  # it hung in a call, and the report has named it

@@ -13,6 +13,8 @@ FOLDER = pathlib.Path(__file__).resolve().parent.parent
 TOP = FOLDER.parent
 # The faulty queues that the checks for C++, Rust and Python have in common, with the evidence that may be found.
 SHARED = TOP / "c/tests/checker/faulty_queues.csv"
+# What a check prints, which they have in common too.
+REPORTS = TOP / "c/tests/checker/reports.txt"
 # Parts of the logs of the gallery, and what is said of each.
 GALLERY = TOP / "c/tests/checker/gallery"
 
@@ -75,8 +77,9 @@ class Checks(unittest.TestCase):
         self.assertEqual(report.outcome, "no order", report)
         self.assertIn(report.evidence, reasons, report)
         verdict = kfifo_test.judge_text(pathlib.Path(report.log).read_text())
-        found = (report.text, report.headline, report.evidence)
-        self.assertEqual((verdict.text, verdict.headline, verdict.evidence), found)
+        found = (report.text, report.headline, report.evidence, report.evidence_name, report.named)
+        said = (verdict.text, verdict.headline, verdict.evidence, verdict.evidence_name, verdict.named)
+        self.assertEqual(said, found)
         self.assertIn(f"no legal order: {report.headline}\n", str(report))
         self.assertIn("<svg", pathlib.Path(report.picture).read_text())
         return report

@@ -10,6 +10,7 @@ from unittest import mock
 
 import kfifo_test
 from kfifo_test import _hangs, _tracing
+from kfifo_test._workers import MAKING_CALLS
 
 from .common import AT_MOST, Checks, get_nowait, put_nowait, with_path
 
@@ -35,7 +36,7 @@ class Hangs(Checks):
         options = self.options(hang_seconds=0.1)
         report = kfifo_test.run_check(queue.Queue, lambda shared, item: None, spin, **options)
         self.assertEqual(report.outcome, "hang", report)
-        self.assertRegex(report.text, r"thread \d was in a get, call \d+ of its own:\n  File .* in spin\n")
+        self.assertRegex(report.text, r"thread \d was in a get, call \d+ of its own, for .* in all\n  File .* in spin\n")
         self.assertRegex(pathlib.Path(report.log).read_text(), r"(?m)^\d,deq,,\d+,,$")
         self.assertEqual(workers_left(lambda left: not left), [])
 
@@ -103,7 +104,7 @@ class Hangs(Checks):
         self.assertEqual((ran.stdout, ran.stderr), ("hang\n", ""))
 
     def test_time_in_which_the_process_was_stopped_is_no_hang(self):
-        lane = mock.Mock(number=0, phase="calling", log=[])
+        lane = mock.Mock(number=0, phase=MAKING_CALLS, log=[])
         lane.processor_time.return_value = 0
         with mock.patch("time.monotonic") as clock:
             clock.return_value = 0

@@ -28,7 +28,7 @@ class Agreement(unittest.TestCase):
         part = self.text(path).partition(begin)[2].partition("\n}")[0].partition("\n        }\n")[0]
         return dict(re.findall(pattern, part))
 
-    def test_the_page_has_the_options_of_each(self):
+    def test_the_page_has_the_options_that_they_share(self):
         begin = "struct CheckOptions {"
         cpp = self.options_in("c/include/kfifo_test/interface.hpp", begin, r"(?m)^    [\w:<>]+ (\w+) = ([^;]+);")
         begin = "fn default() -> Options {"
@@ -41,6 +41,8 @@ class Agreement(unittest.TestCase):
         for name, *defaults in rows:
             with self.subTest(name):
                 self.assertEqual([it.get(name) for it in (cpp, rust, python)], defaults)
+        shared = {name for name in [*cpp, *rust, *python] if sum(name in it for it in (cpp, rust, python)) > 1}
+        self.assertEqual(shared, {name for name, *_ in rows})
 
     def test_a_search_has_as_many_tries_in_each(self):
         for path, pattern in (

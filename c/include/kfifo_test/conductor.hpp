@@ -219,7 +219,7 @@ class Conductor {
         bool is_empty = false;
         {
             Log log(board.lanes[lane], memory.log(index, lane), clock, 0, slot.number);
-            completes([&] { is_empty = kept.queue->drain(log, settings.drained); }, "a get that empties the queue");
+            completes([&] { is_empty = kept.queue->drain(log, settings.drained); }, "thread 0");
             slot.complete[lane] = log.length();
         }
         if (!is_empty && !board.has_note) destroy(kept);
@@ -263,7 +263,7 @@ class Conductor {
             board.sampled += working;
             board.overlapping += overlapping(calls, working);
         }
-        if ((options.least || options.k > 1) && slot.number % 64 == 1) find_least(calls);
+        if (options.k > 1 && slot.number % 64 == 1) find_least(calls);
     }
 
     static bool has_got(const kfifo_judge_call &call) noexcept { return call.answer == KFIFO_JUDGE_GOT; }

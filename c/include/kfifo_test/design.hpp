@@ -76,9 +76,9 @@ inline std::string text(const Design &design) {
     static const char *const callers[] = {"one producer", "one consumer", "one producer and one consumer"};
     const int split = (design.one_producer ? 1 : 0) + (design.one_consumer ? 2 : 0);
     return std::to_string(design.threads) + " threads, " + std::to_string(design.calls) + " calls each, " +
-           (split == 0 ? mixes[int(design.mix)] : callers[split - 1]) + ", " +
-           (design.capacity ? "capacity " + std::to_string(design.capacity) + ", " : "") +
-           (design.pauses ? "pauses" : "no pauses") + (design.pinned ? ", pinned" : "") +
+           (split == 0 ? mixes[int(design.mix)] : callers[split - 1]) +
+           (design.capacity ? ", capacity " + std::to_string(design.capacity) : "") +
+           (design.pauses ? ", pauses" : "") + (design.pinned ? ", pinned" : "") +
            (design.signals ? ", interrupted by signals" : "") + (design.busy ? ", the machine was busy" : "");
 }
 

@@ -31,7 +31,7 @@ struct Got {
 
 // What a check does. The options that the checks of Rust and Python have too have their names and defaults.
 struct CheckOptions {
-    std::string name = "queue"; // of the queue, in the report
+    std::string name = "queue"; // of the queue, in the report and in the names of the files
     std::uint32_t k = 1;        // a get may return any of the k oldest items, 1 to 64; 1 is plain FIFO
     double seconds = 5;         // when rounds end; the first is made in any case
     std::optional<std::uint64_t> rounds = std::nullopt;   // after how many they end, where the time is not up before
@@ -44,12 +44,11 @@ struct CheckOptions {
     std::optional<std::uint32_t> repeated = std::nullopt; // from how many items puts draw; none: each has its own
     bool signals = true;          // in one round of four a timer's signal interrupts threads inside calls
     bool undecided_fails = false; // whether a round without a verdict is a failure; it is counted in any case
-    bool least = false;           // whether the least k of some rounds is looked for, as is always done where k > 1
     std::uint64_t tries = KFIFO_JUDGE_TRIES; // how many choices the search for an order may take back in a round
     double hang_seconds = 0.5; // processor time after which a call hangs; a call that sleeps has ten times as long
     bool in_process = false;   // no child process, for sanitizers and debuggers; a hang then ends in std::abort
     bool quiet = false;        // no line of progress, which else is shown where standard error is a terminal
-    std::string files = "kfifo_check"; // a failure writes this name with .csv and .svg; empty: no files
+    std::optional<std::string> folder = std::nullopt; // of a failure's log and picture; none: for temporary files
 };
 
 // How a check ended.
@@ -71,6 +70,8 @@ struct CheckReport {
     std::string reason;   // of no_order, undecided and no_verdict: what the judge printed
     std::string headline; // of no_order: what the evidence says of the queue, in words
     kfifo_judge_evidence evidence = KFIFO_JUDGE_NO_EVIDENCE; // of no_order: the kind of evidence
+    std::string evidence_name;                               // and its name, as "too young"
+    std::vector<kfifo_judge_named> named;                    // and the calls that it rests on, in the order of the text
     std::uint64_t rounds = 0;                                // how many were judged
     std::uint64_t calls = 0;                                 // in these rounds
     std::uint64_t undecided = 0;                             // rounds without a verdict

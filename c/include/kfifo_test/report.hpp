@@ -8,38 +8,46 @@
 #include "shared_memory.hpp"
 #include "verdict.hpp"
 
+#include <atomic>
+#include <cerrno>
 #include <cstddef>
 #include <cstdint>
 #include <cstdio>
 #include <cstring>
+#include <filesystem>
 #include <fstream>
 #include <optional>
+#include <sstream>
 #include <string>
 #include <sys/wait.h>
+#include <system_error>
+#include <unistd.h>
 #include <vector>
 
 namespace kfifo::checking {
 
-inline std::string grouped(std::uint64_t number) {
-    std::string digits = std::to_string(number);
-    for (std::size_t at = digits.size(); at > 3; at -= 3) digits.insert(at - 3, ",");
-    return digits;
-}
-// How many rounds have no verdict, and after how many tries the search gave up in them, at most.
-inline std::string undecided_rounds(std::uint64_t count, std::uint64_t tries) {
-    const std::string tried = count == 0 ? "" : " after at most " + std::to_string(tries) + " tries each";
-    return std::to_string(count) + " undecided" + tried;
-}
 inline std::string rounded(double number, int digits) {
     char text[64];
     std::snprintf(text, sizeof text, "%.*f", digits, number);
     return text;
 }
+// The share of calls that overlap another one, in a sample of rounds.
+inline double share_overlapping(const Board &board) noexcept {
+    const double sampled = double(board.sampled);
+    return sampled > 0 ? double(board.overlapping) / sampled : 0;
+}
+// How much was looked at, and after how many tries the search gave up in the undecided rounds, at most.
+inline std::string counts_of(const Board &board) {
+    const std::string tried = " after at most " + std::to_string(board.tries) + " tries each";
+    return std::to_string(board.rounds) + " rounds, " + std::to_string(board.calls) + " calls, " +
+           rounded(100 * share_overlapping(board), 0) + " % overlapping, " + std::to_string(board.undecided) +
+           " undecided" + (board.undecided > 0 ? tried : "");
+}
 
-// Writes a log as `kfifo judge` reads it.
-inline bool write_log(const std::string &name, const std::vector<kfifo_judge_call> &calls) {
+// A log as `kfifo judge` reads it.
+inline std::string csv_of(const std::vector<kfifo_judge_call> &calls) {
     static const char *const answers[] = {"", "done", "full", "got", "empty", "busy", "worn"};
-    std::ofstream out(name, std::ios::binary);
+    std::ostringstream out;
     out << "thread,op,item,first,last,answer\n";
     for (const kfifo_judge_call &call : calls) {
         out << call.thread << (call.op == KFIFO_JUDGE_PUT ? ",enq," : ",deq,");
@@ -48,8 +56,16 @@ inline bool write_log(const std::string &name, const std::vector<kfifo_judge_cal
         if (call.answer != KFIFO_JUDGE_UNFINISHED) out << call.last;
         out << ',' << answers[call.answer <= KFIFO_JUDGE_WORN ? call.answer : 0] << '\n';
     }
+    return out.str();
+}
+
+// Writes a file, and returns why that cannot be done, or an empty text.
+inline std::string write_file(const std::string &name, const std::string &content) {
+    errno = 0;
+    std::ofstream out(name, std::ios::binary);
+    out << content;
     out.close();
-    return bool(out);
+    return out ? "" : std::generic_category().message(errno == 0 ? EIO : errno);
 }
 
 // Makes the report of a check from what the shared memory has, in the caller's process: a faulty queue may have damaged
@@ -72,8 +88,8 @@ class Reporter {
             return finish_with_round(hanging());
         }
         if (ended == Ended::hang || ended == Ended::threw) {
-            end(Outcome::threw, "an exception came out of " + note());
-            return finish_with_round("");
+            end(Outcome::threw, "a call failed");
+            return finish_with_round(note());
         }
         if (ended == Ended::broken) {
             end(Outcome::no_verdict, "the check could not go on: " + note());
@@ -90,8 +106,7 @@ class Reporter {
         report.undecided = board.undecided;
         report.tries = board.tries;
         report.seed = settings.seed;
-        const double sampled = double(board.sampled);
-        report.overlapping = sampled > 0 ? double(board.overlapping) / sampled : 0;
+        report.overlapping = share_overlapping(board);
         report.least_at_least = board.least_at_least;
         report.least_at_most = board.least_unknown > 0 ? 0 : board.least_at_most.load();
     }
@@ -109,9 +124,7 @@ class Reporter {
 
     // The last line.
     std::string counts() const {
-        std::string text = std::to_string(report.rounds) + " rounds, " + std::to_string(report.calls) + " calls, " +
-                           rounded(100 * report.overlapping, 0) + " % overlapping, " +
-                           undecided_rounds(report.undecided, report.tries) + ", seed " + std::to_string(report.seed);
+        std::string text = counts_of(board) + ", seed " + std::to_string(report.seed);
         if (report.least_at_least == 0) return text;
         text += "; of a sample the least k is at least " + std::to_string(report.least_at_least) + " and at most ";
         return text + (report.least_at_most > 0 ? std::to_string(report.least_at_most) : "unknown");
@@ -126,7 +139,7 @@ class Reporter {
         else
             end(Outcome::passed, "no fault found");
         if (report.overlapping < 0.2)
-            add("few calls overlapped, so few faults could show: the threads need more processors");
+            add("few calls overlapped, so few faults could show: try more processors or more seconds");
         add(counts());
         return report;
     }
@@ -150,16 +163,20 @@ class Reporter {
         report.reason = verdict.text();
         report.headline = verdict.headline();
         report.evidence = verdict.evidence();
+        report.evidence_name = kfifo_judge_evidence_name(report.evidence);
+        report.named = verdict.named();
         std::string details = report.reason;
+        std::optional<kfifo_draw_part> part;
         if (verdict.status() == KFIFO_JUDGE_NO_ORDER) {
             end(Outcome::no_order, "no legal order: " + report.headline);
+            part = KFIFO_DRAW_EVIDENCE;
         } else if (verdict.status() == KFIFO_JUDGE_UNDECIDED) {
             end(Outcome::undecided, "a round is undecided");
         } else {
             end(Outcome::no_verdict, "a log cannot be judged: the check or its functions are wrong, not the queue");
             details += "a put answers done, full, busy or worn, a get got, empty, busy or worn";
         }
-        return finish(index, calls, KFIFO_DRAW_EVIDENCE, details);
+        return finish(index, calls, part, details);
     }
 
     // What each thread was in that was in a call.
@@ -170,7 +187,7 @@ class Reporter {
                 text += text_of(lane) + ", for " + rounded(double(board.lanes[lane].spent) / 1e9, 2) +
                         " s of processor time and " + rounded(double(board.lanes[lane].lasted) / 1e9, 2) +
                         " s in all\n";
-        return text;
+        return text.empty() ? NO_CALL : text;
     }
 
     // How the process ended, in words.
@@ -190,18 +207,21 @@ class Reporter {
         std::string text;
         for (unsigned lane = 0; lane < memory.lanes(); lane++)
             if (what_of(board.lanes[lane].now) != Doing::nothing) text += text_of(lane) + "\n";
-        return text.empty() ? "no thread was in a call of the queue" : text;
+        return text.empty() ? NO_CALL : text;
     }
 
-    // As "thread 2 was in a put of item 17".
+    // As "thread 2 was in a put of item 17, call 5 of its own".
     std::string text_of(unsigned lane) const {
         const std::uint64_t now = board.lanes[lane].now;
-        const std::string thread = "thread " + std::to_string(lane == settings.threads ? 0 : lane) + " was in ";
+        const bool empties = lane == settings.threads; // thread 0, after the calls of its first lane
+        const std::size_t before = complete_of(now) + (empties ? complete_of(board.lanes[0].now) : 0);
+        const std::string thread = "thread " + std::to_string(empties ? 0 : lane) + " was in ";
+        const std::string number = ", call " + std::to_string(before + 1) + " of its own";
         switch (what_of(now)) {
-        case Doing::put: return thread + "a put of item " + std::to_string(item_of(now));
+        case Doing::put: return thread + "a put of item " + std::to_string(item_of(now)) + number;
         case Doing::making: return thread + "the maker of the queue";
         case Doing::destroying: return thread + "the destructor of the queue";
-        default: return thread + "a get" + (lane == settings.threads ? ", to empty the queue after the round" : "");
+        default: return thread + "a get" + (empties ? " that empties the queue" : "") + number;
         }
     }
 
@@ -215,32 +235,43 @@ class Reporter {
         return report;
     }
 
-    CheckReport finish(unsigned index, const std::vector<kfifo_judge_call> &calls, kfifo_draw_part part,
+    CheckReport finish(unsigned index, const std::vector<kfifo_judge_call> &calls, std::optional<kfifo_draw_part> part,
                        const std::string &details) {
         const Slot &slot = board.slots[index];
         add("round " + std::to_string(slot.number) + ": " + text(slot.design) + "; times are " +
             (board.has_ticks ? "ticks of the processor's counter" : "nanoseconds"));
         add(details);
-        if (!settings.options.files.empty()) write_files(calls, part);
+        write_files(calls, part);
         add(counts());
         return report;
     }
 
-    void write_files(const std::vector<kfifo_judge_call> &calls, kfifo_draw_part part) {
-        const std::string log = settings.options.files + ".csv", picture = settings.options.files + ".svg";
-        if (write_log(log, calls)) report.log = log;
-        add((report.log.empty() ? "not written: " : "log: ") + log);
+    // Writes the log, and a picture if a part is to be drawn. Of too many calls there is none.
+    void write_files(const std::vector<kfifo_judge_call> &calls, std::optional<kfifo_draw_part> part) {
+        static std::atomic<unsigned> files{0};
+        const CheckOptions &options = settings.options;
+        std::error_code ignored; // a folder that cannot be made has no files
+        const std::filesystem::path folder =
+            options.folder ? std::filesystem::path(*options.folder) : std::filesystem::temp_directory_path(ignored);
+        std::filesystem::create_directories(folder, ignored);
+        const std::string stem = "kfifo-" + options.name + "-" + std::to_string(getpid()) + "-";
+        const std::string file = (folder / (stem + std::to_string(files++))).string();
+        report.log = written("log: ", file + ".csv", csv_of(calls));
         kfifo_judge_report drawn{};
-        if (kfifo_draw_calls(calls.data(), calls.size(), settings.options.k, part, KFIFO_DRAW_SVG, &drawn) ==
-            KFIFO_JUDGE_DRAWN) {
-            std::ofstream out(picture, std::ios::binary);
-            out.write(drawn.text, std::streamsize(drawn.length));
-            out.close();
-            if (out) report.picture = picture;
-            add((report.picture.empty() ? "not written: " : "picture: ") + picture);
-        }
+        if (part &&
+            kfifo_draw_calls(calls.data(), calls.size(), options.k, *part, KFIFO_DRAW_SVG, &drawn) == KFIFO_JUDGE_DRAWN)
+            report.picture = written("picture: ", file + ".svg", drawn.text);
         kfifo_judge_clear(&drawn);
     }
+
+    // Writes a file, and adds a line that says so, or why it cannot. Returns the name of a file that was written.
+    std::string written(const char *what, const std::string &name, const std::string &content) {
+        const std::string why = write_file(name, content);
+        add(why.empty() ? what + name : "not written: " + name + ": " + why);
+        return why.empty() ? name : "";
+    }
+
+    static constexpr const char *NO_CALL = "no thread was in a call of the queue";
 
     const Settings &settings;
     const SharedMemory &memory;

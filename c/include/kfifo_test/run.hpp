@@ -38,23 +38,22 @@ namespace kfifo::checking {
 // A line of progress on a terminal, which the next one overwrites.
 class Progress {
   public:
-    explicit Progress(const CheckOptions &options) : shows(!options.quiet && isatty(2) != 0) {}
+    explicit Progress(const CheckOptions &options) : name(options.name), shows(!options.quiet && isatty(2) != 0) {}
     ~Progress() {
         if (has_shown) std::fprintf(stderr, "\r\033[K");
     }
     void show(const Board &board, double seconds) {
         if (!shows || seconds < next) return;
-        next = seconds + 0.2;
+        next = seconds + PERIOD;
         has_shown = true;
-        const std::uint64_t sampled = board.sampled, share = sampled ? 100 * board.overlapping / sampled : 0;
-        std::fprintf(stderr, "\r\033[K%.1f s, %s calls, %d %% overlapping, %s rounds legal, %s", seconds,
-                     grouped(board.calls).c_str(), int(share), grouped(board.rounds - board.undecided).c_str(),
-                     undecided_rounds(board.undecided, board.tries).c_str());
+        std::fprintf(stderr, "\r\033[K%s: %s", name.c_str(), counts_of(board).c_str());
     }
 
   private:
+    static constexpr double PERIOD = 0.5;
+    const std::string &name;
     bool shows, has_shown = false;
-    double next = 0.2;
+    double next = PERIOD;
 };
 
 inline void refuse_if(bool is_wrong, const char *why) {
@@ -62,7 +61,8 @@ inline void refuse_if(bool is_wrong, const char *why) {
 }
 
 inline void check_options(const CheckOptions &of) {
-    refuse_if(of.name.empty(), "the name is not empty");
+    refuse_if(of.name.empty() || of.name.find_first_of(std::string("/\0", 2)) != of.name.npos,
+              "the name is not empty, and can stand in the name of a file");
     refuse_if(of.k < 1 || of.k > 64, "k is 1 to 64");
     refuse_if(of.threads && (*of.threads < 2 || *of.threads > MAX_THREADS), "threads are 2 to 64");
     refuse_if(of.one_producer && of.one_consumer && of.threads.value_or(2) != 2,

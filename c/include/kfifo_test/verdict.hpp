@@ -81,6 +81,7 @@ class Verdict {
     std::uint64_t tries() const noexcept { return report.tries; }
     std::string text() const { return report.text ? report.text : "the judge ran out of memory\n"; }
     std::string headline() const { return report.headline ? report.headline : ""; }
+    std::vector<kfifo_judge_named> named() const { return {report.named, report.named + report.named_count}; }
 
   private:
     kfifo_judge_report report{};

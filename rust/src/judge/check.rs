@@ -4,7 +4,7 @@ use super::options::{BadOption, CAPACITIES, Design, Options};
 use super::report::{Outcome, Report};
 use super::rounds::{Pool, Round, Subject};
 use super::verdict::{Answer, Call, Least, MAX_ITEM, Verdict, judge, least};
-use super::watch::{Watch, describe};
+use super::watch::Watch;
 use std::io::{IsTerminal, Write, stderr};
 use std::process;
 use std::sync::Arc;
@@ -49,6 +49,7 @@ struct Check<Q, H> {
     sampled: u64,
     overlapped: u64,
     told: Instant,
+    has_told: bool,
 }
 
 /// A number that no other check begins with.
@@ -81,6 +82,7 @@ pub(super) fn run<Q: Send + Sync + 'static, H: 'static>(
         sampled: 0,
         overlapped: 0,
         told: Instant::now(),
+        has_told: false,
     };
     check.make_rounds();
     Ok(check.report)
@@ -97,20 +99,14 @@ impl<Q: Send + Sync + 'static, H: 'static> Check<Q, H> {
                 break;
             }
         }
-        if self.sampled > 0 {
-            self.report.overlapping = self.overlapped as f64 / self.sampled as f64;
-        }
         if self.report.has_passed() && self.report.undecided == self.report.rounds {
-            self.report.outcome = Outcome::Undecided {
-                text: String::from("no round has a verdict"),
-            };
+            let text = String::new();
+            self.report.outcome = Outcome::Undecided { text };
         }
         if self.report.has_passed() && self.report.taken == 0 {
             self.report.outcome = Outcome::NothingTaken;
         }
-        if !self.options.quiet && self.report.has_passed() {
-            self.tell_end();
-        }
+        self.tell_end();
     }
 
     /// The queue for a round, and its least item: a new queue where the old one has served, or has no numbers left.
@@ -160,7 +156,7 @@ impl<Q: Send + Sync + 'static, H: 'static> Check<Q, H> {
             repeated: None,
             pairs,
         });
-        let hangs = self.wait(&design);
+        let hang = self.wait(&design);
         self.aging += start.elapsed();
         let aged = self.pool.shared.aged();
         if let Some(kept) = &mut self.kept[design.size] {
@@ -168,7 +164,7 @@ impl<Q: Send + Sync + 'static, H: 'static> Check<Q, H> {
             kept.puts += u64::from(aged);
         }
         self.ages = self.pool.shared.is_emptied();
-        self.note_stop(hangs, &design);
+        self.note_stop(hang, &design);
     }
 
     fn make_round(&mut self) {
@@ -188,23 +184,21 @@ impl<Q: Send + Sync + 'static, H: 'static> Check<Q, H> {
             repeated,
             pairs: 0,
         });
-        let hangs = self.wait(&design);
+        let hang = self.wait(&design);
         self.report.rounds += 1;
-        self.note_stop(hangs, &design);
+        self.note_stop(hang, &design);
         if self.report.has_passed() {
             self.judge_round(&design);
         }
     }
 
     /// Notes a hang or a panic, and gives up a queue that is not empty.
-    fn note_stop(&mut self, hangs: bool, design: &Design) {
-        self.pool.is_stuck = hangs;
+    fn note_stop(&mut self, hang: Option<Vec<String>>, design: &Design) {
+        self.pool.is_stuck = hang.is_some();
         if let Some((thread, message)) = self.pool.shared.panic() {
             let calls = self.calls();
             self.fail(Outcome::Panicked { thread, message }, design, &calls);
-        } else if hangs {
-            let lanes = self.pool.shared.lanes[..design.threads].iter().enumerate();
-            let threads = lanes.map(|(thread, lane)| describe(thread, lane)).collect();
+        } else if let Some(threads) = hang {
             let calls = self.calls();
             self.fail(Outcome::Hang { threads }, design, &calls);
         } else if !self.pool.shared.is_emptied() {
@@ -212,8 +206,8 @@ impl<Q: Send + Sync + 'static, H: 'static> Check<Q, H> {
         }
     }
 
-    /// Sleeps until each thread has done its part, and returns whether one hangs.
-    fn wait(&mut self, design: &Design) -> bool {
+    /// Sleeps until each thread has done its part, and returns what the threads are in if one hangs.
+    fn wait(&mut self, design: &Design) -> Option<Vec<String>> {
         let shared = &self.pool.shared;
         let mut watch = Watch::new(design.threads);
         let mut looked = Instant::now();
@@ -225,11 +219,11 @@ impl<Q: Send + Sync + 'static, H: 'static> Check<Q, H> {
             looked = Instant::now();
             let (lanes, workers) = (&shared.lanes[..design.threads], &self.pool.workers);
             if watch.sees_hang(lanes, workers, self.options.hang()) {
-                return true;
+                return Some(watch.describe(lanes, workers));
             }
         }
         shared.forget_round();
-        false
+        None
     }
 
     /// The calls of the round in ascending order of first time, so that their numbers are their places.
@@ -282,13 +276,10 @@ impl<Q: Send + Sync + 'static, H: 'static> Check<Q, H> {
 
     fn look_for_least(&mut self, calls: &[Call]) {
         let found = least(calls, self.options.tries);
-        if let Ok(Least::Between {
-            at_least,
-            at_most: Some(at_most),
-        }) = found
-        {
-            let (low, high) = self.report.least.unwrap_or((1, 1));
-            self.report.least = Some((low.max(at_least), high.max(at_most)));
+        if let Ok(Least::Between { at_least, at_most }) = found {
+            let (low, high) = self.report.least.unwrap_or((1, Some(1)));
+            let high = high.zip(at_most).map(|(one, other)| one.max(other));
+            self.report.least = Some((low.max(at_least), high));
         }
     }
 
@@ -300,13 +291,16 @@ impl<Q: Send + Sync + 'static, H: 'static> Check<Q, H> {
             latest = latest.max(call.last);
         }
         self.sampled += calls.len() as u64;
+        self.report.overlapping = self.overlapped as f64 / self.sampled.max(1) as f64;
     }
 
     fn fail(&mut self, outcome: Outcome, design: &Design, calls: &[Call]) {
-        let is_sized = self.pool.shared.subject.is_sized;
+        let shared = &self.pool.shared;
+        let capacity = shared.subject.is_sized.then(|| CAPACITIES[design.size]);
+        let (number, design) = (self.report.rounds, design.text(capacity));
+        let unit = shared.clock.unit();
         self.report.outcome = outcome;
-        self.report
-            .name_round(design, is_sized.then(|| CAPACITIES[design.size]));
+        self.report.failed_round = Some(format!("round {number}: {design}; times are {unit}"));
         self.report.write_files(&self.options, calls);
     }
 
@@ -315,27 +309,20 @@ impl<Q: Send + Sync + 'static, H: 'static> Check<Q, H> {
         if self.options.quiet || self.told.elapsed() < TELL || !stderr().is_terminal() {
             return;
         }
-        self.told = Instant::now();
-        let share = 100 * self.overlapped / self.sampled.max(1);
-        let Report {
-            name,
-            rounds,
-            calls,
-            ..
-        } = &self.report;
-        let undecided = self.report.undecided_rounds();
+        (self.told, self.has_told) = (Instant::now(), true);
+        let (name, counts) = (&self.report.name, self.report.counts());
         // Not with `eprint!`, which a test's output is caught of. What the terminal says of it does not matter.
-        let _ = write!(
-            stderr(),
-            "\r{name}: {rounds} rounds, {calls} calls, {share} % overlapping, {undecided} "
-        );
+        let _ = write!(stderr(), "\r\x1b[K{name}: {counts}");
     }
 
-    /// Says what came of a check that passed. Where it failed, the caller has the report.
+    /// Clears the line of progress, and says what came of a check that passed. Where it failed, the caller has the
+    /// report.
     fn tell_end(&self) {
-        if stderr().is_terminal() {
-            let _ = writeln!(stderr());
+        if self.has_told {
+            let _ = write!(stderr(), "\r\x1b[K");
         }
-        println!("{}", self.report);
+        if !self.options.quiet && self.report.has_passed() {
+            println!("{}", self.report);
+        }
     }
 }

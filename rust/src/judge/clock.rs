@@ -78,6 +78,15 @@ fn counter_is_common() -> bool {
 }
 
 impl Clock {
+    /// What its times are, for the report.
+    pub(super) fn unit(self) -> &'static str {
+        if self.has_counter {
+            "ticks of the processor's counter"
+        } else {
+            "nanoseconds"
+        }
+    }
+
     pub(super) fn new() -> Clock {
         static IS_COMMON: OnceLock<bool> = OnceLock::new();
         Clock {

@@ -29,7 +29,7 @@ pub struct Options {
     pub rounds: Option<u64>,
     /// What the designs of the rounds are drawn by: none draws one. A seed repeats the designs, not the schedules.
     pub seed: Option<u64>,
-    /// The folder for the log and the picture of a failure: none takes the system's folder for temporary files.
+    /// The folder of the log and the picture of a failure: none takes the system's folder for temporary files.
     pub folder: Option<PathBuf>,
     /// Whether the queue is for one producer: the last thread alone puts, and puts only.
     pub one_producer: bool,
@@ -102,7 +102,7 @@ pub(super) enum Mix {
 
 impl Mix {
     /// Its name in the report.
-    pub(super) fn name(self) -> &'static str {
+    fn name(self) -> &'static str {
         match self {
             Mix::Alternating => "alternating",
             Mix::Apart => "apart",
@@ -149,6 +149,20 @@ pub(super) struct Design {
 }
 
 impl Design {
+    /// What the report says of it. There is a capacity if the maker takes one.
+    pub(super) fn text(&self, capacity: Option<usize>) -> String {
+        let callers = match (self.one_producer, self.one_consumer) {
+            (true, true) => "one producer and one consumer",
+            (true, false) => "one producer",
+            (false, true) => "one consumer",
+            (false, false) => self.mix.name(),
+        };
+        let capacity = capacity.map_or_else(String::new, |it| format!(", capacity {it}"));
+        let pauses = if self.pause > 0 { ", pauses" } else { "" };
+        let (threads, calls) = (self.threads, self.calls);
+        format!("{threads} threads, {calls} calls each, {callers}{capacity}{pauses}")
+    }
+
     /// How many calls a thread makes. A lone producer makes as many as all consumers, a lone consumer likewise.
     pub(super) fn calls_of(&self, thread: usize) -> usize {
         let is_lone =

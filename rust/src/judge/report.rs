@@ -1,5 +1,5 @@
 //! What came of a check.
-use super::options::{Design, Options};
+use super::options::Options;
 use super::verdict::{Call, Part, Reason, Style, draw, write_csv};
 use std::fmt::{self, Display, Formatter};
 use std::fs::{self, File};
@@ -7,6 +7,9 @@ use std::io::{self, BufWriter};
 use std::path::{Path, PathBuf};
 use std::process;
 use std::sync::atomic::{AtomicU32, Ordering};
+
+/// Below this share of overlapping calls the report says that there are few.
+const FEW: f64 = 0.2;
 
 /// How a check ended.
 #[derive(Clone, Debug, PartialEq, Eq)]
@@ -20,14 +23,14 @@ pub enum Outcome {
         /// The reason.
         reason: Reason,
     },
-    /// A round has no verdict, and [`Options::undecided_fails`] is set.
+    /// A round has no verdict, and [`Options::undecided_fails`] is set; or no round has one.
     Undecided {
-        /// Why the search stopped.
+        /// Why the search stopped; empty where no round has a verdict.
         text: String,
     },
     /// A call did not return.
     Hang {
-        /// A line for each thread: what it was in.
+        /// A line for each thread that was in a call: in which one, and for how long.
         threads: Vec<String>,
     },
     /// A call panicked.
@@ -39,7 +42,7 @@ pub enum Outcome {
     },
     /// No get took an item in any round, so the check says nothing of the queue.
     NothingTaken,
-    /// A log cannot be judged. That is the fault of the check or of its closures, never of the queue.
+    /// A log cannot be judged. That is the fault of the check or of its functions, never of the queue.
     Fault {
         /// Which fault it is.
         text: String,
@@ -67,19 +70,19 @@ pub struct Report {
     pub undecided: u64,
     /// After how many tries the search gave up in these rounds at most.
     pub tries: u64,
-    /// Where k is over 1: the greatest lower and the greatest upper bound of the least k, over the rounds of a sample
-    /// that had both.
-    pub least: Option<(u32, u32)>,
+    /// Where k is over 1: the greatest lower and the greatest upper bound of the least k, over a sample of rounds. There
+    /// is no upper bound where no order of some round was found.
+    pub least: Option<(u32, Option<u32>)>,
     /// What the designs were drawn by.
     pub seed: u64,
     /// The round that failed, from 1, and its design.
     pub failed_round: Option<String>,
     /// The log of the round that failed, in CSV.
     pub log: Option<PathBuf>,
-    /// The picture of the calls that rule out an order.
+    /// The picture of the calls that rule out an order, or of all calls of a round that did not end.
     pub picture: Option<PathBuf>,
-    /// Why a file could not be written.
-    pub unwritten: Option<String>,
+    /// The files that could not be written, each with the reason.
+    pub unwritten: Vec<String>,
 }
 
 impl Report {
@@ -99,7 +102,7 @@ impl Report {
             failed_round: None,
             log: None,
             picture: None,
-            unwritten: None,
+            unwritten: Vec::new(),
         }
     }
 
@@ -108,27 +111,29 @@ impl Report {
         self.outcome == Outcome::Passed
     }
 
-    /// How many rounds have no verdict, and after how many tries the search gave up in them at most.
-    pub(super) fn undecided_rounds(&self) -> String {
-        match self.undecided {
-            0 => String::from("0 undecided"),
-            count => format!("{count} undecided after at most {} tries each", self.tries),
+    /// How much was looked at, and after how many tries the search gave up in the undecided rounds, at most.
+    pub(super) fn counts(&self) -> String {
+        let (rounds, calls, undecided) = (self.rounds, self.calls, self.undecided);
+        let share = 100.0 * self.overlapping;
+        let tried = match undecided {
+            0 => String::new(),
+            _ => format!(" after at most {} tries each", self.tries),
+        };
+        format!(
+            "{rounds} rounds, {calls} calls, {share:.0} % overlapping, {undecided} undecided{tried}"
+        )
+    }
+
+    /// The part of the calls of the round that failed of which there is a picture.
+    fn drawn_part(&self) -> Option<Part> {
+        match self.outcome {
+            Outcome::NoOrder { .. } => Some(Part::Evidence),
+            Outcome::Hang { .. } | Outcome::Panicked { .. } => Some(Part::All),
+            _ => None,
         }
     }
 
-    /// Notes the round that failed.
-    pub(super) fn name_round(&mut self, design: &Design, capacity: Option<usize>) {
-        let capacity = capacity.map_or_else(String::new, |it| format!(", capacity {it}"));
-        self.failed_round = Some(format!(
-            "round {}: {} threads, {} calls each, {}{capacity}",
-            self.rounds,
-            design.threads,
-            design.calls,
-            design.mix.name()
-        ));
-    }
-
-    /// Writes the log of the round that failed, and the picture where there is a reason to draw.
+    /// Writes the log of the round that failed, and the picture where there is one. Of too many calls there is none.
     pub(super) fn write_files(&mut self, options: &Options, calls: &[Call]) {
         static FILES: AtomicU32 = AtomicU32::new(0);
         let number = FILES.fetch_add(1, Ordering::Relaxed);
@@ -137,19 +142,18 @@ impl Report {
         let log = folder.join(format!("{stem}.csv"));
         match write_log(&folder, &log, calls) {
             Ok(()) => self.log = Some(log),
-            Err(error) => self.unwritten = Some(format!("{}: {error}", log.display())),
+            Err(error) => self.unwritten.push(format!("{}: {error}", log.display())),
         }
-        if !matches!(self.outcome, Outcome::NoOrder { .. }) {
+        let part = self.drawn_part();
+        let Some(Ok(svg)) = part.map(|part| draw(calls, options.k, part, Style::Svg)) else {
             return;
-        }
+        };
         let picture = folder.join(format!("{stem}.svg"));
-        let drawn =
-            draw(calls, options.k, Part::Evidence, Style::Svg).map_err(|fault| fault.to_string());
-        let written =
-            drawn.and_then(|svg| fs::write(&picture, svg).map_err(|error| error.to_string()));
-        match written {
+        match fs::write(&picture, svg) {
             Ok(()) => self.picture = Some(picture),
-            Err(error) => self.unwritten = Some(format!("{}: {error}", picture.display())),
+            Err(error) => self
+                .unwritten
+                .push(format!("{}: {error}", picture.display())),
         }
     }
 
@@ -158,12 +162,15 @@ impl Report {
         match &self.outcome {
             Outcome::Passed => String::from("no fault found"),
             Outcome::NoOrder { reason, .. } => format!("no legal order: {}", reason.headline),
+            Outcome::Undecided { text } if text.is_empty() => {
+                String::from("no round has a verdict")
+            }
             Outcome::Undecided { .. } => String::from("a round is undecided"),
             Outcome::Hang { .. } => String::from("a call did not return"),
-            Outcome::Panicked { thread, .. } => format!("thread {thread} panicked in a call"),
+            Outcome::Panicked { .. } => String::from("a call failed"),
             Outcome::NothingTaken => String::from("no get took an item, so nothing was tested"),
             Outcome::Fault { .. } => String::from(
-                "a log cannot be judged: the check or its closures are wrong, not the queue",
+                "a log cannot be judged: the check or its functions are wrong, not the queue",
             ),
         }
     }
@@ -175,9 +182,27 @@ impl Report {
             | Outcome::Undecided { text }
             | Outcome::Fault { text } => text.trim_end().to_string(),
             Outcome::Hang { threads } => threads.join("\n"),
-            Outcome::Panicked { message, .. } => message.clone(),
+            Outcome::Panicked { thread, message } => format!("thread {thread}: {message}"),
             Outcome::Passed | Outcome::NothingTaken => String::new(),
         }
+    }
+
+    /// The lines between the first and the last one.
+    fn lines(&self) -> Vec<String> {
+        let mut lines: Vec<String> = self.failed_round.iter().cloned().collect();
+        if self.failed_round.is_none() && self.overlapping < FEW {
+            let why = "so few faults could show: try more processors or more seconds";
+            lines.push(format!("few calls overlapped, {why}"));
+        }
+        lines.extend(Some(self.details()).filter(|it| !it.is_empty()));
+        lines.extend(self.log.iter().map(|it| format!("log: {}", it.display())));
+        lines.extend(self.unwritten.iter().map(|it| format!("not written: {it}")));
+        lines.extend(
+            self.picture
+                .iter()
+                .map(|it| format!("picture: {}", it.display())),
+        );
+        lines
     }
 }
 
@@ -195,33 +220,14 @@ impl Display for Report {
             self.k,
             self.head()
         )?;
-        if let Some(round) = &self.failed_round {
-            writeln!(f, "{round}")?;
+        for line in self.lines() {
+            writeln!(f, "{line}")?;
         }
-        let details = self.details();
-        if !details.is_empty() {
-            writeln!(f, "{details}")?;
-        }
-        for (word, path) in [("log", &self.log), ("picture", &self.picture)] {
-            if let Some(path) = path {
-                writeln!(f, "{word}: {}", path.display())?;
-            }
-        }
-        if let Some(error) = &self.unwritten {
-            writeln!(f, "not written: {error}")?;
-        }
-        let share = 100.0 * self.overlapping;
-        write!(
-            f,
-            "{} rounds, {} calls, {share:.0} % overlapping",
-            self.rounds, self.calls
-        )?;
-        write!(f, ", {}, seed {}", self.undecided_rounds(), self.seed)?;
+        write!(f, "{}, seed {}", self.counts(), self.seed)?;
         if let Some((at_least, at_most)) = self.least {
-            write!(
-                f,
-                "; of a sample the least k is at least {at_least} and at most {at_most}"
-            )?;
+            let at_most = at_most.map_or_else(|| String::from("unknown"), |most| most.to_string());
+            let bounds = format!("at least {at_least} and at most {at_most}");
+            write!(f, "; of a sample the least k is {bounds}")?;
         }
         Ok(())
     }

@@ -73,6 +73,24 @@ impl Watch {
         }
         hangs
     }
+
+    /// What each worker is in that is in a call, as it was when it was last looked at.
+    pub(super) fn describe(&self, lanes: &[Lane], workers: &[JoinHandle<()>]) -> Vec<String> {
+        let each = self.seen.iter().zip(lanes).zip(workers).enumerate();
+        let lines: Vec<String> = each
+            .filter_map(|(thread, ((seen, lane), worker))| {
+                let (call, then) = (call_of(thread, lane)?, seen.as_ref()?);
+                let used = used_since(then, processor_time(worker)).as_secs_f64();
+                let lasted = then.since.elapsed().as_secs_f64();
+                let times = format!("{used:.2} s of processor time and {lasted:.2} s in all");
+                Some(format!("thread {thread} was in {call}, for {times}"))
+            })
+            .collect();
+        if lines.is_empty() {
+            return vec![String::from("no thread was in a call of the queue")];
+        }
+        lines
+    }
 }
 
 /// Whether a worker is in code of the queue's.
@@ -89,29 +107,33 @@ fn has_passed(then: &Progress, now: &Progress, limit: Duration) -> bool {
         Phase::Aging => limit + AGING, // of many calls
         _ => limit,
     };
-    let processor = match (then.processor, now.processor) {
-        (Some(then), Some(now)) => now.saturating_sub(then),
-        _ => Duration::ZERO,
-    };
-    processor >= limit || now.since - then.since >= limit * WAIT_FACTOR
+    let used = used_since(then, now.processor);
+    used >= limit || now.since - then.since >= limit * WAIT_FACTOR
 }
 
-/// What a worker is in, for the report.
-pub(super) fn describe(thread: usize, lane: &Lane) -> String {
-    let call = lane
-        .calls(thread)
-        .last()
-        .filter(|call| call.answer == Answer::Unfinished);
-    let what = match (lane.phase(), call) {
-        (Phase::Idle, _) => String::from("had ended its calls"),
-        (Phase::MakingHandle, _) => String::from("was making its handle"),
-        (Phase::Aging, _) => String::from("was in a call that is not logged, before the round"),
-        (Phase::WaitingForStart, _) => String::from("waited for the others to begin"),
-        (Phase::WaitingForOthers, _) => String::from("waited for the others to end"),
-        (_, Some(call)) if call.op == Op::Put => format!("was in a put of item {}", call.item),
-        (Phase::Emptying, Some(_)) => String::from("was in a get that empties the queue"),
-        (_, Some(_)) => String::from("was in a get"),
-        (_, None) => String::from("was between two calls"),
+/// The processor time that a worker has used since then; 0 where the system does not say.
+fn used_since(then: &Progress, now: Option<Duration>) -> Duration {
+    match (then.processor, now) {
+        (Some(then), Some(now)) => now.saturating_sub(then),
+        _ => Duration::ZERO,
+    }
+}
+
+/// The call that a worker is in, for the report.
+fn call_of(thread: usize, lane: &Lane) -> Option<String> {
+    let call = || {
+        let last = lane.calls(thread).last();
+        last.filter(|call| call.answer == Answer::Unfinished)
     };
-    format!("thread {thread} {what}, call {} of its own", lane.length())
+    let what = match lane.phase() {
+        Phase::MakingHandle => return Some(String::from("the maker of its handle")),
+        Phase::Aging => return Some(String::from("a call before the round, which is not logged")),
+        Phase::Emptying => call().map(|_| String::from("a get that empties the queue")),
+        Phase::Calling => call().map(|call| match call.op {
+            Op::Put => format!("a put of item {}", call.item),
+            Op::Get => String::from("a get"),
+        }),
+        Phase::Idle | Phase::WaitingForStart | Phase::WaitingForOthers => None,
+    };
+    what.map(|what| format!("{what}, call {} of its own", lane.length()))
 }

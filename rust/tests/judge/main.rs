@@ -6,6 +6,7 @@ mod faulty;
 mod outcomes;
 mod programs;
 mod queues;
+mod reports;
 mod right;
 mod verdicts;
 

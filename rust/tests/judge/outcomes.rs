@@ -3,7 +3,6 @@
 use crate::queues::{Locked, Stack};
 use crate::{OVERTAKING, finding, turn};
 use kfifo::judge::{Options, Outcome, Put, run_check};
-use std::collections::VecDeque;
 use std::sync::Mutex;
 use std::time::{Duration, Instant};
 use std::{fs, thread};
@@ -99,33 +98,6 @@ fn the_panic_of_a_check_has_the_report() {
     assert!(
         text.contains("got by call") && text.contains("seed ") && text.contains(".svg"),
         "{text}"
-    );
-}
-
-#[test]
-fn a_report_of_undecided_rounds_says_after_how_many_tries() {
-    let _turn = turn();
-    let options = Options {
-        rounds: Some(1),
-        quiet: true,
-        ..Options::default()
-    };
-    let make = || Mutex::new(VecDeque::new());
-    let put = |queue: &Mutex<VecDeque<u32>>, item| {
-        queue.lock().expect("no thread panics").push_back(item)
-    };
-    let get = |queue: &Mutex<VecDeque<u32>>| queue.lock().expect("no thread panics").pop_front();
-    let mut report = run_check(make, put, get, options).expect("the options are good");
-    assert!(
-        report.to_string().contains(", 0 undecided, seed "),
-        "{report}"
-    );
-    (report.undecided, report.tries) = (2, 7);
-    assert!(
-        report
-            .to_string()
-            .contains(", 2 undecided after at most 7 tries each, seed "),
-        "{report}"
     );
 }
 
