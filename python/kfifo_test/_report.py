@@ -28,8 +28,8 @@ class Report:
     overlapping: float = 0.0  # the share of calls that overlapped one of another thread, over a sample of rounds
     undecided: int = 0  # how many rounds had neither an order nor a reason against each
     tries: int = 0  # after how many tries the search gave up in them at most
-    # For k > 1 the greatest bounds of the least k, over a sample of rounds; the upper one is None where no order of some
-    # round was found.
+    # For k > 1 the greatest bounds of the least k, over a sample of rounds; the upper one is None where some round had
+    # none.
     least: Optional[tuple[int, Optional[int]]] = None
     failed_round: str = ""
     log: Optional[str] = None  # the file with the log of the round that failed

@@ -70,8 +70,8 @@ pub struct Report {
     pub undecided: u64,
     /// After how many tries the search gave up in these rounds at most.
     pub tries: u64,
-    /// Where k is over 1: the greatest lower and the greatest upper bound of the least k, over a sample of rounds. There
-    /// is no upper bound where no order of some round was found.
+    /// Where k is over 1: the greatest lower and the greatest upper bound of the least k, over a sample of rounds. The
+    /// upper one is none where some round had none.
     pub least: Option<(u32, Option<u32>)>,
     /// What the designs were drawn by.
     pub seed: u64,
