@@ -1,16 +1,20 @@
 /* How many calls a second the judge's library judges: legal runs of a queue that gives any of its k oldest items, k = 1
    and 4, in one thread. Each run is drawn: calls overlap, and take effect at a moment within them.
 
-       judge_calls CALLS THREADS SECONDS K       prints calls a second, and nanoseconds a call; THREADS is 3 to 64
+       judge_calls CALLS THREADS K SECONDS       prints calls a second, and nanoseconds a call; THREADS is 3 to 64
+       judge_calls CALLS THREADS K legal         writes such a run as a log in CSV
+       judge_calls CALLS THREADS K wrong         the same, but once in its last tenth a get takes too young an item
 
    bench/judge_calls.py builds and runs it. */
 #include "kfifo_judge.h"
 
+#include <inttypes.h>
 #include <stdio.h>
 #include <stdlib.h>
+#include <string.h>
 #include <time.h>
 
-enum { RUNS = 32 };
+enum { RUNS = 32, TOO_YOUNG = 64 };
 
 static uint64_t state = 7;
 
@@ -28,10 +32,10 @@ typedef struct queue {
     size_t first, end;
 } queue;
 
-/* Takes one of the k oldest items out. */
-static uint64_t take(queue *q, size_t k) {
+/* Takes one of the k oldest items out, or one with so many older ones. */
+static uint64_t take(queue *q, size_t k, size_t older) {
     const size_t count = q->end - q->first;
-    size_t at = q->first + drawn(count < k ? count : k);
+    size_t at = q->first + (older > 0 ? older : drawn(count < k ? count : k));
     const uint64_t item = q->items[at];
     for (; at > q->first; at--) q->items[at] = q->items[at - 1];
     q->first++;
@@ -39,8 +43,9 @@ static uint64_t take(queue *q, size_t k) {
 }
 
 /* A run in which the threads call one after the other, each call around its moment. A thread's moments are 10 apart for
-   each thread, and a call ends at most 29 after its own, so with three threads or more it begins before the next. */
-static void draw_run(kfifo_judge_call *calls, size_t count, uint32_t threads, size_t k) {
+   each thread, and a call ends at most 29 after its own, so with three threads or more it begins before the next. Once
+   from the call `wrong` on, where the queue is long enough, a get takes an item with TOO_YOUNG + k older ones. */
+static void draw_run(kfifo_judge_call *calls, size_t count, uint32_t threads, size_t k, size_t wrong) {
     uint64_t *ended = calloc(threads, sizeof *ended);
     queue q = {malloc(count * sizeof *q.items), 0, 0};
     if (!ended || !q.items) exit(2);
@@ -59,9 +64,12 @@ static void draw_run(kfifo_judge_call *calls, size_t count, uint32_t threads, si
         } else {
             call->op = KFIFO_JUDGE_GET;
             call->answer = q.first < q.end ? KFIFO_JUDGE_GOT : KFIFO_JUDGE_EMPTY;
-            if (call->answer == KFIFO_JUDGE_GOT) call->item = take(&q, k);
+            const size_t older = i >= wrong && q.end - q.first > TOO_YOUNG + k ? TOO_YOUNG + k : 0;
+            if (call->answer == KFIFO_JUDGE_GOT) call->item = take(&q, k, older);
+            if (older > 0) wrong = SIZE_MAX;
         }
     }
+    if (wrong < count) exit(3);
     free(q.items);
     free(ended);
 }
@@ -81,17 +89,29 @@ static int is_legal(const kfifo_judge_call *calls, size_t count, uint32_t k) {
     return status == KFIFO_JUDGE_LEGAL;
 }
 
-int main(int count_of_words, char **words) {
-    if (count_of_words != 5) {
-        fputs("usage: judge_calls CALLS THREADS SECONDS K\n", stderr);
-        return 2;
+/* Writes a run as a log, with times as long as those of a processor's counter. */
+static int write_log(size_t count, uint32_t threads, uint32_t k, size_t wrong) {
+    static const char *const answers[] = {"", "done", "full", "got", "empty"};
+    const uint64_t since = 3000000000000;
+    kfifo_judge_call *calls = calloc(count, sizeof *calls);
+    if (!calls) return 2;
+    draw_run(calls, count, threads, k, wrong);
+    puts("thread,op,item,first,last,answer");
+    for (size_t i = 0; i < count; i++) {
+        const kfifo_judge_call *call = &calls[i];
+        printf("%" PRIu32 ",%s,", call->thread, call->op == KFIFO_JUDGE_PUT ? "enq" : "deq");
+        if (call->answer != KFIFO_JUDGE_EMPTY) printf("%" PRIu64, call->item);
+        printf(",%" PRIu64 ",%" PRIu64 ",%s\n", since + call->first, since + call->last, answers[call->answer]);
     }
-    const size_t count = strtoul(words[1], NULL, 10);
-    const uint32_t threads = (uint32_t)strtoul(words[2], NULL, 10), k = (uint32_t)strtoul(words[4], NULL, 10);
-    const double seconds = strtod(words[3], NULL);
+    free(calls);
+    return fflush(stdout) == 0 ? 0 : 2;
+}
+
+/* Judges runs for so long, and prints how fast. */
+static int measure(size_t count, uint32_t threads, uint32_t k, double seconds) {
     kfifo_judge_call *calls = calloc(RUNS * count, sizeof *calls);
-    if (!calls || threads < 3 || threads > 64) return 2;
-    for (size_t run = 0; run < RUNS; run++) draw_run(calls + run * count, count, threads, k);
+    if (!calls) return 2;
+    for (size_t run = 0; run < RUNS; run++) draw_run(calls + run * count, count, threads, k, SIZE_MAX);
     size_t judged = 0;
     const double begin = now();
     do {
@@ -102,4 +122,17 @@ int main(int count_of_words, char **words) {
     printf("%.0f %.0f\n", 1 / each, each * 1e9);
     free(calls);
     return 0;
+}
+
+int main(int count_of_words, char **words) {
+    const uint32_t threads = count_of_words == 5 ? (uint32_t)strtoul(words[2], NULL, 10) : 0;
+    if (threads < 3 || threads > 64) {
+        fputs("usage: judge_calls CALLS THREADS K SECONDS|legal|wrong\n", stderr);
+        return 2;
+    }
+    const size_t count = strtoul(words[1], NULL, 10);
+    const uint32_t k = (uint32_t)strtoul(words[3], NULL, 10);
+    if (strcmp(words[4], "legal") == 0) return write_log(count, threads, k, SIZE_MAX);
+    if (strcmp(words[4], "wrong") == 0) return write_log(count, threads, k, count / 10 * 9);
+    return measure(count, threads, k, strtod(words[4], NULL));
 }
