@@ -87,7 +87,8 @@ class Reports(Checks):
         return self.check(get=fail)
 
     def fault(self):
-        with mock.patch("kfifo_test._check.judge_round", side_effect=kfifo_test.Fault("record fault 8", 8, 3)):
+        fault = kfifo_test.Fault("line 3 has an answer that no call of this kind has", 5, 3)
+        with mock.patch("kfifo_test._check.judge_round", side_effect=fault):
             return self.check()
 
     # A check for each report of the table but that of progress.

@@ -180,7 +180,7 @@ const CASES: [(&str, Check); 13] = [
     ("hang after a round", hang_after_a_round),
     ("failed call", failed_call),
     ("fault", || {
-        let text = String::from("record fault 8");
+        let text = String::from("line 3 has an answer that no call of this kind has");
         failed(Outcome::Fault { text })
     }),
 ];
