@@ -7,6 +7,8 @@ use Rattle.kfifo_model.specs.Lists.{EachPair, IsIn}
 use Rattle.kfifo_model.specs.Histories.{Precedes, call}
 use Rattle.kfifo_model.specs.declared.logged.LoggedCall.{LoggedCall}
 use Rattle.kfifo_model.specs.Logged.{line_of}
+use Rattle.kfifo_draw.specs.declared.part.Reach.{Reach}
+use Rattle.kfifo_draw.specs.Reach.{AreReached, IsReached}
 use Rattle.kfifo_draw.specs.declared.part.Part.{Part}
 use Rattle.kfifo_draw.specs.declared.part.Part.TheVariants.{All, Calls, Lines, Near}
 use Rattle.kfifo_draw.specs.declared.picture.DrawFault.{DrawFault}
@@ -28,12 +30,23 @@ AreWithin around c d = (c ≤ d + around) × (d ≤ c + around)
 abbrev pub IsNear : List Call → ℕ → ℕ → ℕ → Type 0
 IsNear h around c d = (d < length h) × (Overlap h c d ⊎ AreWithin around c d)
 
+-- the call c is near none that a reach has
+abbrev pub IsFarFrom : List Call → ℕ → ℕ → Reach → Type 0
+IsFarFrom h around c s = (d : ℕ) → IsReached h s d → (¬ (IsNear h around c d))
+
 -- the call c belongs to a part of a history
 abbrev pub IsInPart : List Call → List LoggedCall → Part → ℕ → Type 0
 IsInPart h logged All c = Unit {0}
 IsInPart h logged (Calls first last) c = (first ≤ c) × (c ≤ last)
 IsInPart h logged (Lines first last) c = (first ≤ line_of logged c) × (line_of logged c ≤ last)
 IsInPart h logged (Near named around) c = Any (IsNear h around c) named.now
+
+-- a reach has the calls that a part names
+abbrev pub Reaches : List Call → Reach → Part → Type 0
+Reaches h s All = Unit {0}
+Reaches h s (Calls first last) = Unit {0}
+Reaches h s (Lines first last) = Unit {0}
+Reaches h s (Near named around) = AreReached h s named.now
 
 -- The numbers below n for which P holds, each once, by rising number.
 pub record AreThoseBelow (P : ℕ → Type 0) (n : ℕ) (numbers : List ℕ) : Type 0 where
