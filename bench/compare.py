@@ -3,15 +3,16 @@
 of this repository's queues there, the median over the rounds of the ratio of their rates, with the quartiles, and the
 geometric means. Each round runs both, the first one first in every other round.
 
-    bench/compare.py LIBRARY OTHER [--rounds N] [--milliseconds M] [--only WORD] [--out FILE]
+    bench/compare.py LIBRARY OTHER [--rounds N] [--milliseconds M] [--only WORD] [--out FILE] [--built]
     bench/compare.py --looking [LIBRARY] ..     compares calls of one library: those that look for threads that wait
                                                 with the exports, which do not
     bench/compare.py --many [LIBRARY] ..        compares 64 values or items at once with as many single calls
     bench/compare.py --growing [LIBRARY] ..     compares queues of values that may grow with one that cannot
+    bench/compare.py --many --merge FILE ..     also puts the rows in the place of those of the same workloads of a page
 
 LIBRARY and OTHER are files as c/out/libkfifo.a. The programs are built as bench/run.py builds them, and need the same;
-those of --many need nothing but a compiler. A comparison within one library is of its own calls: a row that misses its
-goal has a mark, and the status is 1 then.
+those of --many need nothing but a compiler. With --built those of an earlier run are taken. A comparison within one
+library is of its own calls: it prints which rows miss their goals, and the status is 1 then.
 """
 import argparse
 import math
@@ -21,6 +22,7 @@ import subprocess
 import sys
 
 import run
+import tables
 
 FOLDERS = [f"{run.OUT}/first", f"{run.OUT}/second"]
 # What calls that look have to keep of the rate of those that do not, and 64 at once of that of single calls: on one
@@ -65,13 +67,16 @@ def mean(medians):
 
 def table(rows):
     """The table of all workloads, and the geometric mean of their medians."""
-    lines = ["| Workload | Queue | Ratio | Quartiles |", "|---|---|---|---|"]
-    for title, label, found in rows:
-        first, middle, third = run.quartiles(found)
-        lines.append(f"| {title} | {label} | {middle:.2f} | {first:.2f} to {third:.2f} |")
     medians = [statistics.median(found) for *_, found in rows]
-    lines += ["", f"The geometric mean of these {len(rows)} ratios is {mean(medians):.2f}."]
-    return "\n".join(lines) + "\n"
+    lines = tables.table_of(["Workload", "Queue", "Ratio", "Quartiles"], map(cells, rows))
+    return "\n".join([*lines, "", f"The geometric mean of these {len(rows)} ratios is {mean(medians):.2f}.", ""])
+
+
+def cells(row):
+    """The cells of a row: its title and its queue, and the median of its ratios with the quartiles."""
+    title, queue, found = row
+    first, middle, third = run.quartiles(found)
+    return [title, queue, f"{middle:.2f}", f"{first:.2f} to {third:.2f}"]
 
 
 def in_turn(words, others, rounds):
@@ -90,7 +95,8 @@ def in_turn(words, others, rounds):
 
 def second(words, workloads):
     """Yields each of these workloads with its second queue, and the ratios of that one's rates to the first one's."""
-    run.build(words.library and os.path.abspath(words.library))
+    if not words.built:
+        run.build(words.library and os.path.abspath(words.library))
     for workload in workloads:
         if words.only in workload.title:
             rates = run.measure(workload, words.rounds)
@@ -99,9 +105,8 @@ def second(words, workloads):
 
 def looking(words):
     """Yields a title and a label of each workload with calls that look, its ratios, and its goal."""
-    of = [it for it in run.workloads(words.milliseconds) if it.title.startswith("looking")]
-    for workload, queue, found in second(words, of):
-        yield workload.title, run.label(queue), found, LOOKING_GOAL
+    for workload, (_, k), found in second(words, run.looking(words.milliseconds)):
+        yield workload.title, f"k = {k}", found, LOOKING_GOAL
 
 
 def growing(words):
@@ -120,7 +125,7 @@ def many(words):
     for threads in (1, 2):
         for what in MANY:
             for k, segments in SHAPES:
-                title = f"64 at once, {what}, " + ("one thread" if threads == 1 else "1 producer, 1 consumer")
+                title = f"{what}, " + ("one thread" if threads == 1 else "1 producer, 1 consumer")
                 if words.only not in title:
                     continue
                 shape = [k, segments, threads, words.milliseconds]
@@ -134,9 +139,11 @@ def within(words, of):
     for title, label, found, goal in of(words):
         median = statistics.median(found)
         missed += median < goal
-        rows.append((title, label + f" (goal: {goal})" * (median < goal), found))
+        rows.append((title, label, found))
         print(f"{title}, {label}: {median:.2f}" + f", and the goal is {goal}" * (median < goal), flush=True)
     print(table(rows))
+    if words.merge:
+        tables.put_rows(words.merge, map(cells, rows))
     if words.out:
         with open(words.out, "w") as written:
             written.write(table(rows))
@@ -154,6 +161,8 @@ def main():
     given.add_argument("--milliseconds", type=int, default=50, help="of each run")
     given.add_argument("--only", default="", metavar="WORD", help="the workloads whose title has this word")
     given.add_argument("--out", metavar="FILE", help="where the table goes too")
+    given.add_argument("--merge", metavar="FILE", help="the page that rows of calls within one library go into")
+    given.add_argument("--built", action="store_true", help="compares calls of the programs that an earlier run built")
     words = given.parse_args()
     for of in (looking, many, growing):
         if getattr(words, of.__name__):

@@ -5,29 +5,32 @@ Each round runs all queues one after the other, and begins with another one than
 rates of one round; the table has the median of these ratios over the rounds, with the quartiles. Each run checks that
 what went in came out. The table begins with overviews, a row for each workload. Some workloads are an application:
 threads that share one queue of vertices find a spanning tree of a random graph. Then come queues of values of 8, 16 and
-64 bytes, and this repository's queues with calls that look for threads that wait, beside the plain ones. Where a row
-has work between calls, the work is the same function for each queue; the rows of one thread that only works show that
-it takes as long in the loop of each. A column says what order a queue keeps; one with no order across producers has a
-mark. Last come tables of their own: of calls that wait, of how long a value is in the queue, and of how long a
-hand-over to a thread that sleeps takes.
-page.md has the tables of docs/PERFORMANCE.md and docs/bench/costs.md.
+64 bytes. Where a row has work between calls, the work is the same function for each queue; the rows of one thread that
+only works show that it takes as long in the loop of each. A column says what order a queue keeps; one with no order
+across producers has a mark. Last come tables of their own: of calls that wait, of how long a value is in the queue, and
+of how long a hand-over to a thread that sleeps takes.
 
     bench/run.py [--rounds N] [--milliseconds M] [--only WORD] [--out FOLDER] [--library FILE]
+    bench/run.py --merge docs/bench/table.md .. puts the tables in the place of those of the same titles there, makes
+                                                its overviews anew, and draws the pictures beside it
     bench/run.py --build [--library FILE]       only builds the programs
     bench/run.py --built ..                     measures with what was built before
 
-It needs rt (not with --library), a C and a C++ compiler, cargo, and Debian's libboost-dev, libtbb-dev, libck-dev,
-libcds-dev, libconcurrentqueue-dev, librust-crossbeam-queue-dev and librust-crossbeam-channel-dev; for pictures
-python3-matplotlib.
+bench/figures.py --write then writes the pages. It needs rt (not with --library), a C and a C++ compiler, cargo, and
+Debian's libboost-dev, libtbb-dev, libck-dev, libcds-dev, libconcurrentqueue-dev, librust-crossbeam-queue-dev,
+librust-crossbeam-channel-dev and python3-matplotlib.
 """
 import argparse
 import dataclasses
+import importlib.util
 import os
+import pathlib
 import platform
 import statistics
 import subprocess
 import sys
-import textwrap
+
+import tables
 
 HERE = os.path.dirname(os.path.abspath(__file__))
 OUT = f"{HERE}/out"
@@ -106,22 +109,18 @@ WAITING = [
 ]
 WAITERS = {("channel", 0): "crossbeam-channel", ("tbb", 0): "TBB bounded", ("mutex", 0): "mutex and deque"}
 WAITERS |= {("kfifo", k): f"kfifo, k = {k}" for k in (16, 64)}
-# How long values are in the queue: the threads, the percents of the time that takers are busy, and the nanoseconds of
-# work on a value.
+# How long values are in the queue: the threads, the percents of the time that the work on values keeps takers busy, and
+# the nanoseconds of that work. Calls and the clock take some hundred more, for which 90 % has to leave time. A run is
+# longer than one of calls alone by LONGER, since it has fewer values, and of so many at most.
 IN_QUEUE_TITLE = "time in the queue"
 IN_QUEUE = [("2 producers, 2 consumers", 2, 2, 0), ("4 alternating threads", 0, 0, 4)]
-LOADS, WORK_ON_A_VALUE = [50, 90], 1000
+LOADS, WORK_ON_A_VALUE, LONGER, LONGEST = [50, 90], 10_000, 10, 4000
 IN_QUEUE_OF = {("kfifo", k): f"kfifo, k = {k}" for k in (1, 4, 16, 64)}
 IN_QUEUE_OF |= {("array", 0): "ArrayQueue", ("channel", 0): "crossbeam-channel", ("moodycamel", 0): NAMES["moodycamel"]}
 QUANTILES = ["median", "99th percentile", "99.9th percentile"]
 # Hand-overs to a thread that sleeps: how many in a round, and the microseconds between two.
 WAKING_TITLE = "waking a thread that sleeps"
 HAND_OVERS, REST = 2000, 100
-# What pictures show, in this order, and how each of them looks, in black and white too.
-SHOWN = [("kfifo", 64), ("kfifo", 16), ("kfifo", 4), ("vyukov", 0), ("tbb", 0), ("boost", 0), ("mutex", 0)]
-SHOWN_VALUES = [("kfifo-16", 64), ("kfifo-16", 16), ("kfifo-16", 4), ("mutex-16", 0)]
-LOOKS = [("#1f4e8c", ""), ("#5b8bc9", ""), ("#b8d0ee", "")]
-LOOKS += [("#e0e0e0", "//"), ("#e0e0e0", "xx"), ("white", ".."), ("white", "")]
 
 
 @dataclasses.dataclass
@@ -149,24 +148,6 @@ def loads(capacity):
     yield f"{ONLY_WORK}, capacity {capacity:,}, {WORK[1]} ns of work", [0, 0, 0, WORK[1]]
 
 
-@dataclasses.dataclass
-class Picture:
-    """A picture of all workloads of a kind: its file, its head, their titles and the queues beside ArrayQueue."""
-
-    file: str
-    head: str
-    title: str
-    queues: list
-
-
-ITEMS = f"{{}}, capacity {CAPACITIES[0]:,}"
-PICTURES = [
-    Picture("items", "Numbers, no work between calls", ITEMS, SHOWN),
-    Picture("items_with_work", f"Numbers{between(WORK[1])}", ITEMS + between(WORK[1]), SHOWN),
-    Picture("values", "Values of 16 bytes, no work between calls", f"values of 16 bytes, {ITEMS}", SHOWN_VALUES),
-]
-
-
 def workloads(milliseconds):
     """All workloads, calls alone first."""
     made = []
@@ -184,12 +165,15 @@ def workloads(milliseconds):
         for title, words in loads(VALUES_CAPACITY):
             title = f"values of {size} bytes, {title}"
             made.append(Workload(title, compared, VALUES_CAPACITY, "rates", [*words, milliseconds]))
+    return made
+
+
+def looking(milliseconds):
+    """The workloads of calls that look for threads that wait, beside those that do not."""
     for pair in LOOKING:
         for name, *threads in CALLS:
             kind = "values" if "values" in pair[0][0] else "items"
-            title = f"looking for waiting threads, {kind}, {name}, capacity {VALUES_CAPACITY:,}"
-            made.append(Workload(title, pair, VALUES_CAPACITY, "rates", [*threads, 0, milliseconds]))
-    return made
+            yield Workload(f"{kind}, {name}", pair, VALUES_CAPACITY, "rates", [*threads, 0, milliseconds])
 
 
 def growing(milliseconds):
@@ -197,8 +181,7 @@ def growing(milliseconds):
     for pairs, calls, capacity in (MAY_GROW, KEEPING_UP, VALUES_CAPACITY), (GROWS, GROWING_CALLS, GROWN_CAPACITY):
         for pair in pairs:
             for name, *threads in calls:
-                title = f"{name}, capacity {capacity:,}, {NAMES[pair[1][0]]}"
-                yield Workload(title, pair, capacity, "rates", [*threads, 0, milliseconds])
+                yield Workload(name, pair, capacity, "rates", [*threads, 0, milliseconds])
 
 
 def build(library=None):
@@ -272,39 +255,44 @@ def ratios(rates):
     return {queue: [it / by for it, by in zip(values, base)] for queue, values in rates.items()}
 
 
-def table(title, rates):
+def how(rates, milliseconds):
+    """What a table says of its runs."""
+    rounds = len(next(iter(rates.values())))
+    return f"{rounds} round{'s' * (rounds > 1)}" + f" of {milliseconds} ms" * bool(milliseconds)
+
+
+def table(workload, rates):
+    """The rates of a workload, and their ratios to those of its first queue."""
+    title = workload.title
     unit = "vertices" if "spanning" in title else "times" if ONLY_WORK in title else "calls"
     one = {"vertices": "vertex", "times": "time", "calls": "call"}[unit]
-    head = f"| Queue | Order | Million {unit} a second | ns a {one} | Ratio to {label(next(iter(rates)))} | Quartiles |"
-    lines = [f"### {title}", "", head, "|---|---|---|---|---|---|"]
+    heads = ["Queue", "Order", f"Million {unit} a second", f"ns a {one}", f"Ratio to {label(next(iter(rates)))}"]
+    rows = []
     for queue, its_ratios in ratios(rates).items():
         first, middle, third = quartiles(its_ratios)
         speed = statistics.median(rates[queue])
-        figures = f"{speed / 1e6:.2f} | {1e9 / speed:.1f} | {middle:.2f} | {first:.2f} to {third:.2f}"
-        lines.append(f"| {label(queue)} | {ORDERS.get(queue[0], 'FIFO')} | {figures} |")
-    return "\n".join(lines) + "\n"
+        figures = [f"{speed / 1e6:.2f}", f"{1e9 / speed:.1f}", f"{middle:.2f}", f"{first:.2f} to {third:.2f}"]
+        rows.append([label(queue), ORDERS.get(queue[0], "FIFO"), *figures])
+    milliseconds = workload.words[-1] if workload.program == "rates" else 0
+    return tables.part_of(title, how(rates, milliseconds), [*heads, "Quartiles"], rows)
 
 
-def overview(all_rates):
-    """A row for each workload, with each queue's median ratio to the first; a table for each first queue."""
-    parts = {}
-    for title, rates in all_rates.items():
-        parts.setdefault(next(iter(rates)), {})[title] = ratios(rates)
-    return "\n".join(overview_of(part) for part in parts.values())
+def overviews(parts):
+    """The lines of tables with a row for each workload and each queue's median ratio to the first queue; a table for
+    each first queue."""
+    rows = {}
+    for it in workloads(0):
+        if it.title in parts:
+            rows.setdefault(it.queues[0], {})[it.title] = tables.ratios_of(parts[it.title])
+    for first, its in rows.items():
+        names = dict.fromkeys(name for row in its.values() for name in row if name != label(first))
+        yield from tables.table_of(["Workload", *names], ([it, *medians(row, names)] for it, row in its.items()))
+        yield ""
 
 
-def overview_of(all_ratios):
-    queues = dict.fromkeys(queue for its in all_ratios.values() for queue in list(its)[1:])
-    return grid("Workload", {it: label(it) for it in queues}, all_ratios)
-
-
-def grid(head, columns, rows):
-    """A table of median ratios: the heads of the queues' columns, and each row's ratios."""
-    lines = [f"| {head} | " + " | ".join(columns.values()) + " |", "|---" * (len(columns) + 1) + "|"]
-    for name, its in rows.items():
-        medians = [f"{statistics.median(its[queue]):.2f}" if queue in its else "" for queue in columns]
-        lines.append(f"| {name} | " + " | ".join(medians) + " |")
-    return "\n".join(lines) + "\n"
+def medians(row, names):
+    """The median ratios of these queues in a row, each empty where the row has none."""
+    return [row[name][1] if name in row else "" for name in names]
 
 
 def page_parts():
@@ -314,182 +302,97 @@ def page_parts():
         names = [(name, work) for work in works for name, *_ in CALLS]
         return {name + ", with work" * bool(work): f"{kind}{name}, {capacity}{between(work)}" for name, work in names}
 
-    ours = (4, 16, 64)
-    numbers = [*(("kfifo", k) for k in ours), ("vyukov", 0), ("mutex", 0), ("moodycamel", 0)]
-    values = [*(("kfifo-16", k) for k in ours), ("vyukov-16", 0), ("mutex-16", 0), ("moodycamel-16", 0)]
-    trees = {n: f"spanning tree by {n} threads, capacity {TREE_CAPACITY:,}" for n in TREES}
+    def trees(kind=""):
+        return {str(n): f"{kind}spanning tree by {n} threads, capacity {TREE_CAPACITY:,}" for n in TREES}
+
+    ours, of_values = (4, 16, 64), "values of 16 bytes, "
+    others = ["vyukov", "mutex", "moodycamel", "moodycamel-tokens"]
+    numbers = [*(("kfifo", k) for k in ours), *((name, 0) for name in others)]
+    values = [*(("kfifo-16", k) for k in ours), *((f"{name}-16", 0) for name in others)]
+    tree_of_values = [("kfifo-16", 16), ("kfifo-16", 64), ("kfifo-grows-16", 16), *TREE_OF_VALUES[1:4]]
     return [
         ("Workload", numbers, calls("", f"capacity {CAPACITIES[0]:,}")),
-        ("Values of 16 bytes", values, calls("values of 16 bytes, ", f"capacity {VALUES_CAPACITY:,}", WORK[:1])),
-        ("Threads", [("kfifo", 16), ("kfifo", 64), ("tbb", 0), ("vyukov", 0), ("mutex", 0)], trees),
+        ("Values of 16 bytes", values, calls(of_values, f"capacity {VALUES_CAPACITY:,}", WORK[:1])),
+        ("Threads", [("kfifo", 16), ("kfifo", 64), ("tbb", 0), ("vyukov", 0), ("mutex", 0)], trees()),
+        ("Threads, values", tree_of_values, trees(of_values)),
     ]
 
 
 def column(queue):
     """The head of a queue's column on the page."""
     name, k = queue
-    return f"k = {k}" if k else NAMES[name]
+    return "grows, " * ("grows" in name) + f"k = {k}" if k else NAMES[name]
 
 
-def page(all_rates):
-    """The tables of docs/PERFORMANCE.md, of the workloads that were measured."""
-    tables = []
-    for head, queues, titles in page_parts():
-        rows = {it: ratios(all_rates[title]) for it, title in titles.items() if title in all_rates}
-        tables.append(grid(head, {it: column(it) for it in queues}, rows))
-    return "\n".join(tables)
+def waits():
+    """The title of each workload of calls that wait, with its producers and consumers and the work of either."""
+    for producers, consumers, works in WAITING:
+        for work in works:
+            told = "work of {} and {} ns".format(*work) if any(work) else "no work"
+            yield f"{WAITING_TITLE}: {producers} + {consumers}, {told}", [producers, consumers, *work]
 
 
 def waiting(rounds, milliseconds):
-    """The tables of calls that wait: an overview of the rates, and a table for each workload."""
-    rows = {}
-    for producers, consumers, works in WAITING:
-        for work in works:
-            title = f"{producers} + {consumers}, " + ("work of {} and {} ns".format(*work) if any(work) else "no work")
-            words = [VALUES_CAPACITY, producers, consumers, *work, milliseconds]
-            rows[title] = {it: [] for it in WAITERS}
-            for queue in in_turn(list(WAITERS), rounds):
-                rows[title][queue].append(waited(queue, words))
-            print(waiting_table(title, rows[title]), flush=True)
-    return [waiting_overview(rows), *(waiting_table(title, runs) for title, runs in rows.items())]
+    """Yields the title and the table of each workload of calls that wait."""
+    for title, words in waits():
+        runs = {it: [] for it in WAITERS}
+        for queue in in_turn(list(WAITERS), rounds):
+            runs[queue].append(printed("waiting", queue, [VALUES_CAPACITY, *words, milliseconds]))
+        yield title, waiting_table(title, runs, milliseconds)
 
 
-def waited(queue, words):
-    """The values a second and the processor time of a value, of one run by calls that wait."""
-    ran = subprocess.run([str(it) for it in [f"{OUT}/waiting", *queue, *words]], capture_output=True, text=True)
+def printed(program, queue, words):
+    """The numbers that one run of a program prints."""
+    words = [str(it) for it in [f"{OUT}/{program}", *queue, *words]]
+    ran = subprocess.run(words, capture_output=True, text=True, timeout=120)
     if ran.returncode:
-        sys.exit(f"{WAITERS[queue]}, {words}: {ran.stdout or ran.stderr}")
+        sys.exit(f"{words}: {ran.stdout or ran.stderr}")
     return [float(it) for it in ran.stdout.split()]
 
 
-def waiting_table(title, runs):
+def waiting_table(title, runs, milliseconds):
     """The values a second, the processor time of a value, and the ratios to the channel of one workload."""
-    head = "| Queue | Million values a second | Processor, ns a value | Ratio to crossbeam-channel | Quartiles |"
-    lines = [f"### {WAITING_TITLE}: {title}", "", head, "|---|---|---|---|---|"]
+    heads = ["Queue", "Million values a second", "Processor, ns a value", "Ratio to crossbeam-channel", "Quartiles"]
+    rows = []
     for queue, its_ratios in ratios({it: [rate for rate, _ in run] for it, run in runs.items()}).items():
         first, middle, third = quartiles(its_ratios)
-        speed = statistics.median(rate for rate, _ in runs[queue]) / 1e6
-        cost = statistics.median(cost for _, cost in runs[queue])
-        lines.append(f"| {WAITERS[queue]} | {speed:.2f} | {cost:.0f} | {middle:.2f} | {first:.2f} to {third:.2f} |")
-    return "\n".join(lines) + "\n"
+        speed, cost = (statistics.median(column) for column in zip(*runs[queue]))
+        figures = [f"{speed / 1e6:.2f}", f"{cost:.0f}", f"{middle:.2f}", f"{first:.2f} to {third:.2f}"]
+        rows.append([WAITERS[queue], *figures])
+    return tables.part_of(title, how(runs, milliseconds), heads, rows)
 
 
-def waiting_overview(rows):
-    """The table of docs/PERFORMANCE.md: million values a second, and the processor time of a value in nanoseconds."""
-    lines = ["| Calls that wait | " + " | ".join(WAITERS.values()) + " |", "|---" * (len(WAITERS) + 1) + "|"]
-    for title, runs in rows.items():
-        medians = [[statistics.median(column) for column in zip(*run)] for run in runs.values()]
-        lines.append(f"| {title} | " + " | ".join(f"{rate / 1e6:.1f} ({cost:.0f})" for rate, cost in medians) + " |")
-    return "\n".join(lines) + "\n"
+def loads_in_queue():
+    """The title of each workload of values whose time in the queue is measured, with its threads and its load."""
+    for name, *threads in IN_QUEUE:
+        for load in LOADS:
+            yield f"{IN_QUEUE_TITLE}: {name}, {load} % load", [*threads, load]
 
 
 def in_queue(rounds, milliseconds):
-    """How long values are in each queue: for each workload the medians over the rounds of the quantiles, by queue."""
-    rows = {}
-    for name, *threads in IN_QUEUE:
-        for load in LOADS:
-            words = [VALUES_CAPACITY, *threads, load, WORK_ON_A_VALUE, milliseconds]
-            runs = {it: [] for it in IN_QUEUE_OF}
-            for queue in in_turn(list(IN_QUEUE_OF), rounds):
-                runs[queue].append(timed_in(queue, words))
-            medians = {it: [statistics.median(column) for column in zip(*run)] for it, run in runs.items()}
-            rows[f"{name}, {load} % load"] = medians
-    return rows
-
-
-def timed_in(queue, words):
-    """The quantiles of the nanoseconds that values were in the queue, and the values a second, of one run."""
-    ran = subprocess.run([str(it) for it in [f"{OUT}/time_in_queue", *queue, *words]], capture_output=True, text=True)
-    if ran.returncode:
-        sys.exit(f"{IN_QUEUE_OF[queue]}, {words}: {ran.stdout or ran.stderr}")
-    return [float(it) for it in ran.stdout.split()]
-
-
-def in_queue_tables(rows):
-    """A table for each workload."""
-    for title, medians in rows.items():
-        lines = [f"### {IN_QUEUE_TITLE}: {title}", ""]
-        lines.append("| Queue | " + " | ".join(f"{it}, ns" for it in QUANTILES) + " | Thousand values a second |")
-        lines.append("|---|---|---|---|---|")
-        for queue, (*times, speed) in medians.items():
-            figures = " | ".join(f"{it:,.0f}" for it in times)
-            lines.append(f"| {IN_QUEUE_OF[queue]} | {figures} | {speed / 1000:,.0f} |")
-        yield "\n".join(lines) + "\n"
-
-
-def draw_in_queue(rows, folder):
-    """Draws the quantiles of each queue, a part of the picture for each workload."""
-    from matplotlib import pyplot
-
-    pyplot.rcParams["svg.hashsalt"] = "kfifo"
-    figure, parts = pyplot.subplots(2, 2, figsize=(10.5, 6), layout="constrained", sharex=True, sharey=True)
-    names = [textwrap.fill(it.replace(" †", "").replace("kfifo, ", ""), 10) for it in IN_QUEUE_OF.values()]
-    for axes, (title, medians) in zip(parts.flat, rows.items()):
-        places = range(len(names))
-        for quantile, name, mark in zip(range(len(QUANTILES)), QUANTILES, "osv"):
-            axes.plot(places, [it[quantile] for it in medians.values()], mark, color=LOOKS[0][0], label=name, ms=5)
-        for place, times in zip(places, medians.values()):
-            axes.plot([place] * 2, [times[0], times[2]], color=LOOKS[1][0], linewidth=0.8)
-        axes.set_yscale("log")
-        axes.set_title(title, fontsize=9)
-        axes.set_xticks(places, names, fontsize=7)
-        axes.grid(axis="y", linewidth=0.3)
-    for axes in parts[:, 0]:
-        axes.set_ylabel("nanoseconds in the queue", fontsize=8)
-    parts[0, 0].legend(fontsize=8, loc="upper left")
-    figure.savefig(f"{folder}/time_in_queue.svg", metadata={"Date": None})
-    pyplot.close(figure)
+    """Yields the title and the table of each such workload: the medians over the rounds of the quantiles."""
+    milliseconds = min(LONGER * milliseconds, LONGEST)
+    heads = ["Queue", *(f"{it}, ns" for it in QUANTILES), "Thousand values a second"]
+    for title, words in loads_in_queue():
+        runs = {it: [] for it in IN_QUEUE_OF}
+        for queue in in_turn(list(IN_QUEUE_OF), rounds):
+            its = [VALUES_CAPACITY, *words, WORK_ON_A_VALUE, milliseconds]
+            runs[queue].append(printed("time_in_queue", queue, its))
+        rows = []
+        for queue, run in runs.items():
+            *times, speed = (statistics.median(column) for column in zip(*run))
+            rows.append([IN_QUEUE_OF[queue], *(f"{it:,.0f}" for it in times), f"{speed / 1000:,.0f}"])
+        told = f"{how(runs, milliseconds)}; {WORK_ON_A_VALUE / 1000:g} µs of work on a value"
+        yield title, tables.part_of(title, told, heads, rows)
 
 
 def waking(rounds):
     """The table of hand-overs to a thread that sleeps."""
     words = [f"{OUT}/waking", str(HAND_OVERS), str(REST), str(rounds)]
     ran = subprocess.run(words, check=True, capture_output=True, text=True)
-    return f"### {WAKING_TITLE}\n\n{ran.stdout}"
-
-
-def bars(axes, names, queues, measured):
-    """Draws a group of bars for each workload: a queue's median ratio to ArrayQueue, with a line between quartiles."""
-    width = 0.84 / len(queues)
-    for place, queue in enumerate(queues):
-        shown = [quartiles(ratios(rates)[queue]) for rates in measured]
-        middles = [it[1] for it in shown]
-        reach = [[it[1] - it[0] for it in shown], [it[2] - it[1] for it in shown]]
-        left = [group + (place - (len(queues) - 1) / 2) * width for group in range(len(names))]
-        color, hatch = LOOKS[place]
-        axes.bar(
-            left,
-            middles,
-            width,
-            yerr=reach,
-            label=label(queue),
-            color=color,
-            hatch=hatch,
-            edgecolor="black",
-            linewidth=0.5,
-            error_kw={"elinewidth": 0.8},
-        )
-    axes.axhline(1, color="black", linewidth=0.8, linestyle="--")
-    axes.set_xticks(range(len(names)), [textwrap.fill(name, 13) for name in names], fontsize=8)
-
-
-def draw(picture, all_rates, folder):
-    """Draws a picture of workloads that were measured, if they all were."""
-    titles = [picture.title.format(name) for name, *_ in CALLS]
-    if any(it not in all_rates for it in titles):
-        return
-    # Only pictures need it, and a run of some workloads has none.
-    from matplotlib import pyplot
-
-    # The same figures give the same file.
-    pyplot.rcParams["svg.hashsalt"] = "kfifo"
-    figure, axes = pyplot.subplots(figsize=(9, 4), layout="constrained")
-    bars(axes, [name for name, *_ in CALLS], picture.queues, [all_rates[it] for it in titles])
-    axes.set_title(picture.head, fontsize=10)
-    axes.set_ylabel("rate beside ArrayQueue (dashed)", fontsize=8)
-    axes.legend(fontsize=8, ncols=4, loc="upper center", bbox_to_anchor=(0.5, -0.14))
-    figure.savefig(f"{folder}/{picture.file}.svg", metadata={"Date": None})
-    pyplot.close(figure)
+    head, _, *rows = map(tables.cells, ran.stdout.splitlines())
+    told = f"{rounds} rounds of {HAND_OVERS:,} hand-overs"
+    return tables.part_of(WAKING_TITLE, told, head, rows)
 
 
 def machine():
@@ -501,6 +404,30 @@ def machine():
     return f"{model}, {len(os.sched_getaffinity(0))} processors, {platform.system()} {platform.release()}"
 
 
+def titles():
+    """The titles of all tables, in their order."""
+    return [*(it.title for it in workloads(0)), *(title for title, _ in [*waits(), *loads_in_queue()]), WAKING_TITLE]
+
+
+def text_of(about, parts):
+    """The text of table.md: the overviews, and the tables."""
+    return "\n".join([about, *overviews(parts), MARK, *parts.values()])
+
+
+def merged(text, about, parts):
+    """The text of a table.md with these tables in the place of those of the same titles. The line about the machine
+    stays where other tables stay too. One that no workload has the title of goes."""
+    before, old = tables.parts_of(text)
+    known = titles()
+    for title in old:
+        if title not in known:
+            print(f"There is no workload of the title {title}: its table goes.")
+    if any(it in known and it not in parts for it in old):
+        about = before.partition("\n\n")[0] + "\n"
+    both = {**old, **parts}
+    return text_of(about, {it: both[it] for it in known if it in both})
+
+
 def options():
     """The options of the command line."""
     given = argparse.ArgumentParser(description=__doc__, formatter_class=argparse.RawDescriptionHelpFormatter)
@@ -508,30 +435,27 @@ def options():
     given.add_argument("--milliseconds", type=int, default=200, help="of each run")
     given.add_argument("--only", default="", metavar="WORD", help="the workloads whose title has this word")
     given.add_argument("--out", default=OUT, metavar="FOLDER", help="where the tables and the pictures go")
+    given.add_argument("--merge", metavar="FILE", help="the tables that these ones go into, in place of FOLDER")
     given.add_argument("--library", metavar="FILE", help="the libkfifo.a to measure, in place of c/out/libkfifo.a")
     given.add_argument("--build", action="store_true", help="only builds the programs")
     given.add_argument("--built", action="store_true", help="measures with the programs that an earlier run built")
-    return given.parse_args()
+    words = given.parse_args()
+    if not words.build and not importlib.util.find_spec("matplotlib"):
+        given.error("it needs python3-matplotlib, for this Python")
+    return words
 
 
-def measure_all(words):
-    """Runs the workloads that are wanted, and returns their rates by their titles."""
-    all_rates = {}
+def measured(words):
+    """Runs the workloads that are wanted, and yields the titles and the tables."""
     for workload in workloads(words.milliseconds):
         if words.only in workload.title:
-            all_rates[workload.title] = measure(workload, words.rounds)
-            print(table(workload.title, all_rates[workload.title]), flush=True)
-    return all_rates
-
-
-def times(words):
-    """Yields the tables of times: of values in the queue, with their picture, and of hand-overs."""
+            yield workload.title, table(workload, measure(workload, words.rounds))
+    if words.only in WAITING_TITLE:
+        yield from waiting(words.rounds, words.milliseconds)
     if words.only in IN_QUEUE_TITLE:
-        rows = in_queue(words.rounds, words.milliseconds)
-        yield from in_queue_tables(rows)
-        draw_in_queue(rows, words.out)
+        yield from in_queue(words.rounds, words.milliseconds)
     if words.only in WAKING_TITLE:
-        yield waking(words.rounds)
+        yield WAKING_TITLE, waking(words.rounds)
 
 
 def main():
@@ -540,19 +464,23 @@ def main():
         build(words.library)
     if words.build:
         return
-    os.makedirs(words.out, exist_ok=True)
-    about = f"{machine()}; {words.rounds} rounds of {words.milliseconds} ms for each queue;\n"
-    about += f"load of the machine before: {os.getloadavg()[0]:.1f}.\n"
+    about, parts = f"{machine()}; load of the machine before: {os.getloadavg()[0]:.1f}.\n", {}
     print(about)
-    all_rates = measure_all(words)
-    print(overview(all_rates))
-    waited = waiting(words.rounds, words.milliseconds) if words.only in WAITING_TITLE else []
-    tables = [MARK, *(table(title, rates) for title, rates in all_rates.items()), *waited, *times(words)]
-    for name, parts in [("table", [about, overview(all_rates), *tables]), ("page", [page(all_rates), *waited[:1]])]:
-        with open(f"{words.out}/{name}.md", "w") as written:
-            written.write("\n".join(parts))
-    for picture in PICTURES:
-        draw(picture, all_rates, words.out)
+    for title, part in measured(words):
+        parts[title] = part
+        print(part, flush=True)
+    if words.merge:
+        file = pathlib.Path(words.merge)
+        text = merged(file.read_text(), about, parts)
+    else:
+        file = pathlib.Path(words.out) / "table.md"
+        file.parent.mkdir(parents=True, exist_ok=True)
+        text = text_of(about, parts)
+    file.write_text(text)
+    # Only pictures need it.
+    import pictures
+
+    pictures.draw(tables.parts_of(text)[1], file.parent)
 
 
 if __name__ == "__main__":
