@@ -309,12 +309,13 @@ def page_parts():
     others = ["vyukov", "mutex", "moodycamel", "moodycamel-tokens"]
     numbers = [*(("kfifo", k) for k in ours), *((name, 0) for name in others)]
     values = [*(("kfifo-16", k) for k in ours), *((f"{name}-16", 0) for name in others)]
-    tree_of_values = [("kfifo-16", 16), ("kfifo-16", 64), ("kfifo-grows-16", 16), *TREE_OF_VALUES[1:4]]
+    tree_of_values = [("kfifo-16", 16), ("kfifo-16", 64), ("kfifo-grows-16", 16)]
+    tree_of_values += [(f"{name}-16", 0) for name in ("tbb", "vyukov", "mutex")]
     return [
         ("Workload", numbers, calls("", f"capacity {CAPACITIES[0]:,}")),
         ("Values of 16 bytes", values, calls(of_values, f"capacity {VALUES_CAPACITY:,}", WORK[:1])),
         ("Threads", [("kfifo", 16), ("kfifo", 64), ("tbb", 0), ("vyukov", 0), ("mutex", 0)], trees()),
-        ("Threads, values", tree_of_values, trees(of_values)),
+        ("Threads, values of 16 bytes", tree_of_values, trees(of_values)),
     ]
 
 

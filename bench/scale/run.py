@@ -157,13 +157,17 @@ def compared(table):
     return ratios
 
 
+def off_by(table):
+    """Returns by which factor a simulated rate is wrong, in the geometric mean."""
+    ratios = [ratio for its in compared(table).values() for ratio in its.values()]
+    return round(math.exp(statistics.mean(abs(math.log(ratio)) for ratio in ratios)), 2)
+
+
 def fit(transfer):
-    """Returns by which factor a simulated rate is wrong with this transfer, in the geometric mean."""
+    """Returns the same with this transfer."""
     loads_ = dict.fromkeys(COMPARED.values())
     rows = [row_of(queue, *load, work, transfer=transfer) for work in WORK for load in loads_ for queue in QUEUES[:5]]
-    ratios = [ratio for its in compared(Table(rows)).values() for ratio in its.values()]
-    factor = math.exp(statistics.mean(abs(math.log(ratio)) for ratio in ratios))
-    return {"transfer": transfer, "factor": round(factor, 2)}
+    return {"transfer": transfer, "factor": off_by(Table(rows))}
 
 
 def compared_grid(ratios):
