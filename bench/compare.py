@@ -12,7 +12,7 @@ geometric means. Each round runs both, the first one first in every other round.
 
 LIBRARY and OTHER are files as c/out/libkfifo.a. The programs are built as bench/run.py builds them, and need the same;
 those of --many need nothing but a compiler. With --built those of an earlier run are taken. A comparison within one
-library is of its own calls: it prints which rows miss their goals, and the status is 1 then.
+library is of its own calls: it prints which rows miss their goals, and without --merge the status is 1 then.
 """
 import argparse
 import math
@@ -134,7 +134,8 @@ def many(words):
 
 
 def within(words, of):
-    """Prints the table of a comparison within one library, and returns whether a row misses its goal."""
+    """Prints the table of a comparison within one library, and returns whether a row misses its goal and nobody merges.
+    """
     rows, missed = [], 0
     for title, label, found, goal in of(words):
         median = statistics.median(found)
@@ -147,7 +148,7 @@ def within(words, of):
     if words.out:
         with open(words.out, "w") as written:
             written.write(table(rows))
-    return missed > 0
+    return missed > 0 and not words.merge
 
 
 def main():
