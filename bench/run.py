@@ -110,8 +110,8 @@ WAITING = [
 WAITERS = {("channel", 0): "crossbeam-channel", ("tbb", 0): "TBB bounded", ("mutex", 0): "mutex and deque"}
 WAITERS |= {("kfifo", k): f"kfifo, k = {k}" for k in (16, 64)}
 # How long values are in the queue: the threads, the percents of the time that the work on values keeps takers busy, and
-# the nanoseconds of that work. Calls and the clock take some hundred more, for which 90 % has to leave time. A run is
-# longer than one of calls alone by LONGER, since it has fewer values, and of so many at most.
+# the nanoseconds of that work. Calls take some hundred more, for which 90 % has to leave time. A run has few values, so
+# it lasts LONGER times as long as others, but no longer than LONGEST.
 IN_QUEUE_TITLE = "time in the queue"
 IN_QUEUE = [("2 producers, 2 consumers", 2, 2, 0), ("4 alternating threads", 0, 0, 4)]
 LOADS, WORK_ON_A_VALUE, LONGER, LONGEST = [50, 90], 10_000, 10, 4000

@@ -1,8 +1,9 @@
 // How long a value is in a queue, from before its put to after its take, where values come at random and the takers are
 // busy for a part of the time. Each thread that takes works that many nanoseconds on a value; values come by
-// exponential gaps, so that the takers together are busy for `load` percent of the time. The arguments are the queue of
-// values of 16 bytes (kfifo, array, moodycamel, channel or mutex), k (of kfifo alone), the capacity, the producers, the
-// consumers, the threads that do both, the load in percent, the nanoseconds of work on a value, and how many
+// exponential gaps, so that the work on them keeps the takers together busy for `load` percent of the time. How long
+// that work takes is timed before, with as many threads. What the calls take comes on top. The arguments are the queue
+// of values of 16 bytes (kfifo, array, moodycamel, channel or mutex), k (of kfifo alone), the capacity, the producers,
+// the consumers, the threads that do both, the load in percent, the nanoseconds of work on a value, and how many
 // milliseconds the run lasts, 4,000 at most. It prints the median, the 99th and the 99.9th percentile of the
 // nanoseconds, and the values a second; status 1 where a value is missing or double.
 #include "queues.hpp"
@@ -44,15 +45,12 @@ struct Channel {
 struct Plan {
     std::size_t producers, consumers, both;
     double load;
-    std::uint64_t nanoseconds;
     bench::Work work;
     int milliseconds;
+    double gap = 0; // the mean nanoseconds from one value of a thread that gives to its next one
     std::size_t threads() const { return producers + consumers + both; }
-    // The mean nanoseconds from one value of a thread that gives to its next one.
-    double gap() const {
-        double givers = double(producers + both), takers = double(consumers + both);
-        return double(nanoseconds) / load * givers / takers;
-    }
+    std::size_t takers() const { return consumers + both; }
+    std::size_t givers() const { return producers + both; }
 };
 
 // The moments at which a thread gives: exponential gaps from one to the next, whatever the queue does.
@@ -78,6 +76,23 @@ struct Timer {
         return std::uint32_t(spent) + 1;
     }
 };
+
+// The mean nanoseconds of the work on a value and a look at the clock, while all threads run and slow each other down.
+double timed_work(const Plan &plan) {
+    constexpr std::uint32_t length = 30000000;
+    std::atomic<std::uint64_t> done{0};
+    Timer timer;
+    std::vector<std::thread> threads;
+    for (std::size_t thread = 0; thread < plan.threads(); thread++)
+        threads.emplace_back([&, thread] {
+            std::uint64_t own = 0;
+            for (; timer.now() < length; own += thread >= plan.producers)
+                if (thread >= plan.producers) plan.work();
+            done.fetch_add(own);
+        });
+    for (std::thread &thread : threads) thread.join();
+    return double(length) * double(plan.takers()) / double(done.load());
+}
 
 // Gives the values that are due.
 template <typename Queue>
@@ -108,7 +123,7 @@ void call(Queue &queue, std::size_t thread, const Plan &plan, const Timer &timer
     typename Queue::Attached attached;
     bool gives = thread < plan.producers || thread >= plan.producers + plan.consumers;
     bool takes = thread >= plan.producers;
-    Arrivals arrivals(thread, plan.gap());
+    Arrivals arrivals(thread, plan.gap);
     auto last = std::uint32_t(plan.milliseconds) * 1000000u;
     while (gives && timer.now() < last) {
         give_due(queue, thread, timer, arrivals, tally);
@@ -125,7 +140,7 @@ void call(Queue &queue, std::size_t thread, const Plan &plan, const Timer &timer
 template <typename Queue> int run(Queue &queue, const Plan &plan) {
     std::vector<Tally> tallies(plan.threads());
     for (Tally &tally : tallies) tally.times.reserve(1 << 20);
-    std::atomic<std::size_t> givers{plan.producers + plan.both};
+    std::atomic<std::size_t> givers{plan.givers()};
     Timer timer;
     std::vector<std::thread> threads;
     for (std::size_t i = 0; i < plan.threads(); i++)
@@ -156,10 +171,10 @@ int main(int count, char **words) {
     std::string which = words[1];
     auto number = [&](int place) { return std::size_t(std::strtoull(words[place], nullptr, 10)); };
     std::size_t capacity = number(3);
-    Plan plan{number(4),     number(5), number(6), double(number(7)) / 100, number(8), bench::Work(number(8)),
-              int(number(9))};
-    if (plan.producers + plan.both == 0 || plan.consumers + plan.both == 0 || plan.load <= 0) return 2;
-    if (plan.nanoseconds == 0 || plan.milliseconds <= 0 || plan.milliseconds > 4000) return 2;
+    Plan plan{number(4), number(5), number(6), double(number(7)) / 100, bench::Work(number(8)), int(number(9))};
+    if (plan.givers() == 0 || plan.takers() == 0 || plan.load <= 0) return 2;
+    if (number(8) == 0 || plan.milliseconds <= 0 || plan.milliseconds > 4000) return 2;
+    plan.gap = timed_work(plan) / plan.load * double(plan.givers()) / double(plan.takers());
     if (which == "channel") {
         Channel channel(capacity);
         return run(channel, plan);
