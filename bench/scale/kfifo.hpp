@@ -7,16 +7,19 @@
 #include "machine.hpp"
 
 #include <cstdio>
+#include <map>
 #include <string>
 
 namespace scale {
 
 // The sizes of a queue, and what can be varied: the word of the first slot, the stride of starts, if it is set, the
-// slots that an enqueue looks at, and the cycles that a call waits after a lost round.
+// slots that an enqueue looks at, the cycles that a call waits after a lost round, and those that a take waits after a
+// round that it lost where head and tail were one segment or neighbours. Where `movers` is not 0, one of so many
+// threads moves a given end at once, and the others first wait those cycles of patience, once, and look again.
 struct Shape {
     Word k, segments, turns = 65535, first_slot = 1;
     int stride = -1;
-    Word probes = 64, wait = 0;
+    Word probes = 64, wait = 0, wait_near = 0, movers = 0, patience = 0;
 };
 
 class Kfifo {
@@ -55,14 +58,32 @@ class Kfifo {
     bool is_traced = false;
     std::vector<std::string> steps, scripts;
 
+    // What the steps of a place came to: how many there were, how many of them moved a line, and the cycles of all.
+    struct Sum {
+        std::uint64_t steps = 0, moved = 0;
+        Cycles cycles = 0;
+    };
+    // By the call, its answer and the place, if they are added up. A step at the ends that loses has a place of its
+    // own.
+    bool is_summed = false;
+    std::map<std::string, Sum> sums;
+
   private:
     static constexpr std::size_t ENDS = 0;
     static constexpr Word VERSION = Word{1} << 24, ITEM = VERSION - 1, SEGMENT = (Word{1} << 12) - 1;
+
+    struct Made {
+        const char *place;
+        bool moved, is_lost;
+        Cycles cycles;
+    };
 
     struct Call {
         Core core;
         const char *name;
         Word item, start, left; // `left` counts the rounds that are left, this one among them
+        bool is_patient = false;
+        std::vector<Made> made = {};
     };
 
     struct Found {
@@ -75,21 +96,25 @@ class Kfifo {
     struct Step {
         Access access;
         Kfifo &queue;
-        const Call &call;
+        Call &call;
         const char *place;
+        Cycles begun = 0;
         bool await_ready() const { return false; }
-        void await_suspend(std::coroutine_handle<> thread) { access.await_suspend(thread); }
+        void await_suspend(std::coroutine_handle<> thread) {
+            begun = access.machine.now;
+            access.await_suspend(thread);
+        }
         Word await_resume() {
             const Word found = access.await_resume();
+            const bool is_lost = access.kind != Kind::load && found != access.from;
             if (queue.is_traced) queue.write_down(*this, found);
+            if (queue.is_summed) call.made.push_back({place, access.moves, is_lost, access.machine.now - begun});
             return found;
         }
     };
 
-    Step load(const Call &call, const char *place, std::size_t index) {
-        return {call.core.load(index), *this, call, place};
-    }
-    Step exchange(const Call &call, const char *place, std::size_t index, Word from, Word to) {
+    Step load(Call &call, const char *place, std::size_t index) { return {call.core.load(index), *this, call, place}; }
+    Step exchange(Call &call, const char *place, std::size_t index, Word from, Word to) {
         return {call.core.compare_exchange(index, from, to), *this, call, place};
     }
 
@@ -99,6 +124,10 @@ class Kfifo {
         if (co_await load(call, "Recheck", ENDS) != ends) co_return Answer::none;
         if (found.is_slot) co_return co_await fill(call, tail(ends), found);
         if (next(tail(ends)) != head(ends)) {
+            if (waits_for_others(call, tail(ends))) {
+                co_await call.core.pass(shape.patience);
+                co_return Answer::none;
+            }
             co_await exchange(call, "MoveTail", ENDS, ends, tail_moved(ends));
             co_return Answer::none;
         }
@@ -132,23 +161,41 @@ class Kfifo {
     Task<Answer> dequeue_round(Call &call) {
         const Word ends = co_await load(call, "LoadEnds", ENDS);
         const Found found = co_await scan(call, "ScanHead", head(ends), call.start, true);
-        if (co_await load(call, "Recheck", ENDS) != ends) co_return Answer::none;
         const bool is_same_segment = head(ends) == tail(ends);
+        const Word wait = distance(head(ends), tail(ends)) < 2 ? shape.wait_near : 0;
+        if (co_await load(call, "Recheck", ENDS) != ends) {
+            co_await call.core.pass(wait);
+            co_return Answer::none;
+        }
         if (!found.is_slot) {
             if (is_same_segment) co_return Answer::empty;
+            if (waits_for_others(call, head(ends))) {
+                co_await call.core.pass(shape.patience);
+                co_return Answer::none;
+            }
             co_await exchange(call, "MoveHead", ENDS, ends, head_moved(ends));
             co_return Answer::none;
         }
-        if (is_same_segment && co_await exchange(call, "MoveTail", ENDS, ends, tail_moved(ends)) != ends)
+        if (is_same_segment && co_await exchange(call, "MoveTail", ENDS, ends, tail_moved(ends)) != ends) {
+            co_await call.core.pass(wait);
             co_return Answer::none;
+        }
         call.item = found.word & ITEM;
         const Word emptied = found.word + VERSION - call.item;
         const bool is_won = co_await exchange(call, "Take", found.index, found.word, emptied) == found.word;
         co_return is_won ? Answer::got : Answer::none;
     }
 
+    // Whether a call waits before it moves an end, since another thread is to move it.
+    bool waits_for_others(Call &call, Word segment) const {
+        const Word thread = static_cast<Word>(call.core.number);
+        if (shape.movers == 0 || segment % shape.movers == thread % shape.movers) return false;
+        call.is_patient = !call.is_patient;
+        return call.is_patient;
+    }
+
     // Loads the slots of a segment up to the first filled one, or the first empty one.
-    Task<Found> scan(const Call &call, const char *place, Word segment, Word start, bool filled) {
+    Task<Found> scan(Call &call, const char *place, Word segment, Word start, bool filled) {
         const Word most = filled ? shape.k : std::min(shape.k, shape.probes);
         for (Word offset = 0; offset < most; offset++) {
             const std::size_t index = shape.first_slot + segment * shape.k + (start + offset) % shape.k;
@@ -198,11 +245,22 @@ class Kfifo {
         steps.push_back(text);
     }
 
+    // Adds up the steps of a call that ends.
+    void add(const Call &call, const char *answer) {
+        for (const Made &made : call.made) {
+            Sum &sum = sums[std::string(call.name) + " " + answer + " " + made.place + (made.is_lost ? "Lost" : "")];
+            sum.steps++;
+            sum.moved += made.moved;
+            sum.cycles += made.cycles;
+        }
+    }
+
     // Writes down the answer of a call that ends, and the call into the script of its thread.
     Answer end(const Call &call, Answer answer) {
         if (answer == Answer::none) answer = Answer::busy;
-        if (!is_traced) return answer;
         constexpr const char *NAMES[] = {"", "done", "full", "got ", "empty", "busy"};
+        if (is_summed) add(call, answer == Answer::got ? "got" : NAMES[static_cast<int>(answer)]);
+        if (!is_traced) return answer;
         steps.back() += std::string(" and returns ") + NAMES[static_cast<int>(answer)];
         if (answer == Answer::got) steps.back() += std::to_string(call.item);
         std::string &script = scripts[call.core.number];

@@ -8,6 +8,7 @@ of the table, the section of docs/PERFORMANCE.md, whose text is section.md, and 
 It needs a compiler for C++20, and for the picture python3-matplotlib. The same sources give the same table.
 """
 import argparse
+import itertools
 import json
 import math
 import os
@@ -60,16 +61,14 @@ def build():
     subprocess.run([os.environ.get("CXX", "g++"), *options, HERE / "scale.cpp", "-o", PROGRAM], check=True)
 
 
-def simulated(name, k, threads, work, **costs):
+def simulated(name, k, threads, work, capacity=CAPACITY, **costs):
     """Returns the rate in million calls a second, and the transfers a call: medians of runs with other seeds."""
     # Threads that find nothing make many steps in little time.
     microseconds = 2000 if sum(threads) <= 4 else 500 if sum(threads) <= 16 else 250
     runs = []
     for seed in range(1, SEEDS + 1):
-        words = ["rate", name, max(k, 1), CAPACITY, *threads, work, microseconds, f"seed={seed}"]
-        words += [f"{key}={value}" for key, value in costs.items()]
-        ran = subprocess.run([PROGRAM, *map(str, words)], check=True, capture_output=True, text=True, timeout=120)
-        runs.append([float(word) for word in ran.stdout.split()])
+        words = ["rate", name, max(k, 1), capacity, *threads, work, microseconds]
+        runs.append([float(word) for word in ran(*words, seed=seed, **costs)[0]])
     return [round(statistics.median(run[place] for run in runs), 2) for place in (0, 1)]
 
 
@@ -86,9 +85,99 @@ def row_of(queue, load, n, work, **costs):
     return row | {"rate": rate, "transfers": transfers}
 
 
-FITTED = [200, 250, 300, 350]  # transfers of which the one that comes nearest to what is measured is taken
+# Threads that wait: the producers and the consumers, with the nanoseconds of work of either, and the most pauses between
+# two looks, as c/src/wait.c has them. The queue is nearly empty.
+WAITS = {"1 + 1": (1, 1), "1 + 3": (1, 3)}
+WAITERS_WORK, PAUSES = (300, 100), 8
+WAITING = [("kfifo", 16), ("kfifo", 64), ("ring", 0)]
+# What was tried to help them, by its name, with its head in the table and the settings of the simulation.
+NEAR_TAIL = "a take waits 1.2 µs after a round that it lost near the tail", {"wait_near": 3000}
+WAITS_HELP = {
+    "none": ("as it is", {}),
+    "pauses-64": ("up to 64 pauses", {"pauses": 64}),
+    "pauses-1024": ("up to 1,024 pauses", {"pauses": 1024}),
+    "stride-1": ("a stride of 1", {"stride": 1}),
+    "line": ("the ends on a line of their own", {"first_slot": 8}),
+    "wait": ("each lost round is followed by a wait of 1.2 µs", {"wait": 3000}),
+    "wait-near": NEAR_TAIL,
+}
+# What was tried to help many threads.
+MANY = [4, 16, 32, 64]
+MANY_HELP = {
+    "none": ("as it is, with a stride of 3, and 16 segments where k is 64", {}),
+    "stride-0": ("no stride", {"stride": 0}),
+    "stride-1": ("a stride of 1", {"stride": 1}),
+    "stride-7": ("a stride of 7", {"stride": 7}),
+    "line": ("the ends on a line of their own", {"first_slot": 8}),
+    "few": ("a quarter of the segments", {"capacity": CAPACITY // 4}),
+    "many": ("16 times the segments", {"capacity": CAPACITY * 16}),
+    "probes": ("an enqueue looks at 2 slots", {"probes": 2}),
+    "wait": ("each lost round is followed by a wait of 0.4 µs", {"wait": 1000}),
+    "movers": ("three of four threads wait 0.5 µs before they move an end", {"movers": 4, "patience": 1200}),
+    "wait-near": NEAR_TAIL,
+}
+# How a place of a call is told of, by the beginning of its name in what the simulation prints.
+PLACES = {
+    "a give reads the ends": "enqueue done (LoadEnds|Recheck|ReloadEnds|ConfirmFull)",
+    "a give holds the head or moves an end": "enqueue done (Hold|Move)",
+    "a give looks at slots": "enqueue done (Scan|ReloadSlot)",
+    "a give fills a slot": "enqueue done (Put|Undo)",
+    "a take reads the ends": "dequeue got (LoadEnds|Recheck)",
+    "a take moves an end": "dequeue got Move(Head|Tail)$",
+    "a take loses such a move": "dequeue got Move.*Lost",
+    "a take looks at slots": "dequeue got Scan",
+    "a take empties a slot": "dequeue got Take",
+    "takes that find nothing": "dequeue empty",
+}
+# Transfers of which the one that comes nearest to what is measured is taken.
+FITTED = [200, 250, 300, 350]
 # Other costs than those of machine.hpp, for 64 alternating threads.
 CHANGES = [{}, {"transfer": 150}, {"transfer": 600}, {"shared": 0}, {"shared": 150}, {"shared": 300}, {"update": 36}]
+
+
+def ran(*words, **settings):
+    """Returns the lines of a run as lists of words."""
+    words = [*words, *(f"{key}={value}" for key, value in settings.items())]
+    done = subprocess.run([PROGRAM, *map(str, words)], check=True, capture_output=True, text=True, timeout=120)
+    return [line.split() for line in done.stdout.splitlines()]
+
+
+def waits(queue, threads, pauses=PAUSES, **settings):
+    """Simulates threads that wait, with means over runs with other seeds."""
+    runs = [ran("waits", queue[0], max(queue[1], 1), CAPACITY, *WAITS[threads], *WAITERS_WORK, pauses, 1000, seed=seed,
+                **settings) for seed in range(1, SEEDS + 1)]
+    rate, transfers, inside = (round(statistics.mean(float(run[0][place]) for run in runs), 2) for place in range(3))
+    places = {}
+    for line in (line for run in runs for line in run[1:]):
+        found = next((it for it, pattern in PLACES.items() if re.match(pattern, " ".join(line[:3]))), None)
+        if found is None:
+            sys.exit(f"no row of the table has {' '.join(line)}")
+        places[found] = [old + float(new) / SEEDS for old, new in zip(places.get(found, [0, 0]), line[3:5])]
+    steps = {it: [round(value, 2) for value in values] for it, values in places.items()}
+    return {"rate": rate, "transfers": transfers, "inside": inside, "places": steps}
+
+
+def waits_row(queue, k, threads, changed):
+    """Simulates a row of threads that wait, with something changed."""
+    row = {"queue": queue, "k": k, "threads": threads, "changed": changed}
+    return row | waits((queue, k), threads, **WAITS_HELP[changed][1])
+
+
+def waits_rows():
+    """Simulates all of them. What is changed is of this queue."""
+    every = itertools.product(WAITING, WAITS, WAITS_HELP)
+    return [waits_row(*queue, threads, name) for queue, threads, name in every if queue[0] == "kfifo" or name == "none"]
+
+
+def many_row(k, load, threads, changed):
+    """Simulates a row of many threads, with something changed."""
+    rate = simulated("kfifo", k, LOADS[load](threads), 0, **MANY_HELP[changed][1])[0]
+    return {"k": k, "load": load, "threads": threads, "changed": changed, "rate": rate}
+
+
+def many_rows():
+    """Simulates all of them."""
+    return [many_row(*its) for its in itertools.product((16, 64), ("alternating", "n/2 + n/2"), MANY, MANY_HELP)]
 
 
 def changed(queue, costs):
@@ -100,7 +189,9 @@ def changed(queue, costs):
 class Table:
     """The rows of docs/bench/scale.json, found by queue, load, threads and work."""
 
-    def __init__(self, rows, changes=(), fits=()):
+    def __init__(self, rows, changes=(), fits=(), waits=(), many=()):
+        self.waits = {(row["queue"], row["k"], row["threads"], row["changed"]): row for row in waits}
+        self.many = {(row["k"], row["load"], row["threads"], row["changed"]): row for row in many}
         self.fits = {row["transfer"]: row["factor"] for row in fits}
         self.changes = {(row["queue"], row["k"], *row["costs"].items()): row["rate"] for row in changes}
         self.rows = {(row["queue"], row["k"], row["load"], row["threads"], row["work"]): row for row in rows}
@@ -108,7 +199,7 @@ class Table:
     @staticmethod
     def load():
         read = json.loads(TABLE.read_text())
-        return Table(read["rows"], read["changed"], read["fitted"])
+        return Table(read["rows"], read["changed"], read["fitted"], read["waits"], read["many"])
 
     def rate(self, queue, load, n, work=0):
         return self.rows[(*queue, load, n, work)]["rate"]
@@ -184,6 +275,36 @@ def changes_grid(table):
     return grid(["Cycles", *(label(*queue) for queue in QUEUES)], rows)
 
 
+def places_grid(table):
+    """Returns for threads that wait how many steps a value takes, and in brackets how many of them move a line."""
+    ours = [(*queue, threads) for threads in WAITS for queue in WAITING if queue[0] == "kfifo"]
+    rows = [[place, *(told_place(table.waits[(*it, "none")], place) for it in ours)] for place in PLACES]
+    for name, queue in ("in all", None), ("Vyukov's ring, in all", ("ring", 0)):
+        rows.append([name, *(f"({table.waits[(*(queue or it[:2]), it[2], 'none')]['transfers']:.1f})" for it in ours)])
+    return grid(["Of a value", *(f"k = {k}, {threads}" for _, k, threads in ours)], rows)
+
+
+def told_place(row, place):
+    """Returns the steps of a place, and in brackets how many of them move a line."""
+    return "{:.1f} ({:.1f})".format(*row["places"].get(place, (0, 0)))
+
+
+def waits_grid(table):
+    """Returns the rates of threads that wait with something changed."""
+    queues = [(*queue, threads) for threads in WAITS for queue in WAITING]
+    rows = [[told, *(f"{table.waits[(*it, name)]['rate']:.2f}" if (*it, name) in table.waits else "" for it in queues)]
+            for name, (told, _) in WAITS_HELP.items()]
+    return grid(["Million values a second", *(f"{label(*queue)}, {threads}" for *queue, threads in queues)], rows)
+
+
+def many_grid(table, load):
+    """Returns the rates of many threads with something changed."""
+    columns = [(k, n) for k in (16, 64) for n in MANY]
+    rows = [[told, *(f"{table.many[(k, load, n, name)]['rate']:.1f}" for k, n in columns)]
+            for name, (told, _) in MANY_HELP.items()]
+    return grid(["Million calls a second", *(f"k = {k}, {n} threads" for k, n in columns)], rows)
+
+
 def span(ratios, title):
     """Returns the least and the greatest ratio of this repository's queue in rows whose title has these words."""
     its = [ratio for row, by_name in ratios.items() if title in row
@@ -208,10 +329,38 @@ def across(table, queue, other):
     return f"{min(its):.1f} to {max(its):.1f}"
 
 
+def waits_figure(table, queue, threads, *words):
+    """Returns a figure of threads that wait: `rate`, `transfers` or `ends`, how often a value changes the ends; or the
+    ratio of the rate with something changed to that as it is."""
+    row = table.waits[(*queue_of(queue), threads.replace("+", " + "), "none")]
+    if words[0] in row:
+        return f"{row[words[0]]:.1f}"
+    if words[0] == "ends":
+        changes = "a give holds the head or moves an end", "a take moves an end"
+        return f"{sum(row['places'][it][0] for it in changes):.1f}"
+    changed = table.waits[(row["queue"], row["k"], row["threads"], words[0])]
+    return f"{changed['rate'] / row['rate']:.2f}"
+
+
+def many_figure(table, ks, loads_, threads, names):
+    """Returns the least and the greatest ratio of rates with something changed to those as they are, or the only one.
+    The words are lists with commas."""
+    known = {it.replace(" ", ""): it for it in LOADS}
+    rows = itertools.product(map(int, ks.split(",")), loads_.split(","), map(int, threads.split(",")), names.split(","))
+    its = [table.many[(k, known[load], n, name)]["rate"] / table.many[(k, known[load], n, "none")]["rate"]
+           for k, load, n, name in rows]
+    return " to ".join(dict.fromkeys(f"{it:.2f}" for it in (min(its), max(its))))
+
+
 def figure(table, words):
-    """Returns a figure of the text: `cost hit`, `fit 300`, `span alternating`, `across kfifo-64 ring`, `rate kfifo-64 alternating 64`,
-    `transfers ..` alike, `ratio kfifo-64 ring alternating 64`. A load has no blanks; `work` at the end: with work."""
+    """Returns a figure of the text: `cost hit`, `fit 300`, `span alternating`, `across kfifo-64 ring`, `rate kfifo-64
+    alternating 64`, `transfers ..` alike, `ratio kfifo-64 ring alternating 64`, `waits kfifo-64 1+3 rate`, `many 64
+    alternating 16,64 movers`. A load has no blanks; `work` at the end: with work."""
     kind, *words = words.split()
+    if kind == "waits":
+        return waits_figure(table, *words)
+    if kind == "many":
+        return many_figure(table, *words)
     if kind == "cost":
         return cost(words[0])
     if kind == "fit":
@@ -233,6 +382,8 @@ def figure(table, words):
 def filled(table, template):
     """Returns the text of a template with the figures of the table."""
     parts = {"compared": compared_grid(compared(table)), "changed": changes_grid(table)}
+    parts |= {"places": places_grid(table), "waits": waits_grid(table)}
+    parts |= {f"many {load}": many_grid(table, load) for load in ("alternating", "n/2 + n/2")}
     for load in LOADS:
         for work in WORK:
             parts[f"rates {load}" + " with work" * bool(work)] = rates_grid(table, load, work)
@@ -317,8 +468,9 @@ def main():
     if not parser.parse_args().page:
         build()
         rows = [row_of(queue, *load, work) for work in WORK for load in loads() for queue in QUEUES]
-        other = [changed(queue, costs) for costs in CHANGES for queue in QUEUES]
-        TABLE.write_text(text_of({"rows": rows, "changed": other, "fitted": [fit(transfer) for transfer in FITTED]}))
+        other = {"changed": [changed(queue, costs) for costs in CHANGES for queue in QUEUES]}
+        other |= {"fitted": [fit(transfer) for transfer in FITTED], "waits": waits_rows(), "many": many_rows()}
+        TABLE.write_text(text_of({"rows": rows, **other}))
     table = Table.load()
     draw(table)
     PAGE.write_text(page_with(PAGE.read_text(), filled(table, "section.md")))

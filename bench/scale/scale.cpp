@@ -2,13 +2,17 @@
 //
 //     scale rate QUEUE K CAPACITY PRODUCERS CONSUMERS BOTH WORK MICROSECONDS [NAME=VALUE ..]
 //     scale steps K SEGMENTS PRODUCERS CONSUMERS BOTH WORK CALLS TURNS FILLED [NAME=VALUE ..]
+//     scale waits QUEUE K CAPACITY PRODUCERS CONSUMERS WORK TAKERS_WORK PAUSES MICROSECONDS [NAME=VALUE ..]
 //
 // Of the threads some only put, some only take, and some alternate both, with that many nanoseconds of work between two
 // calls. The first form begins half full, and prints the calls that put or took an item in a microsecond, and the
 // transfers of a cache line for each. QUEUE is kfifo, ring, tickets or per-producer. The second form prints the scripts
 // of the threads, as `kfifo replay` takes them, and a line for each step of this repository's queue, as `kfifo replay
-// --trace` prints it: each thread makes that many calls, the first one some more to fill the queue. A cost of
-// machine.hpp can be set by its name, and `first_slot`, `stride`, `probes`, `wait` and `seed`.
+// --trace` prints it: each thread makes that many calls, the first one some more to fill the queue. The third form
+// begins empty, and a taker that finds nothing looks again after a pause, which is twice as long each time, up to that
+// many pauses. It prints the values that went through in a microsecond, the transfers for each, and how many are inside
+// in the mean; of this repository's queue also, for each place of a call, the steps, the transfers and the cycles of a
+// value. A cost of machine.hpp can be set by its name, and `seed` and what Shape of kfifo.hpp can vary.
 #include "kfifo.hpp"
 #include "queues.hpp"
 
@@ -33,8 +37,8 @@ struct Threads {
 
 // What the words NAME=VALUE at the end of the command line set.
 using Settings = std::map<std::string, Word>;
-const std::set<std::string> NAMES = {"hit",    "update",     "transfer", "shared", "pause", "buffer",
-                                     "stride", "first_slot", "probes",   "wait",   "seed"};
+const std::set<std::string> NAMES = {"hit",        "update", "transfer", "shared",    "pause",  "buffer",   "stride",
+                                     "first_slot", "probes", "wait",     "wait_near", "movers", "patience", "seed"};
 
 Word set_or(const Settings &settings, const std::string &name, Word otherwise) {
     const auto found = settings.find(name);
@@ -94,41 +98,123 @@ void print_rate(Machine &machine, Queue &queue, const Threads &threads, Word ite
               << '\n';
 }
 
+// Takes, works on what came, and pauses where nothing did.
+template <class Queue> Detached take_or_pause(Queue &queue, Core core, Cycles work, Word most, std::uint64_t &count) {
+    co_await core.pass(1 + core.machine.random() % 1000);
+    for (Word pauses = 1;;) {
+        const bool came = co_await queue.get(core);
+        if (came) {
+            count++;
+            pauses = 1;
+            co_await core.pass(work + 4 + core.machine.random() % 8);
+        } else {
+            co_await core.pause(pauses);
+            pauses = std::min(2 * pauses, most);
+        }
+    }
+}
+
+// What waiting threads do: the work of a taker on a value, and the most pauses between two of its looks.
+struct Waiting {
+    Cycles work;
+    Word pauses;
+};
+
+// How many values went in and came out, and how many were inside at some moments.
+struct Flow {
+    std::uint64_t given = 0, taken = 0, inside = 0, moments = 0;
+};
+
+Detached look_inside(Core core, Flow &flow) {
+    for (;; flow.moments++) {
+        co_await core.pass(997);
+        flow.inside += flow.given - std::min(flow.given, flow.taken);
+    }
+}
+
+// Prints what the steps of each place came to, for each value.
+void print_sums(const Kfifo &queue, double values) {
+    for (const auto &[place, sum] : queue.sums)
+        std::cout << place << ' ' << static_cast<double>(sum.steps) / values << ' '
+                  << static_cast<double>(sum.moved) / values << ' ' << static_cast<double>(sum.cycles) / values << '\n';
+}
+
+template <class Queue>
+void print_waits(Machine &machine, Queue &queue, const Threads &threads, const Waiting &waiting, Cycles length) {
+    constexpr bool is_kfifo = std::is_same_v<Queue, Kfifo>;
+    Flow flow;
+    for (int thread = 0; thread < threads.count(); thread++) {
+        const Core core{machine, thread};
+        if (threads.takes(thread))
+            take_or_pause(queue, core, waiting.work, waiting.pauses, flow.taken);
+        else
+            run_thread(queue, core, threads, ~std::uint64_t{0}, flow.given);
+    }
+    look_inside({machine, 0}, flow);
+    machine.run_until(length / 2);
+    const std::uint64_t before = flow.taken;
+    machine.transfers = flow.inside = flow.moments = 0;
+    if constexpr (is_kfifo) queue.is_summed = true;
+    machine.run_until(length / 2 + length);
+    const double values = static_cast<double>(std::max<std::uint64_t>(flow.taken - before, 1));
+    std::cout << values / (static_cast<double>(length) / CYCLES_IN_NANOSECOND / 1000) << ' '
+              << static_cast<double>(machine.transfers) / values << ' '
+              << static_cast<double>(flow.inside) / static_cast<double>(flow.moments) << '\n';
+    if constexpr (is_kfifo) print_sums(queue, values);
+}
+
 Shape shape_of(Word k, Word segments, const Settings &settings) {
     Shape shape{k, segments};
     shape.first_slot = set_or(settings, "first_slot", shape.first_slot);
     shape.probes = set_or(settings, "probes", shape.probes);
     shape.wait = set_or(settings, "wait", shape.wait);
+    shape.wait_near = set_or(settings, "wait_near", shape.wait_near);
+    shape.movers = set_or(settings, "movers", shape.movers);
+    shape.patience = set_or(settings, "patience", shape.patience);
     shape.stride = static_cast<int>(set_or(settings, "stride", static_cast<Word>(shape.stride)));
     return shape;
 }
 
 Cycles cycles_of(int nanoseconds) { return static_cast<Cycles>(nanoseconds * CYCLES_IN_NANOSECOND); }
 
-// Runs the queue with this name for the given words of the command line.
-void run_rate(const std::string &name, const std::vector<int> &words, const Settings &settings) {
-    const Threads threads{words[2], words[3], words[4], cycles_of(words[5])};
-    const Word k = words[0], capacity = words[1];
-    const int count = threads.count();
+// Makes a machine with the queue of this name for so many threads, and uses it.
+template <class Use>
+void with_queue(const std::string &name, Word k, Word capacity, int threads, const Settings &settings, const Use &use) {
     const auto run = [&](std::size_t size, const auto &made) {
-        Machine machine(count, size, costs_of(settings));
+        Machine machine(threads, size, costs_of(settings));
         machine.random.seed(set_or(settings, "seed", 1));
         auto queue = made(machine);
-        print_rate(machine, queue, threads, capacity / 2, cycles_of(1000) * words[6]);
+        use(machine, queue);
     };
     if (name == "kfifo") {
         const Shape shape = shape_of(k, capacity / k, settings);
-        run(Kfifo::words(shape), [&](Machine &) { return Kfifo(shape, count); });
+        run(Kfifo::words(shape), [&](Machine &) { return Kfifo(shape, threads); });
     } else if (name == "ring") {
         run(Ring::words(capacity), [&](Machine &machine) { return Ring(machine, capacity); });
     } else if (name == "tickets") {
         run(Tickets::words(capacity), [&](Machine &machine) { return Tickets(machine, capacity); });
     } else if (name == "per-producer") {
-        run(PerProducer::words(capacity, count),
-            [&](Machine &machine) { return PerProducer(machine, capacity, count); });
+        run(PerProducer::words(capacity, threads),
+            [&](Machine &machine) { return PerProducer(machine, capacity, threads); });
     } else {
         throw std::invalid_argument("there is no queue " + name);
     }
+}
+
+void run_rate(const std::string &name, const std::vector<int> &words, const Settings &settings) {
+    const Threads threads{words[2], words[3], words[4], cycles_of(words[5])};
+    const Word capacity = words[1];
+    with_queue(name, words[0], capacity, threads.count(), settings, [&](Machine &machine, auto &queue) {
+        print_rate(machine, queue, threads, capacity / 2, cycles_of(1000) * words[6]);
+    });
+}
+
+void run_waits(const std::string &name, const std::vector<int> &words, const Settings &settings) {
+    const Threads threads{words[2], words[3], 0, cycles_of(words[4])};
+    const Waiting waiting{cycles_of(words[5]), static_cast<Word>(words[6])};
+    with_queue(name, words[0], words[1], threads.count(), settings, [&](Machine &machine, auto &queue) {
+        print_waits(machine, queue, threads, waiting, cycles_of(1000) * words[7]);
+    });
 }
 
 void print_steps(const std::vector<int> &words, const Settings &settings) {
@@ -176,8 +262,11 @@ int main(int count, char **given) {
         if (count > 2 && words[1] == "rate") {
             const auto [numbers, settings] = parsed(words, 3, 7);
             run_rate(words[2], numbers, settings);
+        } else if (count > 2 && words[1] == "waits") {
+            const auto [numbers, settings] = parsed(words, 3, 8);
+            run_waits(words[2], numbers, settings);
         } else {
-            if (count < 2 || words[1] != "steps") throw std::invalid_argument("the first word is rate or steps");
+            if (count < 2 || words[1] != "steps") throw std::invalid_argument("the first word is rate, steps or waits");
             const auto [numbers, settings] = parsed(words, 2, 9);
             print_steps(numbers, settings);
         }
