@@ -42,6 +42,7 @@ void ck_queue_free(void *);
 #include <stdexcept>
 #include <string>
 #include <tbb/concurrent_queue.h>
+#include <utility>
 #include <vector>
 
 namespace bench {
@@ -100,6 +101,28 @@ struct KfifoAtRandom : Kfifo {
     }
     std::uint32_t pop(std::size_t thread) {
         return handles[thread].dequeue_once(start(thread), turns).item.value_or(0);
+    }
+};
+
+// The same queue, with another stride from a thread's start to its next one than a handle has.
+struct KfifoByStride : Kfifo {
+    struct alignas(128) Starts {
+        std::uint32_t put, take;
+    };
+    std::uint32_t k, stride;
+    std::uint16_t turns;
+    std::vector<Starts> starts;
+
+    KfifoByStride(std::uint32_t k, std::size_t capacity, std::size_t threads, std::uint32_t stride)
+        : Kfifo(k, capacity, threads), k(k), stride(stride), turns(std::uint16_t(capacity / k + 2)), starts(threads) {
+        for (std::size_t i = 0; i < threads; i++) starts[i].put = starts[i].take = std::uint32_t(i * k / threads);
+    }
+    std::uint32_t next(std::uint32_t &start) const { return std::exchange(start, (start + stride) % k); }
+    bool push(std::size_t thread, std::uint32_t item) {
+        return passes[thread].enqueue_once(item, next(starts[thread].put), turns) == kfifo::Put::done;
+    }
+    std::uint32_t pop(std::size_t thread) {
+        return passes[thread].dequeue_once(next(starts[thread].take), turns).item.value_or(0);
     }
 };
 
@@ -371,6 +394,8 @@ int with_queue(const std::string &name, std::uint32_t k, std::size_t capacity, s
     auto with = [&](auto queue) { return use(*queue); };
     if (name == "kfifo") return with(std::make_unique<Kfifo>(k, capacity, threads));
     if (name == "kfifo-at-random") return with(std::make_unique<KfifoAtRandom>(k, capacity, threads));
+    if (name == "kfifo-stride-0") return with(std::make_unique<KfifoByStride>(k, capacity, threads, 0));
+    if (name == "kfifo-stride-1") return with(std::make_unique<KfifoByStride>(k, capacity, threads, 1));
     if (name == "array") return with(std::make_unique<Array>(capacity));
     if (name == "ck") return with(std::make_unique<Ck>(capacity));
     if (name == "kfifo-8") return with(std::make_unique<KfifoValues<1>>(k, capacity, threads));

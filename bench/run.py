@@ -73,6 +73,8 @@ NAMES = {
     "moodycamel-tokens": "moodycamel with tokens †",
     "kfifo": "kfifo",
     "kfifo-at-random": "kfifo, random starts",
+    "kfifo-stride-0": "kfifo, no stride",
+    "kfifo-stride-1": "kfifo, a stride of 1",
     "kfifo-in-c": "plain calls",
     "kfifo-in-c-looking": "calls that look for waiting threads",
     "kfifo-values-in-c": "plain calls of values",
@@ -90,6 +92,7 @@ OF_VALUES = ["array", "mutex", "boost", "tbb", "vyukov", "tbb-unbounded", "moody
 NAMES |= {f"{name}-{size}": NAMES[name] for name in [*OF_VALUES, "kfifo"] for size in SIZES}
 ORDERS |= {f"{name}-{size}": order for name, order in ORDERS.items() for size in SIZES}
 OURS = [("kfifo", 1), ("kfifo", 4), ("kfifo", 16), ("kfifo", 64), ("kfifo-at-random", 16), ("kfifo-at-random", 64)]
+OURS += [("kfifo-stride-0", 64), ("kfifo-stride-1", 64)]
 # Calls that look for threads that wait, each after the plain ones that it is compared with.
 LOOKING = [[(name, 16), (f"{name}-looking", 16)] for name in ("kfifo-in-c", "kfifo-values-in-c")]
 # Queues of values that may grow, each after one that cannot. Where takers keep up they do not grow. With more givers

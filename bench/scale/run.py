@@ -85,8 +85,8 @@ def row_of(queue, load, n, work, **costs):
     return row | {"rate": rate, "transfers": transfers}
 
 
-# Threads that wait: the producers and the consumers, with the nanoseconds of work of either, and the most pauses between
-# two looks, as c/src/wait.c has them. The queue is nearly empty.
+# Threads that wait at a nearly empty queue: producers and consumers, the nanoseconds of work of either, and the most
+# pauses between two looks, as in c/src/wait.c.
 WAITS = {"1 + 1": (1, 1), "1 + 3": (1, 3)}
 WAITERS_WORK, PAUSES = (300, 100), 8
 WAITING = [("kfifo", 16), ("kfifo", 64), ("ring", 0)]
