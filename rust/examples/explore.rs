@@ -2,7 +2,7 @@
 //! and gives those orders that it reaches by one flip, where that is the shortest way so far. Since tasks begin nearly
 //! in the order in which they came, hardly an order is looked at twice.
 //!
-//! The number of pancakes is an argument, 8 where it is left out. The distances are compared with those of a plain
+//! The number of pancakes is an argument, 10 where it is left out. The distances are compared with those of a plain
 //! search by one thread.
 use kfifo::work::{self, Options, RunError};
 use std::collections::VecDeque;
@@ -87,7 +87,7 @@ fn search(pancakes: usize, orders: usize) -> Result<(Vec<u8>, u64), RunError<Ord
 }
 
 fn main() -> Result<ExitCode, String> {
-    let pancakes = std::env::args().nth(1).map_or(Ok(8), |it| it.parse());
+    let pancakes = std::env::args().nth(1).map_or(Ok(10), |it| it.parse());
     let Ok(pancakes @ 1..=12) = pancakes else {
         eprintln!("usage: explore [PANCAKES], 1 to 12");
         return Ok(ExitCode::from(2));
