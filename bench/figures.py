@@ -1,11 +1,8 @@
 #!/usr/bin/env python3
-"""Compares the figures of docs/PERFORMANCE.md, README.md and docs/bench/costs.md with the tables of docs/bench. Three
-things count:
-
-- A table of a page that is made of measured tables is what they give, and so are the overviews of docs/bench/table.md.
-- A figure in a sentence stands in the tables that its section is about, rounded. Where its clause names a queue or a k,
-  it is a figure of that queue or k. Figures are decimals, and whole numbers with a unit.
-- Of made-up sentences about a made-up table the true ones pass, and the false ones do not.
+"""Says whether docs/PERFORMANCE.md has the figures of docs/bench: that its tables are those which the overviews of
+docs/bench/table.md give, and its tables of calls that wait, that its section on work is what bench/work.py writes of
+docs/bench/work.md, and that each decimal in its text is a figure of the tables, rounded. And whether docs/WORK.md has
+how many tasks a stack the searches took.
 
     bench/figures.py              prints what differs, and ends with the line 'N passed, M failed'
     bench/figures.py --write      writes the tables into the pages
@@ -17,7 +14,7 @@ import re
 import sys
 
 import run
-import tables
+import work
 
 ROOT = pathlib.Path(__file__).resolve().parent.parent
 TABLES = ROOT / "docs/bench"
@@ -131,10 +128,29 @@ def sections(text):
     return {it.partition("\n")[0]: it.partition("\n")[2] for it in re.split(r"^## ", text, flags=re.M)}
 
 
-def clauses(text):
-    """The clauses of a text without its tables, its code, and what is no figure."""
-    text = re.sub(r"^\|.*$|^```[^`]*```$|`[^`]*`|\]\([^)]*\)", "", text, flags=re.M)
-    return re.split(r"[:;.,](?=\s|$)|\sand\s", NO_FIGURES.sub("", " ".join(text.split())))
+def page_tables():
+    """Returns those tables of the page that are made of what was measured, each as its head and its rows."""
+    ratios = measured()
+    made = []
+    for head, queues, titles in run.page_parts():
+        known = [it for it in queues if any(run.label(it) in ratios.get(title, {}) for title in titles.values())]
+        columns = [run.column(it) for it in known]
+        lines = [f"| {head} | " + " | ".join(columns) + " |", "|---" * (len(columns) + 1) + "|"]
+        for name, title in titles.items():
+            figures = [ratios.get(title, {}).get(run.label(it), "") for it in known]
+            lines.append(f"| {name} | " + " | ".join(figures) + " |")
+        made.append(lines)
+    return [*made, waiting()]
+
+
+def of_work():
+    """Yields each page with a text that is made of docs/bench/work.md, that text, and what to say where it is not."""
+    _, measured = work.read(TABLES / "work.md")
+    yield PAGE, work.section(measured), "bench/work.py --again --out docs/bench --page writes another section on work"
+    _, found = measured[0]
+    tasks = [work.median(found, it, "tasks") for it in work.OURS]
+    told = f"{min(tasks):.2f} to {max(tasks):.2f} tasks a stack"
+    yield ROOT / "docs/WORK.md", told, f"docs/bench/work.md has {told}"
 
 
 def stated(text, words=""):
@@ -199,9 +215,34 @@ def of_made_up():
 
 
 def main():
-    found = [*of_tables("--write" in sys.argv[1:]), *of_sections(PERFORMANCE), *of_sections(README), *of_made_up()]
-    failed = [it for it in found if it]
-    print("\n".join([*failed, f"{len(found) - len(failed)} passed, {len(failed)} failed"]))
+    page = PAGE.read_text()
+    old = {key_of(table): table for table in tables_of(page)}
+    passed, failed = 0, []
+    for table in page_tables():
+        there = old.get(key_of(table))
+        if there == table:
+            passed += 1
+        elif there and "--write" in sys.argv[1:]:
+            page = page.replace("\n".join(there), "\n".join(table))
+            passed += 1
+        else:
+            failed.append(f"docs/PERFORMANCE.md: the table of {table[0]} is not that of docs/bench")
+    if "--write" in sys.argv[1:]:
+        PAGE.write_text(page)
+    for path, text, wrong in of_work():
+        if text in path.read_text():
+            passed += 1
+        else:
+            failed.append(f"{path.relative_to(ROOT)}: {wrong}")
+    files = "".join(it.read_text() for it in sorted(TABLES.glob("*.md")))
+    numbers = {float(it.replace(",", "")) for it in re.findall(r"\d[\d,]*(?:\.\d+)?", files)}
+    numbers |= {float(it) for table in tables_of(page) for row in table for it in re.findall(r"\d+\.\d+", row)}
+    for figure in re.findall(r"(?<![\d.])\d+\.\d+(?![\d.])", text_of(page)):
+        if is_rounded(figure, numbers):
+            passed += 1
+        else:
+            failed.append(f"docs/PERFORMANCE.md: no table of docs/bench has {figure}")
+    print("\n".join([*failed, f"{passed} passed, {len(failed)} failed"]))
     sys.exit(bool(failed))
 
 

@@ -6,6 +6,7 @@ FOLDER/work.md, after an overview, and draws two pictures there: how many proces
 
     bench/work.py [--rounds N] [--only WORD] [--library FILE] [--small] [--out FOLDER]
     bench/work.py --rounds 7 --out docs/bench --page     also writes the section of docs/PERFORMANCE.md
+    bench/work.py --again --out docs/bench --page        writes text and section anew, of the tables that are there
 
 A list that takes longer than 20 seconds has `over 20 s` in its place. With --small the workloads are small ones, for a
 look whether all run. It needs a C and a C++ compiler, cargo, and Debian's libtbb-dev, libconcurrentqueue-dev,
@@ -163,9 +164,18 @@ def measure(workload, rounds):
     return found
 
 
+def shown(figure):
+    """Returns a figure as the tables have it."""
+    return f"{figure:,.0f}" if figure >= 1000 else f"{figure:.4g}"
+
+
+def number(text):
+    return float(text.replace(",", ""))
+
+
 def median(found, one, key):
-    """Returns the median of what the runs of a list printed, or None where they took too long."""
-    return None if None in found[one] else statistics.median(it[key] for it in found[one])
+    """Returns the median of what the runs of a list printed, as the tables have it; None where one took too long."""
+    return None if None in found[one] else number(shown(statistics.median(it[key] for it in found[one])))
 
 
 def table(workload, found):
@@ -176,15 +186,30 @@ def table(workload, found):
         if None in runs:
             cells = [f"over {LIMIT} s"] + [""] * (len(heads) - 1)
         else:
-            medians = [median(found, one, key) for key in workload.columns]
-            cells = [f"{it:,.0f}" if it >= 1000 else f"{it:.4g}" for it in medians]
+            cells = [shown(median(found, one, key)) for key in workload.columns]
         lines.append(f"| {one.title} | {' | '.join(cells)} |")
     return [*lines, ""]
 
 
+def read(file):
+    """Returns what `write` wrote: the first line, and for each workload the medians of its lists."""
+    head, *parts = re.split(r"^\*\*(.*)\*\*\n\n", pathlib.Path(file).read_text(), flags=re.M)
+    tables = dict(zip(parts[::2], parts[1::2]))
+    lists = {it.title: it for it in [*OURS, *LOOPS, STEALS, *RUST]}
+    measured = []
+    for workload in workloads(False):
+        found = {}
+        for line in tables[workload.title].strip().splitlines()[2:]:
+            title, *cells = [it.strip() for it in line.strip("|").split("|")]
+            is_over = cells[0].startswith("over")
+            found[lists[title]] = [None if is_over else dict(zip(workload.columns, map(number, cells)))]
+        measured.append((workload, found))
+    return head.partition("\n")[0] + "\n", measured
+
+
 def overview(measured):
-    """Returns the lines of the table of the page. Of tasks of a given time it has in brackets how many times the rate
-    of one thread that is."""
+    """Returns the lines of the table of the page. In brackets it has of tasks of a given time how many times the rate
+    of one thread that is, and of jobs the median."""
     alone = {workload.words[1]: found for workload, found in measured if workload.threads == 1}
     columns = [(*it, key) for it in measured for key in it[0].page]
     heads = [workload.page[key] for workload, _, key in columns]
@@ -195,51 +220,85 @@ def overview(measured):
             figure = median(found, one, key)
             cells.append(f"over {LIMIT} s" if figure is None and key == "seconds" else "")
             if figure is not None:
-                cells[-1] = f"{figure:.3f}" if workload.words[0] in ("explore", "grid") else f"{figure:,.0f}"
+                is_search = workload.words[0] in ("explore", "grid")
+                cells[-1] = f"{figure:.{3 if figure < 10 else 2}f}" if is_search else f"{figure:,.0f}"
             if figure and key == "nanoseconds":
                 cells[-1] += f" ({median(alone[workload.words[1]], one, key) / figure:.2f})"
+            if figure and workload.words[0] == "jobs":
+                cells[-1] += f" ({shown(median(found, one, 'median'))})"
         lines.append(f"| {one.title} | {' | '.join(cells)} |")
     return lines
 
 
-def beside(found, one, others, key):
-    """Returns how many times the least figure of other lists this one has, at most, and the title of that other one."""
+def beside(found, one, others, key, choose=min):
+    """Returns how many times the least figure of other lists this one has, or the greatest one, and whose that is."""
     medians = {it: median(found, it, key) or LIMIT for it in [one, *others]}
-    least = min(others, key=medians.get)
-    return f"{medians[one] / medians[least]:.2f}", least.title
+    other = choose(others, key=medians.get)
+    times = medians[one] / medians[other]
+    return f"{times:.2f}" if times < 10 else f"{times:.0f}", other.title.partition(",")[0]
+
+
+def by_words(measured):
+    """Returns what was found by the kind of the workload, the size of its tasks or its load, and the threads."""
+    return {(it.words[0], *it.words[1:2] * (it.words[0] in ("tree", "jobs")), it.threads): its for it, its in measured}
+
+
+def speed(found, one, nanoseconds):
+    """Returns how many times the rate of one thread four threads have, with tasks that take so long."""
+    alone, together = (median(found["tree", nanoseconds, it], one, "nanoseconds") for it in (1, THREADS))
+    return alone / together
+
+
+def of_search_and_tasks(found, one, others):
+    """Returns the sentences on a list, beside others of its language, but those on jobs."""
+    explore = found["explore", THREADS]
+    time, fastest = beside(explore, one, others, "seconds")
+    cost, cheapest = beside(found["tree", 100, THREADS], one, others, "nanoseconds")
+    own = [speed(found, one, it) for it in (1000, 10000)]
+    least, most = ([choose(speed(found, it, size) for it in others) for size in (1000, 10000)] for choose in (min, max))
+    return (
+        f"with k = {one.k} the search takes {time} times as long as with {fastest}, the fastest other list, and"
+        f" {median(explore, one, 'tasks') or 0:.3f} tasks a state. A task of 0.1 µs costs {cost} times as much as with"
+        f" {cheapest}, the cheapest other one. Of tasks of 1 and 10 µs four threads do {own[0]:.2f} and {own[1]:.2f}"
+        f" times as many as one, and with the others {least[0]:.2f} to {most[0]:.2f} and {least[1]:.2f} to"
+        f" {most[1]:.2f} times."
+    )
+
+
+def of_jobs(found, percent, one, others):
+    """Returns the sentence on how long jobs wait, beside the best and the worst of other lists."""
+    jobs = found["jobs", percent, THREADS]
+    (half, first), (of_last, last) = (beside(jobs, one, others, "median", it) for it in (min, max))
+    (nearly_all, best), (of_worst, worst) = (beside(jobs, one, others, "99.9", it) for it in (min, max))
+    return (
+        f"- *{percent} % busy*: half of the jobs begin within {half} times the time of the best other list ({first})"
+        f" and {of_last} times that of the worst ({last}), and 999 of 1,000 within {nearly_all} ({best}) and"
+        f" {of_worst} times ({worst})."
+    )
 
 
 def sentences(measured):
-    """Returns what the page says of the figures."""
-    found = {(it.words[0], *it.words[1:2] * (it.words[0] in ("tree", "jobs")), it.threads): its for it, its in measured}
-    explore, small, jobs = found["explore", THREADS], found["tree", 100, THREADS], found["jobs", 90, THREADS]
-    ours, others = OURS[1], [*LOOPS, STEALS]
-
-    def rate(nanoseconds):
-        alone, together = (median(found["tree", nanoseconds, it], ours, "nanoseconds") for it in (1, THREADS))
-        return f"{alone / together:.2f}"
-
-    time, fastest = beside(explore, ours, others, "seconds")
-    cost, cheapest = beside(small, ours, others, "nanoseconds")
-    wait, strict = beside(jobs, ours, [it for it in LOOPS if it.name != "moodycamel"], "99.9")
-    said = [
-        f"With k = 16 the search takes {time} times as long as with {fastest}, the fastest other list in C++, and",
-        f"{median(explore, ours, 'tasks') or 0:.3f} tasks a state. A task of 0.1 µs costs {cost} times as much as with",
-        f"{cheapest}, the cheapest other one. Of tasks of 1 and 10 µs four threads do {rate(1000)} and {rate(10000)}",
-        f"times as many as one. At 90 %, 999 of 1,000 jobs begin within {wait} times the time of {strict}, the best",
-        f"queue with a strict order, and {beside(jobs, ours, [STEALS], '99.9')[0]} times that of {STEALS.title}.",
-    ]
-    if has_rayon():
-        time, fastest = beside(explore, RUST[0], RUST[1:], "seconds")
-        cost, cheapest = beside(small, RUST[0], RUST[1:], "nanoseconds")
-        said.append(f"In Rust the search takes {time} times as long as with {fastest}, and a task of 0.1 µs costs")
-        said.append(f"{cost} times as much as with {cheapest}.")
-    return textwrap.fill(" ".join(said), 120)
+    """Returns what the page says of the figures, of each language a paragraph and two points."""
+    found = by_words(measured)
+    said = []
+    for language, one, others in (("C++", OURS[1], [*LOOPS, STEALS]), ("Rust", RUST[0], RUST[1:])):
+        if one in found["explore", THREADS]:
+            said.append(textwrap.fill(f"In {language} {of_search_and_tasks(found, one, others)}", 120))
+            points = (of_jobs(found, it, one, others) for it in (50, 90))
+            said.append("\n".join(textwrap.fill(it, 120, subsequent_indent="  ") for it in points))
+    return "\n\n".join(said)
 
 
-def put_on_page(table_lines, said):
+def section(measured):
+    """Returns the section of the page."""
+    found = by_words(measured)
+    most = max(speed(found, it, 10000) for it in found["tree", 10000, THREADS])
+    parts = {"table": "\n".join(overview(measured)), "sentences": sentences(measured), "most": f"{most:.2f}"}
+    return pathlib.Path(SECTION).read_text().format(**parts)
+
+
+def put_on_page(text):
     """Writes the section of the page, in the place of the one that is there."""
-    text = pathlib.Path(SECTION).read_text().replace("{table}", "\n".join(table_lines)).replace("{sentences}", said)
     head = re.escape(text.partition("\n")[0])
     there = rf"(?:^{head}\n.*?)?^(?=## More processors)"
     page = pathlib.Path(PAGE)
@@ -283,17 +342,19 @@ def longest(_, found, one):
 
 
 def write(options, about, measured):
-    """Writes the tables, and the pictures of those workloads that were measured."""
-    folder = options.out
-    os.makedirs(folder, exist_ok=True)
+    """Writes the tables, after an overview where all was measured, and the section of the page."""
     tables = [about]
     if not options.only:
         tables += [*overview(measured), "", sentences(measured), ""]
         if options.page:
-            put_on_page(overview(measured), sentences(measured))
+            put_on_page(section(measured))
     tables += [line for workload, found in measured for line in table(workload, found)]
-    with open(f"{folder}/work.md", "w") as written:
+    with open(f"{options.out}/work.md", "w") as written:
         written.write("\n".join(tables))
+
+
+def draw_all(folder, measured):
+    """Draws the pictures of those workloads that were measured."""
     trees = [it for it in measured if it[0].words[0] == "tree" and it[0].threads > 1]
     jobs = [it for it in measured if it[0].words[0] == "jobs"]
     if trees:
@@ -312,9 +373,13 @@ def main():
     given.add_argument("--small", action="store_true")
     given.add_argument("--out", metavar="FOLDER")
     given.add_argument("--page", action="store_true")
+    given.add_argument("--again", action="store_true", help="write of the tables of FOLDER, and measure nothing")
     options = given.parse_args()
-    if options.page and (options.small or options.only or not options.out):
-        given.error("--page needs all workloads in full, and --out")
+    if (options.page or options.again) and (options.small or options.only or not options.out):
+        given.error("--page and --again need all workloads in full, and --out")
+    if options.again:
+        write(options, *read(f"{options.out}/work.md"))
+        return
     if options.out and not importlib.util.find_spec("matplotlib"):
         given.error("--out needs python3-matplotlib")
     build(options.library and os.path.abspath(options.library))
@@ -325,7 +390,9 @@ def main():
             measured.append((workload, measure(workload, options.rounds)))
             print("\n".join(table(*measured[-1])), flush=True)
     if options.out:
+        os.makedirs(options.out, exist_ok=True)
         write(options, about, measured)
+        draw_all(options.out, measured)
 
 
 if __name__ == "__main__":
