@@ -303,12 +303,12 @@ template <typename Runs> int tree(Runs &runs, std::uint64_t nanoseconds, std::ui
     return 0;
 }
 
-// One thread gives jobs of 20 microseconds by a clock, at random times, so that the others are busy for that part of
-// the time.
+// One thread gives jobs by a clock, at random times, so that the others are busy for that part of the time. A job takes
+// 20 microseconds while all threads work.
 template <typename Runs> int jobs(Runs &runs, std::size_t threads, double percent) {
     constexpr std::uint32_t number = 50000;
     constexpr double each = 20e-6;
-    bench::Work work(std::uint64_t(each * 1e9));
+    bench::Work work(std::uint64_t(each * 1e9), threads);
     std::vector<Clock::time_point> given(number + 2);
     std::vector<double> waited(number);
     runs(1, [&](Task task, auto &give) {

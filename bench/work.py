@@ -133,8 +133,8 @@ def build(library):
     else:
         print("The lists in Rust are skipped: librust-rayon-dev is not installed.\n")
     words = [os.environ.get("CXX", "g++"), "-std=c++17", "-O2", f"-I{HERE}/../c/include", f"{HERE}/tasks.cpp"]
-    words += [work, library, f"{OUT}/target/release/libarray_queue.a", "-o", f"{OUT}/tasks", "-ltbb", "-pthread", "-ldl"]
-    subprocess.run(words, check=True)
+    words += [work, library, f"{OUT}/target/release/libarray_queue.a", "-o", f"{OUT}/tasks"]
+    subprocess.run([*words, "-ltbb", "-pthread", "-ldl"], check=True)
 
 
 def ran(one, workload):
@@ -383,7 +383,8 @@ def main():
     if options.out and not importlib.util.find_spec("matplotlib"):
         given.error("--out needs python3-matplotlib")
     build(options.library and os.path.abspath(options.library))
-    about = f"{run.machine()}; {options.rounds} rounds; load of the machine before: {os.getloadavg()[0]:.1f}.\n"
+    about = f"{run.machine()}; {options.rounds} rounds; load of the machine before: {os.getloadavg()[0]:.1f}; a job"
+    about += " takes 20 µs while all threads work.\n"
     measured = []
     for workload in workloads(options.small):
         if options.only in workload.title:

@@ -8,6 +8,7 @@ use kfifo::work::{self, Options};
 use rayon::{Scope, ScopeFifo, ThreadPool, ThreadPoolBuilder};
 use std::process::ExitCode;
 use std::sync::atomic::{AtomicBool, AtomicU32, AtomicU64, Ordering};
+use std::thread;
 use std::time::{Duration, Instant};
 
 unsafe extern "C" {
@@ -228,7 +229,7 @@ impl Body for Grid {
     }
 }
 
-/// How many steps of `bench_work` take so long: the fastest of five trials counts.
+/// How many steps of `bench_work` take so long by one thread alone: the fastest of five trials counts.
 fn steps_of(nanoseconds: f64) -> u64 {
     const TRIED: u64 = 4_000_000;
     let trials = (0..5).map(|_| {
@@ -238,6 +239,27 @@ fn steps_of(nanoseconds: f64) -> u64 {
     });
     let fastest = trials.min().expect("there are five").as_secs_f64() * 1e9;
     (TRIED as f64 / fastest * nanoseconds) as u64 + 1
+}
+
+/// The same while so many threads work at once. Where a host shares its processors, each of them has less than one: so
+/// the mean counts.
+fn steps_among(threads: usize, nanoseconds: f64) -> u64 {
+    const PART: u64 = 10_000;
+    const TRIED: Duration = Duration::from_millis(500);
+    let parts = AtomicU64::new(0);
+    let end = Instant::now() + TRIED;
+    thread::scope(|scope| {
+        for _ in 0..threads {
+            scope.spawn(|| {
+                while Instant::now() < end {
+                    bench_work(PART);
+                    parts.fetch_add(1, Ordering::Relaxed);
+                }
+            });
+        }
+    });
+    let steps = (PART * parts.into_inner()) as f64 / threads as f64;
+    (steps / (TRIED.as_secs_f64() * 1e9) * nanoseconds) as u64 + 1
 }
 
 /// Each task works and gives two, up to a number.
@@ -274,7 +296,7 @@ impl Jobs {
     fn new(threads: usize, percent: f64) -> Jobs {
         let times = || (0..Self::NUMBER).map(|_| AtomicU64::new(0)).collect();
         Jobs {
-            steps: steps_of(Self::EACH * 1e9),
+            steps: steps_among(threads, Self::EACH * 1e9),
             gap: Self::EACH / (percent / 100.0 * (threads - 1) as f64),
             begin: Instant::now(),
             given: times(),
