@@ -5,6 +5,8 @@
 //     tasks LIST THREADS K grid SIDE                 the same of vertices
 //     tasks LIST THREADS K tree NANOSECONDS DEPTH    nanoseconds for each task
 //     tasks LIST THREADS K jobs PERCENT              microseconds from give to begin: the median, 99 and 99.9 of 100
+//     tasks LIST THREADS K idle SECONDS              microseconds of a processor for each worker that waits so long
+//     tasks LIST THREADS K runs TASKS                microseconds for each run of so many tasks
 //
 // LIST is run, tbb, feeder, moodycamel, array or mutex. Each but `run` and `feeder` has the loop of `Looped` around it,
 // whose idle threads look again and again. K counts for `run` alone.

@@ -102,8 +102,9 @@ def workloads(small):
     used = {"microseconds": "microseconds"}
     title = f"A processor's time for each worker that waits for {seconds} seconds"
     yield Workload(title, ["idle", seconds], used, OURS)
+    lists = [*OURS, STEALS, *(RUST[:1] if has_rayon() else [])]
     for tasks in (1, 2, THREADS, 100):
-        yield Workload(f"A run of {tasks} tasks", ["runs", tasks], used, [*OURS, STEALS])
+        yield Workload(f"A run of {tasks} tasks", ["runs", tasks], used, lists)
 
 
 def has_rayon():

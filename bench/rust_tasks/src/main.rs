@@ -3,7 +3,7 @@
 //!
 //!     rust_tasks LIST THREADS K WORKLOAD WORDS..
 //!
-//! LIST is run, scope or scope_fifo; WORKLOAD is explore, grid, tree or jobs. K counts for `run` alone.
+//! LIST is run, scope or scope_fifo; WORKLOAD is explore, grid, tree, jobs or runs. K counts for `run` alone.
 use kfifo::work::{self, Options};
 use rayon::{Scope, ScopeFifo, ThreadPool, ThreadPoolBuilder};
 use std::process::ExitCode;
@@ -337,6 +337,23 @@ impl Body for Jobs {
     }
 }
 
+/// A first task that gives some others.
+struct Few {
+    tasks: u32,
+}
+
+impl Few {
+    const RUNS: u32 = 2_000;
+}
+
+impl Body for Few {
+    fn run(&self, task: u32, give: impl FnMut(u32)) {
+        if task == 1 {
+            (2..=self.tasks).for_each(give);
+        }
+    }
+}
+
 fn measure(pool: &Pool, workload: &str, words: &[f64]) -> Option<()> {
     match (workload, words) {
         ("explore", &[pancakes]) => {
@@ -360,6 +377,14 @@ fn measure(pool: &Pool, workload: &str, words: &[f64]) -> Option<()> {
             let body = Jobs::new(pool.threads, percent);
             pool.run(&body);
             body.print();
+        }
+        ("runs", &[tasks]) => {
+            let body = Few {
+                tasks: tasks as u32,
+            };
+            let time: Duration = (0..Few::RUNS).map(|_| pool.run(&body)).sum();
+            let time = time.as_secs_f64() * 1e6 / f64::from(Few::RUNS);
+            println!("{{\"microseconds\": {time:.2}}}");
         }
         _ => return None,
     }
