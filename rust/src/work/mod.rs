@@ -42,8 +42,9 @@
 //!
 //! # What the queue has no room for
 //!
-//! The tasks lie in a queue that grows from 4,096 to 16,384. With k below 5 it has room for about k quarters of that,
-//! and with 64 threads it does not grow. A larger queue would make each run dearer by its opening.
+//! The tasks lie in a queue that grows. With k = 16 or more it has room for 1.5 million tasks on up to 16 threads, for a
+//! million on 32, and for 14,000 on 64; with k = 1 and 4 threads for 100,000. It takes 0.8 megabytes at first, and as
+//! much again for every 16,000 tasks that wait; with k = 1 it takes 0.2, and as much again for every 1,000.
 //!
 //! What does not fit goes to a list under a lock, first in, first out, as long as there is memory. While it holds
 //! tasks, what is given goes there too, and workers move the oldest into the queue, up to 1,024 at once, where that has
@@ -190,8 +191,8 @@ impl<T> Report<T> {
 /// Returns an error where an option is out of range, where the system lacks memory or a thread, or where the versions
 /// of the queue are used up. It holds the tasks that were not begun.
 ///
-/// Cost: it asks for some hundred kilobytes of memory and starts `threads - 1` threads, unless there is no task. A task
-/// costs a push and a pop, and a move of the task in and out; an idle worker uses no time after 5 microseconds.
+/// Cost: it opens its queue, 0.8 megabytes with k = 16, and starts `threads - 1` threads, unless there is no task. A
+/// task costs a push and a pop, and a move of the task in and out; an idle worker uses no time after 5 microseconds.
 ///
 /// ```
 /// use kfifo::work::{self, Options, RunError};

@@ -18,12 +18,11 @@ use std::collections::VecDeque;
 use std::sync::atomic::{AtomicUsize, Ordering};
 use std::sync::{Mutex, MutexGuard, PoisonError};
 
-/// How many tasks a generation of the queue has room for at most, and how many generations there are at most. The give
-/// that opens a generation pays for it, so a run of few tasks is cheap, and what many tasks need goes through the list.
-const ROOM: u32 = 4_096;
-const GENERATIONS: u32 = 4;
-/// How many slots a queue has for each k, and how many of them go to what each handle may keep for itself.
+/// How many slots a generation of the queue has at most, for each k and in all, and how many of them go to what each
+/// pass may keep for itself. With so many in all, few generations are opened for many tasks, and the first one is cheap
+/// enough for a run of few. These are the sizes of a run in C++ too.
 const SLOTS: u32 = 1_022;
+const ROOM: u32 = 16_384;
 const KEPT: u32 = 32;
 /// How many tasks move from the list into the queue at once.
 const MOVED: usize = 1_024;
@@ -53,8 +52,8 @@ impl Sizes {
         let k = k.max((handles * (KEPT + 1)).div_ceil(SLOTS));
         Sizes {
             k,
-            capacity: ROOM.min(handles * (SLOTS * k / handles - KEPT)),
-            generations: GENERATIONS.min(129 - 2 * handles),
+            capacity: passes * (ROOM.min(SLOTS * k) / passes - KEPT),
+            generations: 129 - 2 * passes,
             versions: Versions {
                 last: options.last,
                 reserve: options.reserve,
