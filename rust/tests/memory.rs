@@ -1,11 +1,14 @@
-//! The memory of a queue: how much it takes, that one that grows gives it back, and what each refused request for
-//! memory comes to. No value is lost, and none comes out twice.
+//! The memory of a queue, and of a run of tasks: how much it takes, that one that grows gives it back, and what each
+//! refused request for memory comes to. No value is lost, and none comes out twice.
+use kfifo::work::{self, Cause};
 use kfifo::{OpenError, Options, PopError, PushError, Queue};
 use std::alloc::{GlobalAlloc, Layout};
 use std::cell::Cell;
 use std::ffi::c_void;
 use std::iter::zip;
 use std::ptr;
+use std::sync::atomic::{AtomicBool, AtomicU64, Ordering};
+use std::thread;
 
 // The functions of glibc behind those that the library calls, whose place those below take.
 unsafe extern "C" {
@@ -339,4 +342,99 @@ fn a_worn_queue_without_memory_may_be_dropped() {
             refusing(after, ALL, || drop(queue));
         }
     });
+}
+
+/// How many tasks a run has here. With k = 1 its queue grows three times for them, or more often.
+const TASKS: usize = 3_000;
+
+fn strict(workers: usize) -> work::Options {
+    work::Options {
+        threads: Some(workers),
+        k: 1,
+    }
+}
+
+/// How often each task was done, or came back.
+fn never() -> Vec<AtomicU64> {
+    (0..TASKS).map(|_| AtomicU64::new(0)).collect()
+}
+
+fn are_all_once(times: Vec<AtomicU64>) -> bool {
+    times.into_iter().all(|it| it.into_inner() == 1)
+}
+
+/// A run by one worker that is refused memory of the library, and may be stopped by a task: how many requests were
+/// refused. It begins no task and says why, or it does each task or hands it back.
+fn run_without_memory(stops: bool, after: u64, many: u64) -> u64 {
+    let times = never();
+    let count = |number: usize| times[number].fetch_add(1, Ordering::Relaxed);
+    let body = |number: usize, more: &mut work::More<'_, usize>| {
+        count(number);
+        if stops && number == TASKS / 2 {
+            more.stop();
+        }
+    };
+    let ended = refusing(after, many, || work::run(0..TASKS, body, strict(1)));
+    let refused = many - REFUSED.get();
+    let left = match ended {
+        Ok(report) => {
+            assert_eq!(report.left.is_empty(), !stops);
+            report.left
+        }
+        Err(ended) => {
+            assert!(matches!(ended.why, Cause::OutOfMemory));
+            assert!(ended.report.left.iter().copied().eq(0..TASKS));
+            ended.report.left
+        }
+    };
+    for number in left {
+        count(number);
+    }
+    assert!(are_all_once(times));
+    refused
+}
+
+#[test]
+fn a_run_without_memory_loses_no_task() {
+    for (many, stops) in [(1, false), (1, true), (ALL, false), (ALL, true)] {
+        gives_back(|| {
+            let requests = (0..1_000).find(|it| run_without_memory(stops, *it, many) == 0);
+            assert!(requests.expect("a run asks for less") > 10);
+        });
+    }
+}
+
+/// A run of which a task, of any worker, gives all others, while the library is refused memory: how many requests were
+/// refused. No other task ends before that, so the queue has to grow.
+fn gives_without_memory(workers: usize, after: u64, many: u64) -> u64 {
+    let (times, refused, is_given) = (never(), AtomicU64::new(0), AtomicBool::new(false));
+    let report = work::run(
+        [0],
+        |number: usize, more| {
+            times[number].fetch_add(1, Ordering::Relaxed);
+            if number == 0 {
+                refusing(after, many, || {
+                    (1..TASKS).for_each(|it| more.give(it).expect("the list has memory"));
+                });
+                refused.store(many - REFUSED.get(), Ordering::Relaxed);
+                is_given.store(true, Ordering::Release);
+            }
+            while !is_given.load(Ordering::Acquire) {
+                thread::yield_now();
+            }
+        },
+        strict(workers),
+    );
+    assert!(report.expect("the run goes on").left.is_empty());
+    assert!(are_all_once(times));
+    refused.into_inner()
+}
+
+/// What finds no room waits in the list of the run.
+#[test]
+fn tasks_are_done_though_the_queue_of_a_run_cannot_grow() {
+    for (workers, many) in [(1, 1), (1, ALL), (3, 1), (3, ALL)] {
+        let requests = (0..1_000).find(|it| gives_without_memory(workers, *it, many) == 0);
+        assert!(requests.expect("gives ask for less") > 10);
+    }
 }

@@ -189,7 +189,8 @@ impl<T> Report<T> {
 /// left are dropped.
 ///
 /// Returns an error where an option is out of range, where the system lacks memory or a thread, or where the versions
-/// of the queue are used up. It holds the tasks that were not begun.
+/// of the queue are used up. It holds the tasks that were not begun. But where std gets no memory for the vectors of the
+/// report, or for what it starts a thread with, the program ends, as with any vector or thread.
 ///
 /// Cost: it opens its queue, 0.8 megabytes with k = 16, and starts `threads - 1` threads, unless there is no task. A
 /// task costs a push and a pop, and a move of the task in and out; an idle worker uses no time after 5 microseconds.
