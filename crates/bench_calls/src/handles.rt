@@ -68,35 +68,3 @@ pub(crate) fn give_and_take(
     }
     wanted
 }
-
-/// Takes and gives a payload in turn, each by a handle that does nothing else, and counts the calls that did so.
-// Where the giver has no token and the taker as many as it was opened with, each call moves one.
-#[inline(always)]
-pub(crate) fn take_and_give(
-    queue: &PayQueue<Parcel>,
-    taker: &mut PayHandle<Parcel>,
-    giver: &mut PayHandle<Parcel>,
-    calls: u32,
-) -> u64
-    requires taker { IsPassOf queue.now taker.old.pass.pass }
-    requires giver { IsPassOf queue.now giver.old.pass.pass }
-    ensures wanted { result ≤ 2 * calls }
-    ensures same { IsSamePass taker.old.pass.pass taker.new.pass.pass
-        × IsSamePass giver.old.pass.pass giver.new.pass.pass }
-{
-    let mut wanted: u64 = 0;
-    let mut parcel = Parcel {
-        number: 0,
-        weight: 1,
-    };
-    for call in 0..calls {
-        if let Taken::Got(taken) = taker.take(queue) {
-            parcel = taken;
-            wanted += 1;
-        }
-        if let Given::Done = giver.give(queue, parcel) {
-            wanted += 1;
-        }
-    }
-    wanted
-}

@@ -1,12 +1,11 @@
 //! Makes many calls of a running queue by one thread, so that their instructions can be counted.
 //!
 //! The arguments are k, 1 to 64; `half`, `empty` or `payloads`, the first two also with `-called`, all three also with
-//! `-handle`, the last also with `-moving`; and the number of turns. The ring has 1,024 slots. With `half` it is filled
-//! half, and each turn makes an enqueue and a dequeue; with `payloads` likewise, in a queue of payloads of 16 bytes;
-//! with `empty` each turn makes a dequeue of an empty queue. Starts are random. The modes that end in `called` do the
-//! same by functions that are not inlined, and those that end in `handle` by the calls of a handle, with its starts.
-//! With `payloads-moving` one handle only takes and another only gives, so each call moves a token into the pool or out
-//! of it. It prints how many calls had the answer that is wanted.
+//! `-handle`; and the number of turns. The ring has 1,024 slots. With `half` it is filled half, and each turn makes an
+//! enqueue and a dequeue; with `payloads` likewise, in a queue of payloads of 16 bytes; with `empty` each turn makes a
+//! dequeue of an empty queue. Starts are random. The modes that end in `called` do the same by functions that are not
+//! inlined, and those that end in `handle` by the calls of a handle, with its starts. It prints how many calls had the
+//! answer that is wanted.
 #![tactic(auto)]
 
 ghost use Rattle.std.specs.Prelude.{◌≡◌, ◌<◌, ◌≤◌, ◌+◌, ◌*◌, ◌++◌};
@@ -22,7 +21,7 @@ mod payloads;
 use kfifo_live::{Handle, Pass, PayHandle, PayQueue, Queue};
 use kfifo_model::Answer;
 use kfifo_words::{MAX_VERSION, Shape};
-use payloads::{FILLED, TOKENS, fill as fill_with_payloads, give_and_take};
+use payloads::{TOKENS, fill as fill_with_payloads, give_and_take};
 use std::alloc::Global;
 use std::io;
 
@@ -127,7 +126,6 @@ enum Mode {
     HalfHandle,
     EmptyHandle,
     PayloadsHandle,
-    PayloadsMoving,
 }
 
 /// The mode that an argument names, half full where it names none.
@@ -140,7 +138,6 @@ fn named(word: Option<String>) -> Mode {
         Some(text) if text.as_str() == "half-handle" => Mode::HalfHandle,
         Some(text) if text.as_str() == "empty-handle" => Mode::EmptyHandle,
         Some(text) if text.as_str() == "payloads-handle" => Mode::PayloadsHandle,
-        Some(text) if text.as_str() == "payloads-moving" => Mode::PayloadsMoving,
         _ => Mode::Half,
     }
 }
@@ -231,20 +228,6 @@ fn count_payloads_by_handle(
     Some(handles::give_and_take(&queue, &mut handle, calls))
 }
 
-/// Makes calls of a queue of payloads by two handles: one only takes, and one only gives.
-fn count_moving(alloc: Global, shape: Shape, mut starts: Starts, calls: u32) -> Option<u64>
-    requires { starts.k ≡ shape.k }
-{
-    let (queue, mut passes) = PayQueue::open_with_pool(alloc, shape, 2, FILLED).ok()?;
-    let taker = passes.pop()?;
-    let mut giver = passes.pop()?;
-    // The giver gives all its tokens.
-    fill_with_payloads(&queue, &mut giver, &mut starts);
-    let mut taker = PayHandle::new(&queue, taker);
-    let mut giver = PayHandle::new(&queue, giver);
-    Some(handles::take_and_give(&queue, &mut taker, &mut giver, calls))
-}
-
 fn main(rt: HostRuntime) -> io::Result<()> {
     let mut args = std::env::args(&rt)?;
     args.next();
@@ -267,7 +250,6 @@ fn main(rt: HostRuntime) -> io::Result<()> {
         Mode::HalfHandle => count_by_handle(rt.alloc(), shape, starts, false, calls),
         Mode::EmptyHandle => count_by_handle(rt.alloc(), shape, starts, true, calls),
         Mode::PayloadsHandle => count_payloads_by_handle(rt.alloc(), shape, starts, calls),
-        Mode::PayloadsMoving => count_moving(rt.alloc(), shape, starts, calls),
     };
     match wanted {
         Some(wanted) => println!(rt; "{wanted}"),

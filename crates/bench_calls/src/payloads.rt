@@ -16,7 +16,7 @@ pub(crate) struct Parcel {
 pub(crate) const TOKENS: u32 = 1_024;
 
 /// How many payloads a filled queue has.
-pub(crate) const FILLED: u32 = 512;
+const FILLED: u32 = 512;
 
 /// Gives so many payloads, one after the other.
 // Inlined, as the loops are, so that all stands in the function that has the queue itself.

@@ -1,45 +1,40 @@
 -- Which enqueue put the word that stands in a slot: where the holder law is kept, the one that last began with its item.
-use Rattle.std.proofs.Common.{◌≡◌, ◌≢◌, ◌⊎◌, ℕ, zero, suc, ◌+◌, ◌*◌, ◌<◌, ◌≤◌, List, [], ◌∷◌, ◌++◌, map, get_or, replicate, append_assoc}
-use Rattle.std.proofs.Common.{Option, Some, None, Ok, Bool, true, false, refl, sym, ap, ◌∙◌, subst, inl, inr, arith, cond, eq-eqb}
-use Rattle.std.proofs.Common.{ne_eqb}
-use Rattle.std.specs.Prelude.{◌==◌}
+use Rattle.std.proofs.Common.{◌≡◌, ◌≢◌, ◌⊎◌, ℕ, zero, suc, ◌+◌, ◌*◌, ◌<◌, ◌≤◌, List, [], ◌∷◌, ◌++◌, get_or, replicate, append_assoc}
+use Rattle.std.proofs.Common.{Option, Some, None, Ok, Bool, true, false, refl, sym, ap, ◌∙◌, subst, inl, inr, arith, cond}
 use Rattle.std.proofs.lemmas.Bool.{cases_eq}
 use Rattle.std.proofs.lemmas.Bool.Decides.{nat_tests}
 use Rattle.std.proofs.lemmas.List.{append-nil}
-use Rattle.kfifo_live.proofs.Types.{Answer, Begin, EnqueuePhase, Event, Next, Opening, Running, Shape}
+use Rattle.kfifo_live.proofs.Types.{Begin, EnqueuePhase, Event, Next, Opening, Running, Shape}
 use Rattle.kfifo_words.specs.Words.{value_of}
 use Rattle.kfifo_words.specs.Ring.{clock_at}
-use Rattle.kfifo_model.specs.declared.calls.Answer.TheVariants.{Got}
 use Rattle.kfifo_machine.specs.declared.event.Begin.TheVariants as B
 use Rattle.kfifo_machine.specs.declared.event.Outcome.{Outcome}
-use Rattle.kfifo_machine.specs.declared.event.Outcome.TheVariants.{Went, Ended}
 use Rattle.kfifo_machine.specs.declared.place.EnqueuePhase.TheVariants as E
 use Rattle.kfifo_machine.specs.declared.place.DequeuePhase.{DequeuePhase}
 use Rattle.kfifo_machine.specs.declared.place.DequeuePhase.TheVariants as D
 use Rattle.kfifo_machine.specs.declared.place.Running.TheVariants as R
 use Rattle.kfifo_machine.specs.declared.place.Next.TheVariants.{Goes, Answers}
 use Rattle.kfifo_machine.specs.declared.place.Access.TheVariants.{Exchange}
-use Rattle.kfifo_machine.specs.Program.{access, accessed, advance, emptied, enqueue_advance, filled_with}
-use Rattle.kfifo_machine.specs.Machine.{World, opening, found, word_at, place_of, place_after, outcome_of, begun, may_begin}
+use Rattle.kfifo_machine.specs.Program.{access, accessed, advance, filled_with}
+use Rattle.kfifo_machine.specs.Machine.{World, opening, found, word_at, place_of, place_after, begun, may_begin}
 use Rattle.kfifo_machine.specs.Machine.{world_of, step, run}
-use Rattle.kfifo_machine.specs.Runs.{event, own, going, AllGoOn, CompleteExecution}
+use Rattle.kfifo_machine.specs.Runs.{event, own, going, AllGoOn}
 use Rattle.kfifo_machine.specs.Places.{IsPlace}
 use Rattle.kfifo_machine.specs.Laws.{PutsNext}
-use Rattle.kfifo_machine.specs.Tokens.{AllBeginFree, BeginsFree, IsHeld, IsInSlot, held_at, held_in}
+use Rattle.kfifo_machine.specs.Tokens.{AllBeginFree, BeginsFree, IsHeld, IsInSlot}
 use Rattle.kfifo_machine.proofs.Budget.{own_first, own_place}
-use Rattle.kfifo_machine.proofs.Refusals.{Carries, CarriesAt}
+use Rattle.kfifo_machine.proofs.Refusals.{CarriesAt}
 use Rattle.kfifo_machine.proofs.Schedules.{Some-injective, StepsFrom, after-snoc, first_made, made_within, other_place, own-append, stepped}
 use Rattle.kfifo_machine.proofs.Sound.{IsSound, going_place, place_is, sound}
 use Rattle.kfifo_machine.proofs.BusyIsDisturbed.{found-is}
-use Rattle.kfifo_machine.proofs.Tokens.{EnqueueKnows, value-emptied, value-filled_with}
+use Rattle.kfifo_machine.proofs.Tokens.{value-filled_with}
 use Rattle.kfifo_machine.proofs.Versions.{one_word, won_word, word_rises}
 use Rattle.kfifo_live.specs.Schedule.{HolderLaw, world_after}
-use Rattle.kfifo_live.specs.Hands.{Gifts, InTurn, beside, item_begun, items_begun, last_gift, own_item, out_at, out_in}
-use Rattle.kfifo_live.specs.Payloads.{PayPassView, TakesAtLast, TookWhatWasPut, WasPutWith}
-use Rattle.kfifo_live.proofs.Balance.{Knows, know_after, value-zero}
-use Rattle.kfifo_live.proofs.Holders.{begin_free_before}
+use Rattle.kfifo_live.specs.Hands.{item_begun, items_begun, own_item, out_at}
+use Rattle.kfifo_live.proofs.Balance.{know_after, value-zero}
 use Rattle.kfifo_live.proofs.GiftsInTurn.{items_begun-append}
 use Rattle.kfifo_live.proofs.Whole.{AllGoOn-append}
+use Rattle.kfifo_live.proofs.CarriedWords.{out_held, IsUndo, enqueue_keeps, out_came, IsPut, carries_came, put_of_exchange, carried_word}
 
 -- none of these is the item
 abbrev pub Lacks : ℕ → List ℕ → Type 0
@@ -120,225 +115,14 @@ put_on o all e index word item p lacks =
           (lacks_on item (p.between ++ put ∷ p.after) e p.not_again lacks);
     }
 
--- what a step does to the token that is out, and to the word that was put
-out_held_in : (item x : ℕ) (phase : EnqueuePhase) → out_in item phase ≡ x → 0 < x → held_in item phase ≡ Some x
-out_held_in item x phase out some = grind (arith, nat_tests)
-
-out_held : (r : Running) (x : ℕ) → out_at r ≡ x → 0 < x → held_at r ≡ Some x
-out_held (R.Enqueue item start left phase) x out some = out_held_in item x phase out some
-out_held (R.Dequeue start left phase) x out some = absurd (omega arith)
-
--- the place of an undo of this word
-record IsUndo (shape : Shape) (r : Running) (word x : ℕ) : Type 0 where
-  index : ℕ
-  carries : CarriesAt r index word
-  at : accessed (access shape r) ≡ index
-  own : own_item r ≡ x
-
-enqueue_keeps : (shape : Shape) (item start left : ℕ) (phase : EnqueuePhase) (word : ℕ) (q : Running)
-    → enqueue_advance shape item start left phase word ≡ Goes q → own_item q ≡ item
-enqueue_keeps shape item start left phase word q is = grind (arith, nat_tests)
-
-out_is_own : (q : Running) → 0 < out_at q → out_at q ≡ own_item q
-out_is_own (R.Enqueue item start left phase) some = of_phase item phase some
-  where
-    of_phase : (item : ℕ) (phase : EnqueuePhase) → 0 < out_in item phase → out_in item phase ≡ item
-    of_phase item phase some = grind (arith, nat_tests)
-out_is_own (R.Dequeue start left phase) some = absurd (omega arith)
-
-dequeue_none : (shape : Shape) (start left : ℕ) (phase : DequeuePhase) (word : ℕ) (q : Running)
-    → advance shape (R.Dequeue start left phase) word ≡ Goes q → out_at q ≡ 0
-dequeue_none shape start left phase word q is = grind (arith, nat_tests)
-
-undo_lost : (shape : Shape) (item start left index filled word : ℕ) (worn : Bool) (q : Running) → word ≢ filled
-    → enqueue_advance shape item start left (E.Undo index filled worn) word ≡ Goes q → ⊥
-undo_lost shape item start left index filled word worn q lost is = grind (arith, nat_tests)
-
-reload_slot : (shape : Shape) (item start left ends index filled word : ℕ) (q : Running)
-    → enqueue_advance shape item start left (E.ReloadSlot ends index filled) word ≡ Goes q → out_at q ≡ 0
-reload_slot shape item start left ends index filled word q is = grind (arith, nat_tests)
-
-reload_ends : (shape : Shape) (item start left ends index filled word : ℕ) (q : Running)
-    → enqueue_advance shape item start left (E.ReloadEnds ends index filled) word ≡ Goes q → out_at q ≡ 0
-reload_ends shape item start left ends index filled word q is = grind (arith, nat_tests)
-
-hold_head : (shape : Shape) (item start left ends index filled held word : ℕ) (q : Running)
-    → enqueue_advance shape item start left (E.HoldHead ends index filled held) word ≡ Goes q → out_at q ≡ 0
-hold_head shape item start left ends index filled held word q is = grind (arith, nat_tests)
-
--- what is out after a step was out before, or comes back by a won undo
-out_came : (shape : Shape) (r : Running) (word : ℕ) (q : Running) → advance shape r word ≡ Goes q → 0 < out_at q
-    → (out_at r ≡ out_at q) ⊎ IsUndo shape r word (out_at q)
-out_came shape (R.Dequeue start left phase) word q is some = absurd
-    (let none = dequeue_none shape start left phase word q is in omega arith)
-out_came shape (R.Enqueue item start left (E.ReloadSlot ends index filled)) word q is some = absurd
-    (let none = reload_slot shape item start left ends index filled word q is in omega arith)
-out_came shape (R.Enqueue item start left (E.ReloadEnds ends index filled)) word q is some = absurd
-    (let none = reload_ends shape item start left ends index filled word q is in omega arith)
-out_came shape (R.Enqueue item start left (E.HoldHead ends index filled held)) word q is some = absurd
-    (let none = hold_head shape item start left ends index filled held word q is in omega arith)
-out_came shape (R.Enqueue item start left (E.Undo index filled worn)) word q is some =
-    elim (cases_eq word filled) [
-      | inl won ↦ inr record {
-        index = index;
-        carries = (refl, sym won);
-        at = refl;
-        own = sym (enqueue_keeps shape item start left (E.Undo index filled worn) word q is) ∙ sym (out_is_own q some);
-      }
-      | inr lost ↦ absurd (undo_lost shape item start left index filled word worn q lost is)
-    ]
-out_came shape (R.Enqueue item start left E.LoadEnds) word q is some = inl
-    (sym (out_is_own q some ∙ enqueue_keeps shape item start left E.LoadEnds word q is))
-out_came shape (R.Enqueue item start left (E.ScanTail ends offset)) word q is some = inl
-    (sym (out_is_own q some ∙ enqueue_keeps shape item start left (E.ScanTail ends offset) word q is))
-out_came shape (R.Enqueue item start left (E.Recheck ends seen)) word q is some = inl
-    (sym (out_is_own q some ∙ enqueue_keeps shape item start left (E.Recheck ends seen) word q is))
-out_came shape (R.Enqueue item start left (E.Put ends index empty)) word q is some = inl
-    (sym (out_is_own q some ∙ enqueue_keeps shape item start left (E.Put ends index empty) word q is))
-out_came shape (R.Enqueue item start left (E.ScanHead ends offset)) word q is some = inl
-    (sym (out_is_own q some ∙ enqueue_keeps shape item start left (E.ScanHead ends offset) word q is))
-out_came shape (R.Enqueue item start left (E.ConfirmFull ends)) word q is some = inl
-    (sym (out_is_own q some ∙ enqueue_keeps shape item start left (E.ConfirmFull ends) word q is))
-out_came shape (R.Enqueue item start left (E.MoveHead ends)) word q is some = inl
-    (sym (out_is_own q some ∙ enqueue_keeps shape item start left (E.MoveHead ends) word q is))
-out_came shape (R.Enqueue item start left (E.MoveTail ends)) word q is some = inl
-    (sym (out_is_own q some ∙ enqueue_keeps shape item start left (E.MoveTail ends) word q is))
-
--- the place of a put that finds what it seeks, and the word that it puts
-record IsPut (r : Running) (index seen word : ℕ) : Type 0 where
-  item : ℕ
-  start : ℕ
-  left : ℕ
-  ends : ℕ
-  place : r ≡ R.Enqueue item start left (E.Put ends index seen)
-  puts : word ≡ filled_with item seen
-
-abbrev NotPut : EnqueuePhase → Type 0
-NotPut (E.Put ends index empty) = ⊥
-NotPut phase = Unit {0}
-
-carried_on : (shape : Shape) (item start left : ℕ) (phase : EnqueuePhase) (word : ℕ) (q : Running) (i w : ℕ) → NotPut phase
-    → enqueue_advance shape item start left phase word ≡ Goes q → CarriesAt q i w → Carries phase i w
-carried_on shape item start left phase word q i w not is c = grind (arith, nat_tests)
-
-put_lost : (shape : Shape) (item start left ends index empty word : ℕ) (q : Running) (i w : ℕ) → word ≢ empty
-    → enqueue_advance shape item start left (E.Put ends index empty) word ≡ Goes q → CarriesAt q i w → ⊥
-put_lost shape item start left ends index empty word q i w lost is c = grind (arith, nat_tests)
-
-put_won : (shape : Shape) (item start left ends index empty word : ℕ) (q : Running) (i w : ℕ) → word ≡ empty
-    → enqueue_advance shape item start left (E.Put ends index empty) word ≡ Goes q → CarriesAt q i w
-    → (index ≡ i) × (filled_with item empty ≡ w)
-put_won shape item start left ends index empty word q i w won is c = subst (λ (r : Running). CarriesAt r i w) (sym same) c
-  where
-    next : enqueue_advance shape item start left (E.Put ends index empty) word ≡ Goes
-        (R.Enqueue item start left (E.ReloadSlot ends index (filled_with item empty)))
-    next = grind (arith, nat_tests)
-
-    goes : (r s : Running) → Goes r ≡ Goes s → r ≡ s
-    goes r s e = cc
-
-    same : R.Enqueue item start left (E.ReloadSlot ends index (filled_with item empty)) ≡ q
-    same = goes _ _ (sym next ∙ is)
-
-dequeue_carries : (shape : Shape) (start left : ℕ) (phase : DequeuePhase) (word : ℕ) (q : Running) (i w : ℕ)
-    → advance shape (R.Dequeue start left phase) word ≡ Goes q → CarriesAt q i w → ⊥
-dequeue_carries shape start left phase word q i w is c = grind (arith, nat_tests)
-
--- a word that is carried after a step was carried before, or was put by it
-carries_came : (shape : Shape) (r : Running) (word : ℕ) (q : Running) (i w : ℕ) → advance shape r word ≡ Goes q → CarriesAt q i w
-    → CarriesAt r i w ⊎ IsPut r i word w
-carries_came shape (R.Dequeue start left phase) word q i w is c = absurd (dequeue_carries shape start left phase word q i w is c)
-carries_came shape (R.Enqueue item start left (E.Put ends index empty)) word q i w is c =
-    elim (cases_eq word empty) [
-      | inl won ↦
-          let p = put_won shape item start left ends index empty word q i w won is c in
-          inr record {
-            item = item;
-            start = start;
-            left = left;
-            ends = ends;
-            place = (λ k. R.Enqueue item start left (E.Put ends (p.0 k) (sym won k)));
-            puts = sym p.1 ∙ ap (filled_with item) (sym won);
-          }
-      | inr lost ↦ absurd (put_lost shape item start left ends index empty word q i w lost is c)
-    ]
-carries_came shape (R.Enqueue item start left other) word q i w is c = inl (carried_on shape item start left other word q i w tt is c)
-
--- an exchange of a slot's word that fills it is a put
-put_of_exchange : (shape : Shape) (r : Running) (i from to : ℕ) → 0 < i → value_of to ≢ 0 → access shape r ≡ Exchange i from to
-    → IsPut r i from to
-put_of_exchange shape (R.Enqueue item start left (E.Put ends index empty)) i from to above filled is =
-    record {
-      item = item;
-      start = start;
-      left = left;
-      ends = ends;
-      place = (let a : index ≡ i = cc in let b : empty ≡ from = cc in λ k. R.Enqueue item start left (E.Put ends (a k) (b k)));
-      puts = (let a : filled_with item empty ≡ to = cc in let b : empty ≡ from = cc in sym a ∙ ap (filled_with item) b);
-    }
-put_of_exchange shape (R.Enqueue item start left (E.HoldHead ends index filled_word held)) i from to above filled is = absurd
-    (let e : 0 ≡ i = cc in omega arith)
-put_of_exchange shape (R.Enqueue item start left (E.Undo index filled_word worn)) i from to above filled is = absurd
-    (filled (ap value_of (let e : to ≡ emptied filled_word = cc in e) ∙ value-emptied filled_word))
-put_of_exchange shape (R.Enqueue item start left (E.MoveHead ends)) i from to above filled is = absurd (let e : 0 ≡ i = cc in omega arith)
-put_of_exchange shape (R.Enqueue item start left (E.MoveTail ends)) i from to above filled is = absurd (let e : 0 ≡ i = cc in omega arith)
-put_of_exchange shape (R.Enqueue item start left E.LoadEnds) i from to above filled is = absurd (cc)
-put_of_exchange shape (R.Enqueue item start left (E.ScanTail ends offset)) i from to above filled is = absurd (cc)
-put_of_exchange shape (R.Enqueue item start left (E.Recheck ends seen)) i from to above filled is = absurd (cc)
-put_of_exchange shape (R.Enqueue item start left (E.ReloadSlot ends index filled_word)) i from to above filled is = absurd (cc)
-put_of_exchange shape (R.Enqueue item start left (E.ReloadEnds ends index filled_word)) i from to above filled is = absurd (cc)
-put_of_exchange shape (R.Enqueue item start left (E.ScanHead ends offset)) i from to above filled is = absurd (cc)
-put_of_exchange shape (R.Enqueue item start left (E.ConfirmFull ends)) i from to above filled is = absurd (cc)
-put_of_exchange shape (R.Dequeue start left D.LoadEnds) i from to above filled is = absurd (cc)
-put_of_exchange shape (R.Dequeue start left (D.ScanHead ends offset)) i from to above filled is = absurd (cc)
-put_of_exchange shape (R.Dequeue start left (D.Recheck ends seen)) i from to above filled is = absurd (cc)
-put_of_exchange shape (R.Dequeue start left (D.MoveTail ends index filled_word)) i from to above filled is = absurd
-    (let e : 0 ≡ i = cc in omega arith)
-put_of_exchange shape (R.Dequeue start left (D.Take ends index filled_word)) i from to above filled is = absurd
-    (filled (ap value_of (let e : to ≡ emptied filled_word = cc in e) ∙ value-emptied filled_word))
-put_of_exchange shape (R.Dequeue start left (D.MoveHead ends)) i from to above filled is = absurd (let e : 0 ≡ i = cc in omega arith)
-
--- a word that a thread carries is in a slot, and of its own item
-record IsCarried (shape : Shape) (r : Running) (i word : ℕ) : Type 0 where
-  above : 0 < i
-  below : i < clock_at shape.k shape.n
-  own : value_of word ≡ own_item r
-  some : 0 < own_item r
-
-carried_word : (shape : Shape) (r : Running) (i word : ℕ) → IsPlace shape r → Knows r → CarriesAt r i word → IsCarried shape r i word
-carried_word shape (R.Enqueue item start left phase) i word place knows c = of_phase phase place knows c
-  where
-    slot : (index filled : ℕ) → 0 < index → index < clock_at shape.k shape.n → 0 < item → value_of filled ≡ item
-        → (index ≡ i) × (filled ≡ word) → (0 < i) × (i < clock_at shape.k shape.n) × (value_of word ≡ item) × (0 < item)
-    slot index filled above below some is c =
-        let e = c.0 in
-        ((omega (arith, e, above)), (omega (arith, e, below)), ap value_of (sym c.1) ∙ is, some)
-
-    made : (phase : EnqueuePhase) → (0 < i) × (i < clock_at shape.k shape.n) × (value_of word ≡ item) × (0 < item)
-        → IsCarried shape (R.Enqueue item start left phase) i word
-    made phase x = record { above = x.0; below = x.1; own = x.2; some = x.3 }
-
-    of_phase : (phase : EnqueuePhase) → IsPlace shape (R.Enqueue item start left phase) → EnqueueKnows item phase → Carries phase i word
-        → IsCarried shape (R.Enqueue item start left phase) i word
-    of_phase (E.ReloadSlot ends index filled) place knows c = made (E.ReloadSlot ends index filled)
-        (slot index filled place.4.2.above place.4.2.below place.0 knows c)
-    of_phase (E.ReloadEnds ends index filled) place knows c = made (E.ReloadEnds ends index filled)
-        (slot index filled place.4.2.above place.4.2.below place.0 knows c)
-    of_phase (E.HoldHead ends index filled held) place knows c = made (E.HoldHead ends index filled held)
-        (slot index filled place.4.4.above place.4.4.below place.0 knows c)
-    of_phase (E.Undo index filled worn) place knows c = made (E.Undo index filled worn)
-        (slot index filled place.4.1.above place.4.1.below place.0 knows c)
-    of_phase other place knows c = absurd c
-carried_word shape (R.Dequeue start left phase) i word place knows c = absurd c
-
 -- how a step goes: on from its place, or from the first place of a call
-data Going (place : Option Running) (begin : Option Begin) (r : Running) : Type 0 where
+pub data Going (place : Option Running) (begin : Option Begin) (r : Running) : Type 0 where
   On : begin ≡ None → place ≡ Some r → Going place begin r
   Enqueues : (item start turns : ℕ) → begin ≡ Some (B.Enqueue item start turns) → r ≡ R.Enqueue item start turns E.LoadEnds
       → Going place begin r
   Dequeues : (start turns : ℕ) → r ≡ R.Dequeue start turns D.LoadEnds → Going place begin r
 
-going_is : (shape : Shape) (place : Option Running) (begin : Option Begin) (r : Running) → going shape place begin ≡ Some r
+pub going_is : (shape : Shape) (place : Option Running) (begin : Option Begin) (r : Running) → going shape place begin ≡ Some r
     → Going place begin r
 going_is shape None None r goes = absurd (cc)
 going_is shape (Some q) (Some begin) r goes = absurd (cc)
@@ -397,7 +181,7 @@ put_not_first : (item start left ends index empty other first turns : ℕ)
     → R.Enqueue item start left (E.Put ends index empty) ≡ R.Enqueue other first turns E.LoadEnds → ⊥
 put_not_first item start left ends index empty other first turns e = cc
 
-enqueue_not_dequeue : (item start left first turns : ℕ) (phase : EnqueuePhase) (other : DequeuePhase)
+pub enqueue_not_dequeue : (item start left first turns : ℕ) (phase : EnqueuePhase) (other : DequeuePhase)
     → R.Enqueue item start left phase ≡ R.Dequeue first turns other → ⊥
 enqueue_not_dequeue item start left first turns phase other e = cc
 
@@ -697,214 +481,3 @@ pub who_put : (o : Opening) (all : List Event) (world : World) → world_after o
     → PutLast o all i (word_at world i) (value_of (word_at world i))
 who_put o all world reached law i above below filled =
     (traced_along o [] all (opening o.shape o.threads) world refl reached law (opening_traced o)).slots i above below filled
-
-module _ {T : Type 0} where
-  last_append : (x : ℕ) (found : Option T) (xs ys : Gifts T) → last_gift x found (xs ++ ys) ≡ last_gift x (last_gift x found xs) ys
-  last_append x found [] ys = refl
-  last_append x found (g ∷ xs) ys = last_append x (cond (g.0 == x) g.1 found) xs ys
-
-  last_lacks : (x : ℕ) (found : Option T) (gs : Gifts T) → Lacks x (map (λ g. g.0) gs) → last_gift x found gs ≡ found
-  last_lacks x found [] lacks = refl
-  last_lacks x found (g ∷ gs) lacks = last_lacks x (cond (g.0 == x) g.1 found) gs lacks.1 ∙ ap (λ b. cond b g.1 found)
-      (ne_eqb g.0 x lacks.0)
-
-  -- gifts cut at one of their items
-  record IsCut (gifts : Gifts T) (xs : List ℕ) (token : ℕ) (ys : List ℕ) : Type 0 where
-    earlier : Gifts T
-    payload : Option T
-    later : Gifts T
-    are : gifts ≡ earlier ++ (token, payload) ∷ later
-    first : map (λ g. g.0) earlier ≡ xs
-    last : map (λ g. g.0) later ≡ ys
-
-  cut_at : (gifts : Gifts T) (xs : List ℕ) (token : ℕ) (ys : List ℕ) → map (λ g. g.0) gifts ≡ xs ++ token ∷ ys → IsCut gifts xs token ys
-  cut_at [] [] token ys is = absurd (cc)
-  cut_at [] (x ∷ xs) token ys is = absurd (cc)
-  cut_at (g ∷ gs) [] token ys is =
-      let here : g.0 ≡ token = cc in
-      let rest : map (λ g. g.0) gs ≡ ys = cc in
-      record { earlier = []; payload = g.1; later = gs; are = (λ k. (here k, g.1) ∷ gs); first = refl; last = rest }
-  cut_at (g ∷ gs) (x ∷ xs) token ys is =
-      let here : g.0 ≡ x = cc in
-      let rest : map (λ g. g.0) gs ≡ xs ++ token ∷ ys = cc in
-      let c = cut_at gs xs token ys rest in
-      record {
-        earlier = g ∷ c.earlier;
-        payload = c.payload;
-        later = c.later;
-        are = ap (λ hs. g ∷ hs) c.are;
-        first = (λ k. here k ∷ c.first k);
-        last = c.last;
-      }
-
-  -- The gift of the enqueue that put a word is the last one of its item
-  pub was_put : (o : Opening) (all : List Event) (gifts : Gifts T) (index word token : ℕ) → InTurn all gifts
-      → PutLast o all index word token → WasPutWith o all gifts index word token (beside token gifts)
-  was_put o all gifts index word token turns p =
-      let begins = event p.thread (Some (B.Enqueue token p.start p.turns)) in
-      let put = event p.thread None in
-      let behind = p.between ++ put ∷ p.after in
-      let are : map (λ (g : ℕ × Option T). g.0) gifts ≡ items_begun p.before ++ token ∷ items_begun behind =
-      turns ∙ ap items_begun (p.all_are ∙ append_assoc p.before (begins ∷ p.between) (put ∷ p.after)) ∙ items_begun-append p.before
-      (begins ∷ behind) in
-      let c = cut_at gifts (items_begun p.before) token (items_begun behind) are in
-      let so_far = last_gift token None c.earlier in
-      let last : beside token gifts ≡ c.payload =
-      ap (beside token) c.are
-      ∙ last_append token None c.earlier ((token, c.payload) ∷ c.later)
-      ∙ last_lacks token (cond (token == token) c.payload so_far) c.later (subst (Lacks token) (sym c.last) p.not_again)
-      ∙ ap (λ b. cond b c.payload so_far) (eq-eqb token token refl) in
-      record {
-        thread = p.thread;
-        start = p.start;
-        turns = p.turns;
-        before = p.before;
-        between = p.between;
-        after = p.after;
-        all_are = p.all_are;
-        one_call = p.one_call;
-        puts = p.puts;
-        token_is = p.value_is;
-        earlier = c.earlier;
-        later = c.later;
-        gifts_are = c.are ∙ ap (λ (v : Option T). c.earlier ++ (token, v) ∷ c.later) (sym last);
-        before_it = c.first;
-      }
-
--- the place of a take that finds what it seeks
-record IsTake (r : Running) (word x : ℕ) : Type 0 where
-  start : ℕ
-  left : ℕ
-  ends : ℕ
-  index : ℕ
-  place : r ≡ R.Dequeue start left (D.Take ends index word)
-  value : value_of word ≡ x
-
-abbrev NotTake : DequeuePhase → Type 0
-NotTake (D.Take ends index filled) = ⊥
-NotTake phase = Unit {0}
-
-enqueue_not_got : (shape : Shape) (item start left : ℕ) (phase : EnqueuePhase) (word x : ℕ)
-    → enqueue_advance shape item start left phase word ≡ Answers (Got x) → ⊥
-enqueue_not_got shape item start left phase word x is = grind (arith, nat_tests)
-
-others_not_got : (shape : Shape) (start left : ℕ) (phase : DequeuePhase) (word x : ℕ) → NotTake phase
-    → advance shape (R.Dequeue start left phase) word ≡ Answers (Got x) → ⊥
-others_not_got shape start left phase word x not is = grind (arith, nat_tests)
-
-lost_not_got : (shape : Shape) (start left ends index filled word x : ℕ) → word ≢ filled
-    → advance shape (R.Dequeue start left (D.Take ends index filled)) word ≡ Answers (Got x) → ⊥
-lost_not_got shape start left ends index filled word x lost is = grind (arith, nat_tests)
-
-won_got : (shape : Shape) (start left ends index filled word x : ℕ) → word ≡ filled
-    → advance shape (R.Dequeue start left (D.Take ends index filled)) word ≡ Answers (Got x) → value_of filled ≡ x
-won_got shape start left ends index filled word x won is = grind (arith, nat_tests)
-
-got_place : (shape : Shape) (r : Running) (word x : ℕ) → advance shape r word ≡ Answers (Got x) → IsTake r word x
-got_place shape (R.Enqueue item start left phase) word x is = absurd (enqueue_not_got shape item start left phase word x is)
-got_place shape (R.Dequeue start left (D.Take ends index filled)) word x is =
-    elim (cases_eq word filled) [
-      | inl won ↦ record {
-        start = start;
-        left = left;
-        ends = ends;
-        index = index;
-        place = (λ k. R.Dequeue start left (D.Take ends index (sym won k)));
-        value = ap value_of won ∙ won_got shape start left ends index filled word x won is;
-      }
-      | inr lost ↦ absurd (lost_not_got shape start left ends index filled word x lost is)
-    ]
-got_place shape (R.Dequeue start left other) word x is = absurd (others_not_got shape start left other word x tt is)
-
-answered : (next : Next) (answer : Answer) → Ended answer ≡ outcome_of next → next ≡ Answers answer
-answered (Goes r) answer is = absurd (cc)
-answered (Answers a) answer is = ap Answers (let e : a ≡ answer = cc in e)
-
-take_not_first : (start left ends index filled first turns : ℕ)
-    → R.Dequeue start left (D.Take ends index filled) ≡ R.Dequeue first turns D.LoadEnds → ⊥
-take_not_first start left ends index filled first turns e = cc
-
-take_goes_on : (shape : Shape) (place : Option Running) (begin : Option Begin) (start left ends index filled : ℕ)
-    → going shape place begin ≡ Some (R.Dequeue start left (D.Take ends index filled))
-    → (begin ≡ None) × (place ≡ Some (R.Dequeue start left (D.Take ends index filled)))
-take_goes_on shape place begin start left ends index filled goes = of_going (going_is shape place begin _ goes)
-  where
-    of_going : Going place begin (R.Dequeue start left (D.Take ends index filled))
-        → (begin ≡ None) × (place ≡ Some (R.Dequeue start left (D.Take ends index filled)))
-    of_going (On none at) = (none, at)
-    of_going (Enqueues item first turns begins is) = absurd
-        (enqueue_not_dequeue item first turns start left E.LoadEnds (D.Take ends index filled) (sym is))
-    of_going (Dequeues first turns is) = absurd (take_not_first start left ends index filled first turns is)
-
--- what a dequeue that answers Got takes with its last event
-record TookLast (o : Opening) (thread token : ℕ) (seen : List Event) : Type 0 where
-  index : ℕ
-  word : ℕ
-  taken : TakesAtLast o thread index word seen
-  above : 0 < index
-  below : index < clock_at o.shape.k o.shape.n
-  value : value_of word ≡ token
-
-took_last : (o : Opening) (thread start turns token : ℕ) (old new : List Event)
-    → CompleteExecution o.shape o.threads thread (B.Dequeue start turns) (Got token) old new → TookLast o thread token new
-took_last o thread start turns token old new run =
-    elim (stepped o.shape run.before run.last run.world (Ended (Got token)) run.ends) [
-      | inr t ↦ absurd (let e : Ended (Got token) ≡ Went = t.outcome_is in cc)
-      | inl s ↦
-          let seen = found o.shape run.before s.running in
-          let g = got_place o.shape s.running seen token (answered (advance o.shape s.running seen) (Got token) s.outcome_is) in
-          let take : Running = R.Dequeue g.start g.left (D.Take g.ends g.index seen) in
-          let on = take_goes_on o.shape (place_of run.before run.last.thread) run.last.begin g.start g.left g.ends g.index seen
-          (s.goes ∙ ap Some g.place) in
-          let place : IsPlace o.shape take = place_is o.shape run.before run.last.thread take
-          (sound o.shape o.threads (old ++ run.between) run.before run.reached) on.1 in
-          let stands : seen ≡ word_at run.before g.index = found-is o.shape run.before s.running ∙ ap
-          (λ (r : Running). word_at run.before (accessed (access o.shape r))) g.place in
-          record {
-            index = g.index;
-            word = seen;
-            taken = record {
-              before = old ++ run.between;
-              here = run.before;
-              start = g.start;
-              left = g.left;
-              ends = g.ends;
-              seen_is = run.new_is ∙ (λ k. (old ++ run.between) ++ event (run.last_own k) (on.0 k) ∷ []);
-              reached = run.reached;
-              place = ap (place_of run.before) (sym run.last_own) ∙ on.1;
-              stands = sym stands;
-            };
-            above = place.2.1.above;
-            below = place.2.1.below;
-            value = g.value;
-          }
-    ]
-
--- What a pass took was put with the payload that it hands back
-pub took_what_was_put : {T : Type 0} (token : ℕ) (payload : Option T) (p : PayPassView T) (start turns : ℕ) (old : List Event)
-    → CompleteExecution p.pass.opened.shape p.pass.opened.threads p.pass.thread (B.Dequeue start turns) (Got token) old p.pass.seen
-    → 0 < token → HolderLaw p.pass.opened p.pass.seen → InTurn p.pass.seen p.gifts → beside token p.gifts ≡ payload
-    → TookWhatWasPut token payload p
-took_what_was_put token payload p start turns old run some law in_turn is =
-    let o = p.pass.opened in
-    let all = p.pass.seen in
-    let t = took_last o p.pass.thread start turns token old all run in
-    let last = event p.pass.thread None in
-    let whole : world_after o all ≡ Some run.world = ap (world_after o) run.new_is ∙ after-snoc o.shape o.threads
-    (old ++ run.between) run.before run.last run.reached ∙ ap world_of run.ends in
-    let first : HolderLaw o t.taken.before =
-    begin_free_before o.shape (opening o.shape o.threads) run.world t.taken.before (last ∷ [])
-    (ap (world_after o) (sym t.taken.seen_is) ∙ whole) (subst (HolderLaw o) t.taken.seen_is law) in
-    let value : value_of (word_at t.taken.here t.index) ≡ token = ap value_of t.taken.stands ∙ t.value in
-    let put = who_put o t.taken.before t.taken.here t.taken.reached first t.index t.above t.below
-    (λ none. absurd (omega (arith, value, none, some))) in
-    let as_taken : PutLast o t.taken.before t.index t.word token = subst (λ (x : ℕ × ℕ). PutLast o t.taken.before t.index x.0 x.1)
-    (λ k. (t.taken.stands k, value k)) put in
-    let of_all : PutLast o all t.index t.word token = subst (λ (es : List Event). PutLast o es t.index t.word token) (sym t.taken.seen_is)
-    (put_on o t.taken.before last t.index t.word token as_taken tt) in
-    record {
-      index = t.index;
-      word = t.word;
-      taken = t.taken;
-      put = subst (WasPutWith o all p.gifts t.index t.word token) is (was_put o all p.gifts t.index t.word token in_turn of_all);
-    }

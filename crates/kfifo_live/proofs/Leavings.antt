@@ -26,7 +26,8 @@ use Rattle.kfifo_live.specs.Schedule.{OneSchedule, gifts_of, seen_of, world_afte
 use Rattle.kfifo_live.proofs.Balance.{balance}
 use Rattle.kfifo_live.proofs.ClosedEmpty.{sealed_closes}
 use Rattle.kfifo_live.proofs.Gathered.{final_head, pass_ends, pass_idle}
-use Rattle.kfifo_live.proofs.Givers.{was_put, who_put}
+use Rattle.kfifo_live.proofs.Givers.{who_put}
+use Rattle.kfifo_live.proofs.TakenGifts.{was_put}
 use Rattle.kfifo_live.proofs.Hands.{within_list}
 use Rattle.kfifo_live.proofs.Leftovers.{filled_item}
 use Rattle.kfifo_live.proofs.Passes.{keeps_promise, pass_thread}

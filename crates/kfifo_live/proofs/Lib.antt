@@ -1,4 +1,5 @@
 pub mod Types
+pub mod OtherHands
 pub mod Hands
 pub mod TokensAfterStep
 pub mod Ticks
@@ -10,7 +11,9 @@ pub mod Cuts
 pub mod Draws
 pub mod Resting
 pub mod Whole
+pub mod CarriedWords
 pub mod Givers
+pub mod TakenGifts
 pub mod NewPasses
 pub mod Scans
 pub mod Passes
@@ -30,7 +33,6 @@ pub mod CallScans
 pub mod Made
 pub mod Pays
 pub mod PaySeals
-pub mod Pools
 pub mod TokenCalls
 pub mod Minting
 pub mod Capacities

@@ -1,5 +1,5 @@
 -- The tokens of an opening, cut off from the thread that has them at first.
-use Rattle.std.proofs.Common.{◌≡◌, ℕ, zero, suc, ◌+◌, ◌-◌, ◌*◌, ◌<◌, List, [], ◌∷◌, ◌++◌, drop, Option, None, All, refl, sym, ap}
+use Rattle.std.proofs.Common.{◌≡◌, ◌≢◌, ℕ, zero, suc, ◌+◌, ◌-◌, ◌*◌, ◌<◌, List, [], ◌∷◌, ◌++◌, drop, Option, None, All, refl, sym, ap}
 use Rattle.std.proofs.Common.{◌∙◌, arith, suc-mul}
 use Rattle.atomic_table.specs.Table.{Me}
 use Rattle.kfifo_live.proofs.Types.{View}
@@ -9,7 +9,12 @@ use Rattle.kfifo_live.specs.Pass.{OpenQueue, IsPassOf}
 use Rattle.kfifo_live.specs.Payloads.{PayPassView}
 use Rattle.kfifo_live.specs.Tokens.{new_token_passes, tokens_from}
 use Rattle.kfifo_live.proofs.Pays.{idle_with}
-use Rattle.kfifo_live.proofs.Pools.{count_first}
+
+-- the first of some tokens, and those behind it
+pub count_first : (token count : ℕ) → count ≢ 0 → count_up token count ≡ token ∷ count_up (token + 1) (count - 1)
+count_first token zero some = absurd (some refl)
+count_first token (suc count) some = (λ i. token
+    ∷ count_up ((let e : suc token ≡ token + 1 = omega arith in e) i) ((let e : count ≡ suc count - 1 = omega arith in e) i))
 
 module _ {T : Type 0} where
   -- a thread's tokens at home, and an idle thread that has others

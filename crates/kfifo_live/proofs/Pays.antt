@@ -21,7 +21,7 @@ use Rattle.kfifo_live.specs.declared.in_hand.Refusal.TheVariants as R
 use Rattle.kfifo_live.specs.InHand.{GetsToken, HasInHand, PutsToken, pass_in, put_by}
 use Rattle.kfifo_live.specs.Payloads.{new_pay_passes, pay_pass_view, GivesOn, EnqueuesWith, DequeuesWith, IsPayPass}
 use Rattle.kfifo_live.specs.Payloads.{PayPassView, TookWhatWasPut}
-use Rattle.kfifo_live.proofs.Givers.{took_what_was_put}
+use Rattle.kfifo_live.proofs.TakenGifts.{took_what_was_put}
 use Rattle.kfifo_live.proofs.Made.{makes_call}
 use Rattle.kfifo_live.proofs.NewPasses.{no_slot}
 use Rattle.kfifo_live.proofs.Passes.{met}

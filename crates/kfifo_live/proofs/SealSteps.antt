@@ -24,7 +24,7 @@ use Rattle.kfifo_live.specs.Schedule.{with_seen}
 use Rattle.kfifo_live.specs.Step.{IsAt, TriesSeal}
 use Rattle.kfifo_live.specs.Hands.{Gifts, Homes, In, IsGift, beside, CallFits, HandFits, SlotsFit}
 use Rattle.kfifo_live.proofs.Balance.{know_after}
-use Rattle.kfifo_live.proofs.Hands.{other_hand}
+use Rattle.kfifo_live.proofs.OtherHands.{other_hand}
 use Rattle.kfifo_live.proofs.Holders.{begin_free_on}
 use Rattle.kfifo_live.proofs.Keeps.{Tokens, adds, own_other}
 use Rattle.kfifo_live.proofs.Ticks.{few_more}

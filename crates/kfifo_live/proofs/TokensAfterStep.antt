@@ -25,7 +25,8 @@ use Rattle.kfifo_live.specs.Schedule.{world_after}
 use Rattle.kfifo_live.specs.Hands.{Gifts, Homes, Where, Out, Takes, move, gift, carried, beside, begun_hand, hand_after, slot_of, carrying}
 use Rattle.kfifo_live.specs.Hands.{Carries, BeginsWith, IsGift, CallFits, HandFits, SlotsFit, AllHome, act_of, own_item, out_at, where_after}
 use Rattle.kfifo_live.proofs.Balance.{Knows, know_after, going_knows}
-use Rattle.kfifo_live.proofs.Hands.{After, after_step, out_is, stands_on, beside-same, beside-other}
+use Rattle.kfifo_live.proofs.Hands.{After, after_step, out_is, stands_on}
+use Rattle.kfifo_live.proofs.OtherHands.{beside-same, beside-other}
 
 pub record Turned {T : Type 0} (o : Opening) (world : World) (at : ℕ → Where) (gifts : Gifts T) (homes : Homes T) (thread : ℕ)
     (begin : Option Begin) (r : Running) (hand : Hand T) (held : List (ℕ × Option T)) : Type 0 where

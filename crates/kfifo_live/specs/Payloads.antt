@@ -1,10 +1,9 @@
 -- A queue of owned payloads and its passes, as callers see them, and what a call with a payload does.
-use Rattle.std.specs.Prelude.{Bool, true, false, ◌<◌, ◌≤◌, ◌≡◌, ◌≢◌, ℕ, zero, suc, ◌+◌, ◌-◌, ◌*◌, List, [], ◌∷◌, ◌++◌}
-use Rattle.std.specs.Prelude.{All, Option, Some, None, get_or, length, map, reverse}
+use Rattle.std.specs.Prelude.{false, ◌<◌, ◌≤◌, ◌≡◌, ◌≢◌, ℕ, zero, suc, ◌+◌, ◌-◌, ◌*◌, List, [], ◌∷◌, ◌++◌}
+use Rattle.std.specs.Prelude.{Option, Some, None, get_or, length, map, reverse}
 use Rattle.kfifo_live.specs.declared.payload.opening.TheConstants.{MOST_TOKENS}
 use Rattle.std.specs.List.{AllByRecursion}
 use Rattle.atomic_table.specs.Table.{Me}
-use Rattle.atomic_table.specs.Perched.{Roost}
 use Rattle.atomic_table.specs.Seated.{TableId}
 use Rattle.kfifo_words.specs.declared.shape.Shape.{Shape}
 use Rattle.kfifo_words.specs.Words.{value_of}
@@ -30,7 +29,7 @@ use Rattle.kfifo_live.specs.Left.{items_left}
 use Rattle.kfifo_live.specs.Promise.{KeepsPromise}
 use Rattle.kfifo_live.specs.Schedule.{GiftsFit, HolderLaw, count_up, seen_of, gifts_of, hand_of, world_after}
 use Rattle.kfifo_live.specs.Schedule.{resting_view, AllBegin, AllGiven}
-use Rattle.kfifo_live.specs.Pass.{PassView, OpenQueue, IsPass, pass_view, queue_of, AllIdle, HaveAllThreads, OneSealedEmpty}
+use Rattle.kfifo_live.specs.Pass.{PassView, OpenQueue, IsPass, pass_view, AllIdle, HaveAllThreads, OneSealedEmpty}
 use Rattle.kfifo_live.specs.Calls.{MakesCall}
 
 -- the opening of a payload queue with so many tokens a pass
@@ -188,64 +187,6 @@ module _ {T : Type 0} where
   TakesOut start turns K.Empty old new = (new.tokens ≡ old.tokens) × DequeuesWith start turns A.Empty old new
   TakesOut start turns K.Busy old new = (new.tokens ≡ old.tokens) × DequeuesWith start turns A.Busy old new
   TakesOut start turns K.Worn old new = (new.tokens ≡ old.tokens) × DequeuesWith start turns A.Worn old new
-
-  -- these are words of a pool of this table, each of one token: the first of this one, the next of the next
-  abbrev pub IsPool : TableId → Opening → ℕ → List (Roost (View T)) → Type 0
-  IsPool table o token [] = Unit {0}
-  IsPool table o token (p ∷ ps) = ((p.table_id ≡ table) × (p.view ≡ resting_view o token))
-      × IsPool table o (suc token) ps
-
-  -- the words of so many tokens, the first of them this one
-  abbrev pub pool_for : TableId → Opening → ℕ → ℕ → List (Roost (View T))
-  pool_for table o token zero = []
-  pool_for table o token (suc count) =
-      record { table_id = table; view = resting_view o token } ∷ pool_for table o (suc token) count
-
-  -- What parting with a token did: the pass has one token less, the one that it would have used next. It has none where
-  -- it comes to nothing. It is no event, and nothing more was seen
-  abbrev pub PartsWith : Option TokenView → PayPassView T → PayPassView T → Type 0
-  PartsWith None old new = (old.tokens ≡ []) × (new ≡ old)
-  PartsWith (Some token) old new = (token.queue ≡ queue_of old.pass.table old.pass.opened)
-      × (old.tokens ≡ token.number ∷ new.tokens) × (new.pass ≡ old.pass) × (new.gifts ≡ old.gifts)
-
-  -- What taking a token in did: the pass has one token more, which it uses next. It is no event, and nothing more was
-  -- seen
-  abbrev pub TakesIn : ℕ → PayPassView T → PayPassView T → Type 0
-  TakesIn token old new = (new.tokens ≡ token ∷ old.tokens) × (new.pass ≡ old.pass) × (new.gifts ≡ old.gifts)
-
-  -- What `lay_down` did. True: the pass has one token less, the one that it would have used next. False: nothing
-  -- changed. Either is no event, and nothing more was seen
-  abbrev pub LaysDown : Bool → PayPassView T → PayPassView T → Type 0
-  LaysDown true old new = (token : ℕ) × (old.tokens ≡ token ∷ new.tokens) × (new.pass ≡ old.pass)
-      × (new.gifts ≡ old.gifts)
-  LaysDown false old new = new ≡ old
-
-  -- What `pick_up` did. True: the pass has one token more, which it uses next. False: nothing changed. Either is no
-  -- event, and nothing more was seen
-  abbrev pub PicksUp : Bool → PayPassView T → PayPassView T → Type 0
-  PicksUp true old new = (token : ℕ) × (0 < token) × (new.tokens ≡ token ∷ old.tokens) × (new.pass ≡ old.pass)
-      × (new.gifts ≡ old.gifts)
-  PicksUp false old new = new ≡ old
-
-  -- What picking up at most so many tokens did, and how many it found: the pass has them more, and uses them before its
-  -- others. It is no event, and nothing more was seen
-  pub record PicksUpAtMost (most found : ℕ) (old new : PayPassView T) : Type 0 where
-    pub tokens : List ℕ
-    pub found_are : found ≡ length tokens
-    pub few : found ≤ most
-    pub positive : All (λ token. 0 < token) tokens
-    pub more : new.tokens ≡ tokens ++ old.tokens
-    pub same_pass : new.pass ≡ old.pass
-    pub same_gifts : new.gifts ≡ old.gifts
-
-  -- What laying down at most so many tokens did: the pass has those fewer that it would have used next. It is no event,
-  -- and nothing more was seen
-  pub record LaysDownAtMost (most : ℕ) (old new : PayPassView T) : Type 0 where
-    pub tokens : List ℕ
-    pub few : length tokens ≤ most
-    pub fewer : old.tokens ≡ tokens ++ new.tokens
-    pub same_pass : new.pass ≡ old.pass
-    pub same_gifts : new.gifts ≡ old.gifts
 
   -- what the slot of a token holds
   abbrev pub in_slot : List (Option T) → ℕ → Option T

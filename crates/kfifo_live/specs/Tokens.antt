@@ -9,10 +9,10 @@ use Rattle.kfifo_live.specs.declared.payload.Taken.{Taken}
 use Rattle.kfifo_live.specs.declared.payload.Taken.TheVariants as K
 use Rattle.kfifo_live.specs.declared.payload.sealing.TakenOrSealed.{TakenOrSealed}
 use Rattle.kfifo_live.specs.declared.payload.sealing.TakenOrSealed.TheVariants as S
-use Rattle.kfifo_live.specs.declared.payload.handle.Published.{Published}
-use Rattle.kfifo_live.specs.declared.payload.handle.Published.TheVariants as G
-use Rattle.kfifo_live.specs.declared.payload.handle.Received.{Received}
-use Rattle.kfifo_live.specs.declared.payload.handle.Received.TheVariants as C
+use Rattle.kfifo_live.specs.declared.payload.token.Published.{Published}
+use Rattle.kfifo_live.specs.declared.payload.token.Published.TheVariants as G
+use Rattle.kfifo_live.specs.declared.payload.token.Received.{Received}
+use Rattle.kfifo_live.specs.declared.payload.token.Received.TheVariants as C
 use Rattle.kfifo_live.specs.declared.tokens.sealing.ReceivedOrSealed.{ReceivedOrSealed}
 use Rattle.kfifo_live.specs.declared.tokens.sealing.ReceivedOrSealed.TheVariants as R
 use Rattle.kfifo_live.specs.declared.tokens.Put.{Put}

@@ -4,24 +4,19 @@
 //! that names such a slot, token x the slot x - 1. Who has a token may put its slot's payload into the queue.
 ghost use Rattle.std.specs.Prelude.{◌≡◌, ◌<◌, ◌≤◌, ◌+◌, ◌-◌, ◌*◌, ◌^◌, ◌++◌, ℕ, List, [], ◌∷◌, length, reverse, Some};
 ghost use Rattle.std.specs.Prelude.{None, vec_capacity};
-ghost use Rattle.kfifo_words.specs.Ring.{clock_at};
 ghost use Rattle.kfifo_live.specs.Schedule.{hand_of, seen_of, gifts_of, with_seen};
 ghost use Rattle.kfifo_live.specs.Step.{DrawsToken, IsAt};
 ghost use Rattle.kfifo_live.specs.Pass.{OpenQueue, queue_of, IsPassOf, IsSamePass, PassKeepsPromise};
-ghost use Rattle.kfifo_live.specs.Payloads.{PayPassView, pay_pass_view, pay_opening, IsPool, IsPayPass, Gives};
-ghost use Rattle.kfifo_live.specs.Payloads.{TakesOut};
+ghost use Rattle.kfifo_live.specs.Payloads.{PayPassView, pay_pass_view, pay_opening, IsPayPass, Gives, TakesOut};
 
 pub(crate) mod closing;
 pub(crate) mod handle;
 pub(crate) mod meeting;
 pub(crate) mod opening;
-pub(crate) mod pool;
-pub(crate) mod pool_word;
 pub(crate) mod sealing;
 pub(crate) mod token;
 
 use crate::in_hand::{Refusal, dequeue_token, empty_slot, enqueue_token, fill_slot};
-use crate::payload::pool_word::PoolWord;
 use crate::ring::Ring;
 use crate::rule::QueueRule;
 use crate::seats::{draw_token, lay_back};
@@ -40,7 +35,6 @@ pub struct PayQueue<T: Drop> {
     pub(crate) shape: Shape,
     pub(crate) threads: u32,
     pub(crate) tokens: u32,
-    pub(crate) pool: Vec<PoolWord<T>>,
 }
 
 impl<T: Drop> Model for PayQueue<T> {
@@ -50,9 +44,7 @@ impl<T: Drop> Model for PayQueue<T> {
 
     ghost invariant = { λ q. (q.table.shared.key ≡ pay_opening q.shape q.threads q.tokens)
         × (q.table.shared.table_id.words ≡ 2 + q.shape.n * q.shape.k)
-        × (q.table.shared.table_id.slots ≡ q.threads * q.tokens)
-        × (IsPool q.table.shared.table_id (pay_opening q.shape q.threads q.tokens) 1 q.pool.items
-        × (length q.pool.items < 2 ^ 32)) };
+        × (q.table.shared.table_id.slots ≡ q.threads * q.tokens) };
 }
 
 /// What a thread gives and takes payloads with, and the tokens that it has. It may go to another thread between two
@@ -65,8 +57,6 @@ pub struct PayPass<T: Drop> {
     pub(crate) thread: u32,
     pub(crate) seat: ThreadSeat<T>,
     pub(crate) at_home: Vec<u32>,
-    /// The word of the pool at which the next look for a token begins.
-    pub(crate) look_from: usize,
 }
 
 impl<T: Drop> Model for PayPass<T> {
@@ -133,15 +123,6 @@ impl<T: Drop> PayQueue<T> {
             words: &self.table.shared,
             shape: &self.shape,
         }
-    }
-
-    /// The index of the clock. No thread of a queue of payloads writes it, so a load of it meets nobody.
-    #[inline(always)]
-    pub(crate) fn clock(&self) -> usize
-        ensures place { result ≡ clock_at self.now.opened.shape.k self.now.opened.shape.n }
-        ensures within { result < self.now.table.words }
-    {
-        self.shape.clock_index()
     }
 }
 

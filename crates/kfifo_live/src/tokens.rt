@@ -21,8 +21,7 @@ pub(crate) mod sizes;
 
 use crate::in_hand::{Refusal, dequeue_token, empty_slot, enqueue_token, fill_slot};
 use crate::payload::Taken;
-use crate::payload::handle::{Published, Received};
-use crate::payload::token::Token;
+use crate::payload::token::{Published, Received, Token};
 use crate::ring::Ring;
 use crate::rule::QueueRule;
 use crate::seats::{add_token, cut_token, draw_token, lay_back};

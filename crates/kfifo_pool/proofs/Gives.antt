@@ -1,7 +1,7 @@
 -- What a call of the handle did, from what the free tokens and the pass did.
 use Rattle.std.proofs.Common.{◌≡◌, List, Some, ap, subst, sym, ◌∙◌}
 use Rattle.kfifo_live.specs.declared.handle.TheConstants.{MAX_TURNS}
-use Rattle.kfifo_live.specs.declared.payload.handle.Published.{Published}
+use Rattle.kfifo_live.specs.declared.payload.token.Published.{Published}
 use Rattle.kfifo_live.specs.Handles.{further}
 use Rattle.kfifo_live.specs.Pass.{PassKeepsPromise}
 use Rattle.kfifo_live.specs.Payloads.{TokenView}

@@ -10,10 +10,8 @@ use kfifo_model::{Answer, MAX_ITEM};
 
 mod handles;
 mod payloads;
-mod pool;
 mod seals;
 pub(crate) mod stamps;
-mod steps;
 mod threads;
 
 fn enqueue(item: u32, start: u32, turns: u16) -> Begin {

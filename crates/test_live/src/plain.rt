@@ -208,13 +208,6 @@ pub fn give_by_handle<T: Drop>(
     handle.give(queue, payload)
 }
 
-pub fn take_by_handle<T: Drop>(queue: &PayQueue<T>, handle: &mut PayHandle<T>) -> Taken<T>
-    requires { IsPassOf queue.now handle.old.pass.pass }
-    ensures { IsSamePass handle.old.pass.pass handle.new.pass.pass }
-{
-    handle.take(queue)
-}
-
 pub fn take_or_seal_by_handle<T: Drop>(
     queue: &PayQueue<T>,
     handle: &mut PayHandle<T>,

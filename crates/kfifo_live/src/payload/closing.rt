@@ -78,7 +78,6 @@ impl<T: Drop> PayPass<T> {
             thread,
             seat,
             at_home: _,
-            look_from: _,
         } = self;
         EndedPass { thread, seat }
     }
@@ -180,7 +179,6 @@ impl<T: Drop> PayQueue<T> {
             shape,
             threads,
             tokens,
-            pool: _,
         } = self;
         let others = end_all(alloc, others)?;
         let slots = threads as usize * tokens as usize;

@@ -1,15 +1,13 @@
 //! Opening a queue of payloads.
-ghost use Rattle.std.specs.Prelude.{◌≡◌, ◌<◌, ◌≤◌, ◌+◌, ◌*◌, ◌⊎◌, [], length, IfOk, IsErrOf, reverse};
+ghost use Rattle.std.specs.Prelude.{◌≡◌, ◌<◌, ◌≤◌, ◌+◌, ◌*◌, [], IfOk, IsErrOf, reverse};
 ghost use Rattle.std.specs.Prelude.{vec_capacity, All, false};
 ghost use Rattle.kfifo_live.specs.Schedule.{IsSmall, count_up, fresh, view_of};
 ghost use Rattle.kfifo_live.specs.Pass.{IsZeroed, queue_of, IsPassOf};
-ghost use Rattle.kfifo_live.specs.Payloads.{IsPool, new_pay_passes, pay_opening};
+ghost use Rattle.kfifo_live.specs.Payloads.{new_pay_passes, pay_opening};
 ghost use Rattle.kfifo_live.specs.Refusals.{RefusesThreads, RefusesTokens};
 ghost use Rattle.kfifo_live.specs.declared.fault.OpenFault.TheVariants.{CallsOutOfRange};
 
 use crate::fault::OpenFault;
-use crate::payload::pool::extend_pool;
-use crate::payload::pool_word::PoolWord;
 use crate::payload::{PayPass, PayQueue};
 use crate::seats::give_rest;
 use crate::view::{Opening, ThreadSeat, Words};
@@ -17,7 +15,6 @@ use atomic_table::Table;
 use kfifo_machine::MAX_THREADS;
 use kfifo_words::Shape;
 use std::alloc::{AllocError, Global};
-use std::marker::Brand;
 
 /// The greatest number of tokens of a pass.
 pub const MAX_TOKENS: u32 = 1_024;
@@ -39,58 +36,47 @@ fn own_tokens(alloc: Global, thread: u32, tokens: u32, room: usize) -> Result<Ve
     Ok(at_home)
 }
 
-/// A pass for each thread, which has seen nothing and has its tokens, and a pool with words for `pooled` tokens of
-/// each pass: for all of them or for none.
+/// A pass for each thread, which has seen nothing and has its tokens.
 fn deal_tokens<T: Drop>(
     alloc: Global,
     shared: &Words<T>,
     mut seat: ThreadSeat<T>,
     threads: u32,
     tokens: u32,
-    pooled: u32,
-) -> Result<(Vec<PayPass<T>>, Vec<PoolWord<T>>), AllocError>
+) -> Result<Vec<PayPass<T>>, AllocError>
     requires table { (seat.table_id ≡ shared.now.table_id) × (0 < shared.now.table_id.words) }
     requires few { IsSmall seat.me.0.opened × (0 < tokens) × (tokens ≤ MAX_TOKENS) }
-    requires pooled { (pooled ≡ 0) ⊎ (pooled ≡ tokens) }
     requires seat { (seat.me.1 ≡ []) × (seat.me.0
         ≡ view_of seat.me.0.opened (fresh seat.me.0.opened.tokens 0 threads)) }
     requires opened { (seat.me.0.opened.threads ≡ threads) × (seat.me.0.opened.tokens ≡ tokens) }
     requires bare { seat.me.0.opened.bare ≡ false }
-    ensures passes { IfOk result (λ r. r.0.items ≡ new_pay_passes (queue_of seat.table_id seat.me.0.opened) 0 threads) }
-    ensures pool { IfOk result (λ r. IsPool seat.table_id seat.me.0.opened 1 r.1.items
-        × (length r.1.items ≡ threads * pooled)) }
+    ensures { IfOk result (λ r. r.items ≡ new_pay_passes (queue_of seat.table_id seat.me.0.opened) 0 threads) }
 {
     let mut passes = Vec::with_capacity(alloc, threads as usize)?;
-    let mut pool = Vec::with_capacity(alloc, threads as usize * pooled as usize)?;
     let room = threads as usize * tokens as usize;
     for thread in 0..threads {
         let at_home = own_tokens(alloc, thread, tokens, room)?;
         let rest = give_rest(shared, &mut seat);
-        let before = thread * tokens;
-        extend_pool::<_, Brand>(shared, &mut seat, &mut pool, before + 1, pooled)?;
         passes.push(PayPass {
             thread,
             seat,
             at_home,
-            look_from: before as usize,
         })?;
         seat = rest;
     }
-    Ok((passes, pool))
+    Ok(passes)
 }
 
 impl<T: Drop> PayQueue<T> {
-    /// A queue for so many threads, and its passes with so many tokens each. `pooled` tokens have a word in its pool.
+    /// A queue for so many threads, and its passes with so many tokens each.
     fn open_for(
         alloc: Global,
         shape: Shape,
         threads: u32,
         tokens: u32,
-        pooled: u32,
     ) -> Result<(PayQueue<T>, Vec<PayPass<T>>), AllocError>
         requires threads { (0 < threads) × (threads ≤ MAX_THREADS) }
         requires tokens { (0 < tokens) × (tokens ≤ MAX_TOKENS) }
-        requires pooled { (pooled ≡ 0) ⊎ (pooled ≡ tokens) }
         ensures { IfOk result (λ r. (r.0.opened ≡ pay_opening shape threads tokens)
             × (r.1.items ≡ new_pay_passes r.0 0 threads)) }
     {
@@ -104,42 +90,14 @@ impl<T: Drop> PayQueue<T> {
         };
         let slots = threads as usize * tokens as usize;
         let (table, seat) = Table::vacant(alloc, words.as_slice(), slots, &about)?;
-        let (passes, pool) = deal_tokens(alloc, &table.shared, seat, threads, tokens, pooled)?;
+        let passes = deal_tokens(alloc, &table.shared, seat, threads, tokens)?;
         let queue = PayQueue {
             table,
             shape,
             threads,
             tokens,
-            pool,
         };
         Ok((queue, passes))
-    }
-
-    /// The same, with sizes that are tested.
-    fn open_tested(
-        alloc: Global,
-        shape: Shape,
-        threads: u32,
-        tokens: u32,
-        pooled: u32,
-    ) -> Result<(PayQueue<T>, Vec<PayPass<T>>), OpenFault>
-        requires pooled { (pooled ≡ 0) ⊎ (pooled ≡ tokens) }
-        ensures ok { IfOk result (λ r. (r.0.opened ≡ pay_opening shape threads tokens)
-            × (r.1.items ≡ new_pay_passes r.0 0 threads)) }
-        ensures of { IfOk result (λ r. All (λ p. IsPassOf r.0 p.pass) r.1.items) }
-        ensures threads { RefusesThreads threads result }
-        ensures tokens { RefusesTokens threads tokens result }
-        ensures calls { ¬ IsErrOf result CallsOutOfRange }
-        ensures zeroed { IfOk result (λ r. IsZeroed r.0.opened) }
-    {
-        if threads == 0 || threads > MAX_THREADS {
-            return Err(OpenFault::ThreadsOutOfRange);
-        }
-        if tokens == 0 || tokens > MAX_TOKENS {
-            return Err(OpenFault::TokensOutOfRange);
-        }
-        let opened = PayQueue::open_for(alloc, shape, threads, tokens, pooled)?;
-        Ok(opened)
     }
 
     /// Opens a queue, with one pass for each thread, numbered from 0, and so many tokens each: pass p has those from
@@ -165,25 +123,13 @@ impl<T: Drop> PayQueue<T> {
         ensures calls { ¬ IsErrOf result CallsOutOfRange }
         ensures zeroed { IfOk result (λ r. IsZeroed r.0.opened) }
     {
-        PayQueue::open_tested(alloc, shape, threads, tokens, 0)
-    }
-
-    /// As `open`, with a pool: beside its table a word for each token, in which `PayPass::lay_down` lets it rest
-    /// until a `PayPass::pick_up` takes it. No token rests yet.
-    pub fn open_with_pool(
-        alloc: Global,
-        shape: Shape,
-        threads: u32,
-        tokens: u32,
-    ) -> Result<(PayQueue<T>, Vec<PayPass<T>>), OpenFault>
-        ensures ok { IfOk result (λ r. (r.0.opened ≡ pay_opening shape threads tokens)
-            × (r.1.items ≡ new_pay_passes r.0 0 threads)) }
-        ensures of { IfOk result (λ r. All (λ p. IsPassOf r.0 p.pass) r.1.items) }
-        ensures threads { RefusesThreads threads result }
-        ensures tokens { RefusesTokens threads tokens result }
-        ensures calls { ¬ IsErrOf result CallsOutOfRange }
-        ensures zeroed { IfOk result (λ r. IsZeroed r.0.opened) }
-    {
-        PayQueue::open_tested(alloc, shape, threads, tokens, tokens)
+        if threads == 0 || threads > MAX_THREADS {
+            return Err(OpenFault::ThreadsOutOfRange);
+        }
+        if tokens == 0 || tokens > MAX_TOKENS {
+            return Err(OpenFault::TokensOutOfRange);
+        }
+        let opened = PayQueue::open_for(alloc, shape, threads, tokens)?;
+        Ok(opened)
     }
 }

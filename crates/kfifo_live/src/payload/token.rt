@@ -1,13 +1,12 @@
-//! Tokens that are with no pass.
+//! Tokens that are with no pass, and what calls with them return.
 ghost use Rattle.std.specs.Prelude.{◌≡◌, ◌<◌, ◌≤◌, ◌*◌, ◌^◌, []};
 ghost use Rattle.kfifo_live.specs.Schedule.{resting_view};
-ghost use Rattle.kfifo_live.specs.Pass.{IsPassOf, queue_of};
-ghost use Rattle.kfifo_live.specs.Payloads.{IsAlone, PartsWith, TakesIn, TokenView};
+ghost use Rattle.kfifo_live.specs.Pass.{queue_of};
+ghost use Rattle.kfifo_live.specs.Payloads.{IsAlone, TokenView};
 
-use crate::payload::{PayPass, PayQueue};
-use crate::seats::{add_token, count_tokens, cut_token};
+use crate::seats::count_tokens;
 use crate::view::{ThreadSeat, Words};
-use std::marker::{Brand, Model};
+use std::marker::Model;
 
 /// A token that is with no pass. Its slot is empty, and nobody else has the token: so what it numbers, a cell of a
 /// caller's array say, belongs to whoever has it. A token that is dropped is lost to the queue.
@@ -68,47 +67,28 @@ impl<T> Token<T> {
     }
 }
 
-impl<T: Drop> PayPass<T> {
-    /// Parts with the token that the pass would use next.
-    ///
-    /// Returns None where the pass has no token; then nothing changes. It is no event, and the pass has seen no more
-    /// than before. It never allocates, waits or locks.
-    #[inline(always)]
-    pub fn part_with(&mut self, queue: &PayQueue<T>) -> Option<Token<T>>
-        requires of { IsPassOf queue.now self.old.pass }
-        ensures parts { PartsWith result self.old self.new }
-    {
-        let number = self.at_home.pop()?;
-        let shared = &queue.table.shared;
-        let alone = cut_token(shared, &mut self.seat);
-        Some(Token::new(shared, alone, number, queue.clock()))
-    }
+/// What a give with a token returns. Each refusal hands the payload and the token back.
+#[derive(Drop)]
+pub enum Published<T> {
+    /// The queue has the payload, and the token.
+    Done,
+    /// The ring was seen full.
+    Full(T, Token<T>),
+    /// Each round was lost.
+    Busy(T, Token<T>),
+    /// A version would pass the greatest one.
+    Worn(T, Token<T>),
+}
 
-    /// Takes in a token of the queue. The pass uses it next. It is no event, and the pass has seen no more than before.
-    /// It never allocates, waits or locks.
-    #[inline(always)]
-    pub fn take_in(&mut self, queue: &PayQueue<T>, token: Token<T>)
-        requires of { IsPassOf queue.now self.old.pass }
-        requires token { token.queue ≡ queue.now }
-        ensures takes { TakesIn token.number self.old self.new }
-    {
-        let number = token.number();
-        self.take_seat(queue, token.into_seat(), number);
-    }
-
-    /// Takes in a token, by the seat that has it alone. The pass uses it next. It is no event, and the pass has seen no
-    /// more than before.
-    #[inline(always)]
-    pub(crate) fn take_seat(&mut self, queue: &PayQueue<T>, resting: ThreadSeat<T>, token: u32)
-        requires of { IsPassOf queue.now self.old.pass }
-        requires resting { (resting.table_id ≡ queue.now.table)
-            × (resting.me ≡ (resting_view queue.now.opened token, [])) }
-        ensures takes { TakesIn token self.old self.new }
-    {
-        let shared = &queue.table.shared;
-        add_token::<_, Brand>(shared, &mut self.seat, resting, token);
-        // This load tells the proof that the list of tokens has room for one more.
-        count_tokens(shared, &mut self.seat, queue.clock());
-        self.at_home.push_reserved(token);
-    }
+/// What a take with its token returns.
+#[derive(Drop)]
+pub enum Received<T> {
+    /// One of the k oldest payloads, and the token that it was given with.
+    Got(T, Token<T>),
+    /// The queue was empty.
+    Empty,
+    /// Each round was lost.
+    Busy,
+    /// A version would pass the greatest one.
+    Worn,
 }

@@ -10,9 +10,8 @@ ghost use Rattle.kfifo_live.specs.Tokens.{TokenHeld};
 
 use crate::handle::MAX_TURNS;
 use crate::payload::Taken;
-use crate::payload::handle::{Published, Received};
 use crate::payload::sealing::TakenOrSealed;
-use crate::payload::token::Token;
+use crate::payload::token::{Published, Received, Token};
 use crate::round_robin::RoundRobin;
 use crate::tokens::sealing::ReceivedOrSealed;
 use crate::tokens::{Put, TokenPass, TokenQueue};

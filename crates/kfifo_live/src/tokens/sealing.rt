@@ -6,9 +6,8 @@ ghost use Rattle.kfifo_live.specs.Seals.{FailsToSeal, KeepsTokens, SealsFrom, Wa
 ghost use Rattle.kfifo_live.specs.Tokens.{ReceivesOrSeals, TakesTokenOrSeals};
 
 use crate::payload::Taken;
-use crate::payload::handle::Received;
 use crate::payload::sealing::TakenOrSealed;
-use crate::payload::token::Token;
+use crate::payload::token::{Received, Token};
 use crate::sealing::seal_ends;
 use crate::seats::observe;
 use crate::tokens::{TokenPass, TokenQueue};

@@ -1,12 +1,10 @@
-use Rattle.std.proofs.Common.{◌≡◌, ◌<◌, ◌≤◌, ◌+◌, ◌*◌, ◌++◌, [], ◌∷◌, ap, refl, subst, sym, ◌∙◌, arith, mul-le-mul_right, vec_capacity}
-use Rattle.std.proofs.Common.{length}
+use Rattle.std.proofs.Common.{◌≡◌, ◌<◌, ◌≤◌, ◌+◌, ◌*◌, ◌++◌, [], ◌∷◌, ap, refl, subst, sym, ◌∙◌, arith}
 use Rattle.kfifo_live.proofs.Types.{Opening, View}
-use Rattle.kfifo_live.specs.Schedule.{GiftsFit, seen_of, gifts_of, hand_of, more_in, count_up, first_part, other_parts}
+use Rattle.kfifo_live.specs.Schedule.{GiftsFit, seen_of, gifts_of, hand_of, count_up, first_part, other_parts}
 use Rattle.kfifo_live.specs.Pass.{queue_of}
-use Rattle.kfifo_live.specs.Payloads.{IsPool, IsPayPass, pay_pass_view, pool_for}
+use Rattle.kfifo_live.specs.Payloads.{pay_pass_view}
 use Rattle.kfifo_live.proofs.NewPasses.{new_pass, cut_first}
 use Rattle.kfifo_live.proofs.Pays.{few_in_all, new_pay_passes-snoc}
-use Rattle.kfifo_live.proofs.Pools.{pool_is, pool_goes_on, pooled_few, pooled_home, length-pool_for}
 use Rattle.kfifo_live.proofs.payload.opening.deal_tokens.Goals as goal
 
 pub give_rest-rest-requires-clause-some : goal.give_rest-rest-requires-clause-some
@@ -15,35 +13,6 @@ give_rest-rest-requires-clause-some g c =
     let cut = cut_first _ _ _ v (first_part v) (other_parts v) c.loop-thread-test.true c.loop-thread.invariant.view refl refl in
     let some = cut.2 in
     omega (arith, some)
-
-pub extend_pool-requires : goal.extend_pool-requires
-extend_pool-requires g c =
-    let i = c.loop-thread.invariant in
-    let r = c.give_rest-rest.ensures in
-    let o = c.args.seat.me.0.opened in
-    let cut = cut_first _ _ _ _ _ _ c.loop-thread-test.true i.view r.kept r.given.1 in
-    let less = c.loop-thread-test.true in
-    let below : c.loop-thread.thread < o.threads = omega (arith, c.requires.opened.0, less) in
-    let pass = new_pass _ _ _ below c.requires.few.0 cut.0 (r.same.1 ∙ i.held) in
-    let opened : c.give_rest-rest.new.seat.me.0.opened ≡ o = ap (λ (v : View g.row.T.Denot). v.opened) cut.0 in
-    let tokens : c.give_rest-rest.new.seat.me.0.opened.tokens ≡ c.args.tokens =
-    ap (λ (x : Opening). x.tokens) opened ∙ c.requires.opened.1 in
-    let home = pooled_home (c.loop-thread.thread * c.args.tokens + 1) c.args.tokens c.args.pooled c.requires.pooled in
-    let less_few = pooled_few c.args.pooled c.args.tokens c.requires.pooled in
-    let up = mul-le-mul_right c.args.tokens (let le : c.loop-thread.thread
-    ≤ 64 = (let small = c.requires.few.0.0 in let e = c.requires.opened.0 in omega (arith, small, e, less)) in le) in
-    let few = c.requires.few.2 in
-    record {
-      table = (r.same.0 ∙ i.table ∙ c.requires.table.0, c.requires.table.1);
-      idle = (pass.idle, subst (λ n. 0 < n) (sym tokens) c.requires.few.1, ap more_in pass.alone);
-      home = (
-        home.0,
-        ap (λ (v : View g.row.T.Denot). (hand_of v).at_home) cut.0
-            ∙ ap (λ n. count_up (c.loop-thread.thread * n + 1) n) c.requires.opened.1 ∙ home.1,
-      );
-      small = omega (arith, up, few, less_few);
-      picked = refl;
-    }
 
 pub invariant_of-push : goal.invariant_of-push
 invariant_of-push g c =
@@ -61,8 +30,7 @@ invariant_of-push g c =
     ap (λ (x : Opening). x.tokens) opened ∙ c.requires.opened.1 in
     let room = mine.1 in
     let few_threads : c.args.threads ≤ 64 = subst (λ n. n ≤ 64) c.requires.opened.0 c.requires.few.0.0 in
-    let before : IsPayPass c.loop-thread.thread c.give_rest-rest.new.seat.me c.in_ok-at_home.at_home.items
-    (vec_capacity c.in_ok-at_home.at_home) = record {
+    record {
       pass = new_pass _ _ _ below c.requires.few.0 cut.0 (r.same.1 ∙ i.held);
       stacked = ap (λ (v : View g.row.T.Denot). (hand_of v).at_home) cut.0
           ∙ ap (λ n. count_up (c.loop-thread.thread * n + 1) n) c.requires.opened.1 ∙ sym mine.0;
@@ -72,46 +40,24 @@ invariant_of-push g c =
       with_payloads = ap (λ (x : Opening). x.bare) opened ∙ c.requires.bare;
       in_turn = subst (λ (v : View g.row.T.Denot). GiftsFit v.opened (seen_of v) (gifts_of v)) (sym cut.0)
           record { in_turn = refl; holder_law = λ some. tt };
-    } in
-    subst (λ me. IsPayPass c.loop-thread.thread me c.in_ok-at_home.at_home.items (vec_capacity c.in_ok-at_home.at_home))
-    (sym c.in_ok-extend_pool.ensures.same.1) before
+    }
 
 pub loop-thread-preserved : goal.loop-thread-preserved
 loop-thread-preserved g c =
     let i = c.loop-thread.invariant in
     let r = c.give_rest-rest.ensures in
-    let a = c.in_ok-extend_pool.ensures in
     let cut = cut_first _ _ _ _ _ _ c.loop-thread-test.true i.view r.kept r.given.1 in
     let n : c.loop-thread.thread ≡ 0 + c.loop-thread.thread = omega arith in
     let z = c.args.seat.table_id in
     let o = c.args.seat.me.0.opened in
     let table = r.same.0 ∙ i.table in
-    let opened = ap (λ (v : View g.row.T.Denot). v.opened) cut.0 in
     record {
       table = r.given.0 ∙ i.table;
       held = r.given.2;
       view = cut.1;
       made =
           c.in_ok-push.ensures.items
-          ∙ (λ k. i.made k ++ pay_pass_view ((a.same.0 ∙ table) k) c.loop-thread.thread ((ap (λ x. x.0) a.same.1 ∙ cut.0) k) ∷ [])
+          ∙ (λ k. i.made k ++ pay_pass_view (table k) c.loop-thread.thread (cut.0 k) ∷ [])
           ∙ sym (new_pay_passes-snoc (queue_of z o) 0 c.loop-thread.thread c.loop-thread.thread n);
       within = (let less = c.loop-thread-test.true in omega arith);
-      pool =
-          a.pool
-          ∙ (λ k. i.pool k ++ pool_for {T = g.row.T.Denot} (table k) (opened k) (c.loop-thread.thread * c.args.tokens + 1) c.args.pooled)
-          ∙ pool_goes_on g.row.T.Denot z o c.loop-thread.thread c.args.tokens c.args.pooled c.requires.pooled;
     }
-
-pub returns-clause-pool : goal.returns-clause-pool
-returns-clause-pool g c =
-    let i = c.loop-thread.invariant in
-    let within = i.within in
-    let past = c.loop-thread-test.false in
-    let z = c.args.seat.table_id in
-    let o = c.args.seat.me.0.opened in
-    let all : c.loop-thread.thread ≡ c.args.threads = omega arith in
-    let words : c.loop-thread.pool.items ≡ pool_for {T = g.row.T.Denot} z o 1 (c.args.threads * c.args.pooled) =
-    i.pool ∙ ap (λ n. pool_for z o 1 (n * c.args.pooled)) all in (
-      subst (IsPool z o 1) (sym words) (pool_is g.row.T.Denot z o 1 (c.args.threads * c.args.pooled)),
-      ap length words ∙ length-pool_for g.row.T.Denot z o 1 (c.args.threads * c.args.pooled),
-    )

@@ -1,11 +1,8 @@
-use Rattle.std.proofs.Common.{◌≡◌, ◌-◌, ◌*◌, ◌≤◌, []}
+use Rattle.std.proofs.Common.{◌≡◌, ◌-◌, ◌≤◌, []}
 use Rattle.kfifo_live.specs.Schedule.{fresh, view_of}
 use Rattle.kfifo_live.specs.Pass.{queue_of}
-use Rattle.kfifo_live.specs.Payloads.{new_pay_passes, pool_for}
+use Rattle.kfifo_live.specs.Payloads.{new_pay_passes}
 use Rattle.kfifo_live.proofs.payload.opening.deal_tokens.Given as goal
-
-abbrev pub ghosts-extend_pool : goal.ghosts-extend_pool
-ghosts-extend_pool g a = record { opened = a.seat.now.me.0.opened }
 
 abbrev pub invariant-loop-thread : goal.invariant-loop-thread
 invariant-loop-thread g l = record {
@@ -14,5 +11,4 @@ invariant-loop-thread g l = record {
   view : l.seat.me.0 ≡ view_of l.fn.seat.me.0.opened (fresh l.fn.seat.me.0.opened.tokens l.thread (l.threads - l.thread));
   made : l.passes.items ≡ new_pay_passes (queue_of l.fn.seat.table_id l.fn.seat.me.0.opened) 0 l.thread;
   within : l.thread ≤ l.threads;
-  pool : l.pool.items ≡ pool_for l.fn.seat.table_id l.fn.seat.me.0.opened 1 (l.thread * l.pooled);
 }

@@ -3,7 +3,7 @@ use Rattle.std.proofs.Common.{◌≡◌, ◌-◌, Err, None, Some, ap, sym, subs
 use Rattle.kfifo_live.proofs.Types.{Opening, View}
 use Rattle.kfifo_live.specs.declared.in_hand.Refusal.{Refusal}
 use Rattle.kfifo_live.specs.declared.in_hand.Refusal.TheVariants as R
-use Rattle.kfifo_live.specs.declared.payload.handle.Published.{Published}
+use Rattle.kfifo_live.specs.declared.payload.token.Published.{Published}
 use Rattle.kfifo_live.specs.Hands.{IsGift}
 use Rattle.kfifo_live.specs.InHand.{put_by}
 use Rattle.kfifo_live.specs.Schedule.{gifts_of, seen_of}

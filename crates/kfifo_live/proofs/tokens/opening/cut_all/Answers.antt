@@ -5,7 +5,7 @@ use Rattle.kfifo_live.proofs.Types.{Opening}
 use Rattle.kfifo_live.specs.Schedule.{count_up, hand_of, next_of, resting_view, with_home}
 use Rattle.kfifo_live.specs.Pass.{queue_of}
 use Rattle.kfifo_live.specs.Tokens.{tokens_from}
-use Rattle.kfifo_live.proofs.Pools.{count_first}
+use Rattle.kfifo_live.proofs.Minting.{count_first}
 use Rattle.kfifo_live.proofs.Minting.{cut_on, idle_home, seated_home, tokens_from-snoc}
 use Rattle.kfifo_live.proofs.tokens.opening.cut_all.Goals as goal
 

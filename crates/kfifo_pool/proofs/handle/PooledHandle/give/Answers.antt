@@ -1,7 +1,7 @@
 -- The token was reserved first. One that comes back is free again.
 use Rattle.std.proofs.Common.{ap, refl, subst, sym, ◌∙◌}
 use Rattle.kfifo_live.specs.declared.payload.Given.{Given}
-use Rattle.kfifo_live.specs.declared.payload.handle.Published.TheVariants as P
+use Rattle.kfifo_live.specs.declared.payload.token.Published.TheVariants as P
 use Rattle.kfifo_live.specs.Calls.{IsDisturbed}
 use Rattle.kfifo_live.specs.Payloads.{TokenView}
 use Rattle.kfifo_live.specs.Tokens.{TokenHeld}

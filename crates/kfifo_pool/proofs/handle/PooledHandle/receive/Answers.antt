@@ -1,7 +1,7 @@
 -- The token that came with the payload is free again.
 use Rattle.std.proofs.Common.{refl, subst, sym}
 use Rattle.kfifo_live.specs.declared.handle.TheConstants.{MAX_TURNS}
-use Rattle.kfifo_live.specs.declared.payload.handle.Received.TheVariants as C
+use Rattle.kfifo_live.specs.declared.payload.token.Received.TheVariants as C
 use Rattle.kfifo_live.specs.Calls.{IsDisturbed}
 use Rattle.kfifo_live.specs.Tokens.{ReceivesWith, TokenHeld}
 use Rattle.kfifo_pool.specs.Pooled.{KeepsOne, Pooled, pass_of}

@@ -1,31 +1,22 @@
--- The pass takes, and then lays down what it has too many.
-use Rattle.std.proofs.Common.{refl, sym, ap, ◌∙◌, subst}
+-- The call is that of the pass, with the start and the rounds of the handle.
+use Rattle.std.proofs.Common.{ℕ, refl, subst}
+use Rattle.kfifo_live.specs.declared.handle.TheConstants.{MAX_TURNS}
 use Rattle.kfifo_live.specs.declared.payload.Taken.{Taken}
 use Rattle.kfifo_live.specs.Calls.{IsDisturbed}
-use Rattle.kfifo_live.specs.Pass.{PassView}
 use Rattle.kfifo_live.specs.Payloads.{TakesOut}
 use Rattle.kfifo_live.specs.Handles.{PayHeld}
-use Rattle.kfifo_live.specs.declared.handle.TheConstants.{MAX_TURNS}
-use Rattle.kfifo_live.proofs.Handled.{took, turns_enough}
+use Rattle.kfifo_live.proofs.Handled.{turns_enough}
 use Rattle.kfifo_live.proofs.payload.handle.PayHandle.take.Goals as goal
 
 pub returns-clause-takes : goal.returns-clause-takes
 returns-clause-takes g c =
-    let here = c.self.view_is in
-    record {
-      taken = _;
-      takes = took c.next-start.result MAX_TURNS c.take-taken.result c.take-taken.result c.args.self.now c.self.inside.pass
-          c.take-taken.new.self
-          (c.next-start.ensures.start ∙ ap (λ (h : PayHeld g.row.T.Denot). h.take_start) here) refl
-          (ap (λ (h : PayHeld g.row.T.Denot). h.pass) here) c.take-taken.ensures.takes;
-      surpluses = ap (λ (h : PayHeld g.row.T.Denot). h.surpluses) here;
-      lays = c.lay_surplus.ensures.lays;
-    }
+    subst (λ (h : PayHeld g.row.T.Denot). TakesOut h.take_start MAX_TURNS c.take.result h.pass c.take.new.self) c.self.view_is
+    (subst (λ (start : ℕ). TakesOut start MAX_TURNS c.take.result c.self.inside.pass c.take.new.self)
+    c.next-start.ensures.start c.take.ensures.takes)
 
 pub returns-clause-busy : goal.returns-clause-busy
 returns-clause-busy g c is =
-    let takes = subst (λ (x : Taken g.row.T.Denot). TakesOut c.next-start.result MAX_TURNS x c.self.inside.pass c.take-taken.new.self) is
-    c.take-taken.ensures.takes in
-    subst (λ (x : PassView × PassView). IsDisturbed x.0 x.1)
-    (λ i. (ap (λ (h : PayHeld g.row.T.Denot). h.pass.pass) c.self.view_is i, sym c.lay_surplus.ensures.same i))
+    let takes = subst (λ (x : Taken g.row.T.Denot). TakesOut c.next-start.result MAX_TURNS x c.self.inside.pass c.take.new.self) is
+    c.take.ensures.takes in
+    subst (λ (h : PayHeld g.row.T.Denot). IsDisturbed h.pass.pass c.take.new.self.pass) c.self.view_is
     (takes.1.call.disturbed refl (turns_enough c.self.inside.pass.pass.opened.shape))

@@ -1,7 +1,7 @@
 -- The call is that of the pass, with the start and the rounds of the handle.
 use Rattle.std.proofs.Common.{ℕ, refl, subst}
 use Rattle.kfifo_live.specs.declared.handle.TheConstants.{MAX_TURNS}
-use Rattle.kfifo_live.specs.declared.payload.handle.Received.{Received}
+use Rattle.kfifo_live.specs.declared.payload.token.Received.{Received}
 use Rattle.kfifo_live.specs.Calls.{IsDisturbed}
 use Rattle.kfifo_live.specs.Tokens.{ReceivesWith, TokenHeld}
 use Rattle.kfifo_live.proofs.Handled.{turns_enough}
