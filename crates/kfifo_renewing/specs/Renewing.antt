@@ -24,6 +24,7 @@ use Rattle.kfifo_live.specs.Tokens.{token_opening}
 use Rattle.kfifo_live.specs.declared.payload.opening.TheConstants.{MOST_TOKENS}
 use Rattle.kfifo_live.specs.declared.tokens.sizes.Sizes.{Sizes}
 use Rattle.kfifo_live.specs.declared.tokens.sizes.SizesFault.{SizesFault}
+use Rattle.kfifo_live.specs.declared.tokens.sizes.TheConstants.{SPARE_TOKENS}
 use Rattle.kfifo_live.specs.declared.view.Opening.{Opening}
 use Rattle.kfifo_pool.specs.Pooled.{GivesOne, Pooled, ReceivesOne, ReceivesOneOrSeals, new_handle, no_cells}
 use Rattle.kfifo_renewing.specs.History.{HasLeft, IsGone, IsMade, NewestWas, WasNewest, newest_of, place_count}
@@ -71,6 +72,10 @@ opening_again s = opening_with false (sizes_again s)
 -- how many slots each generation of a queue with this opening has
 abbrev pub slots_of : Opening → ℕ
 slots_of o = o.shape.n * o.shape.k
+
+-- for how many values such a queue has room, whatever its threads keep of their spare tokens
+abbrev pub room_of : Opening → ℕ
+room_of o = o.threads * (o.tokens - SPARE_TOKENS)
 
 -- How many generations a queue for so many threads may have at the same time because it grows, at most: it has places
 -- for so many, and for those that its threads may keep

@@ -1,16 +1,15 @@
-//! The handle of a queue that does not wear out: how it follows others, and how it takes.
-ghost use Rattle.std.specs.Prelude.{◌≡◌, ◌<◌, ◌≤◌, ◌+◌, ◌*◌, ◌↔◌, true, List, [], All, IfOk, IfSome, MatchBool};
+//! The handle of a queue that does not wear out, and how it follows others.
+ghost use Rattle.std.specs.Prelude.{◌≡◌, ◌<◌, ◌+◌, ◌*◌, ◌↔◌, true, [], All, IfOk, IfSome, MatchBool};
 ghost use Rattle.std.specs.Prelude.{MatchOption, length};
 ghost use Rattle.std.specs.Ptr.{as_ptr};
 ghost use mathlib.Core.List.{IsPrefix};
 ghost use Rattle.kfifo_live.specs.Pass.{IsPassOf};
 ghost use Rattle.kfifo_renewing.specs.History.{HasRisen, WasNewest, place_count};
 ghost use Rattle.kfifo_renewing.specs.Joining.{AreAmong, HasJoined, IsPart, IsUnused, held_by};
-ghost use Rattle.kfifo_renewing.specs.Renewing.{Counts, Follows, Generations, HasAll, HeldIn};
+ghost use Rattle.kfifo_renewing.specs.Renewing.{Counts, Follows, Generations, HasAll};
 ghost use Rattle.kfifo_renewing.specs.Renewing.{IsAtNewest, IsBehind, IsFresh, IsLater, IsOpenedAs, IsUntouched};
-ghost use Rattle.kfifo_renewing.specs.Renewing.{LeavesGone, LooksAgain};
-ghost use Rattle.kfifo_renewing.specs.Renewing.{TakesBy, TakesFirst, TakesNewest, TakesOldest};
-ghost use Rattle.kfifo_renewing.specs.Renewing.{all_of, opening_in, slots_of, with_older};
+ghost use Rattle.kfifo_renewing.specs.Renewing.{LeavesGone};
+ghost use Rattle.kfifo_renewing.specs.Renewing.{all_of, opening_in, with_older};
 ghost use Rattle.kfifo_renewing.specs.Renewing.{with_seen};
 
 use crate::generation::Generation;
@@ -21,7 +20,6 @@ use crate::label::PLACES;
 use crate::leaving::Leaving;
 use crate::older::Older;
 use crate::queue::Shared;
-use kfifo_live::Taken;
 use std::alloc::{AllocError, Global};
 use std::marker::{Model, PhantomData};
 use std::mem::replace;
@@ -145,7 +143,7 @@ impl<T: Drop, K: Kind<T>> RenewingHandle<T, K> {
 
     /// Whether another generation than the one that the handle joined last is the newest of the queue.
     #[inline(always)]
-    fn is_behind(&mut self) -> bool
+    pub(crate) fn is_behind(&mut self) -> bool
         ensures same { self.new ≡ with_seen self.old self.new.seen }
         ensures later { IsLater self.old self.new }
         ensures newest { MatchBool result (IsBehind self.old self.new) (IsAtNewest self.old self.new) }
@@ -325,7 +323,7 @@ impl<T: Drop, K: Kind<T>> RenewingHandle<T, K> {
     }
 
     /// Leaves those of the older generations that have gone: they are sealed empty.
-    fn leave_gone(&mut self)
+    pub(crate) fn leave_gone(&mut self)
         ensures same { self.new ≡ with_older (with_seen self.old self.new.seen) self.new.older }
         ensures later { IsLater self.old self.new }
         ensures older { LeavesGone self.new.seen self.old.older self.new.older }
@@ -469,109 +467,6 @@ impl<T: Drop, K: Kind<T>> RenewingHandle<T, K> {
         }
     }
 
-    /// Takes from the first of the older generations that is not found empty. Returns None where each was. The handle
-    /// leaves those that are over.
-    fn take_older(&mut self) -> Option<Taken<K::Got>>
-        ensures same { self.new ≡ with_older (with_seen self.old self.new.seen) self.new.older }
-        ensures later { IsLater self.old self.new }
-        ensures takes { (looked : List (HeldIn T)) × TakesFirst K.takes K.seals result self.old.older looked
-            × LeavesGone self.new.seen looked self.new.older }
-    {
-        let mut found_empty = false;
-        let taken = self.take_first(&mut found_empty);
-        // Else none has gone, and in a queue that has grown a look at each place would cost more than the take.
-        if !found_empty {
-            return taken;
-        }
-        self.leave_gone();
-        taken
-    }
-
-    /// Takes from the first of the older generations that is not found empty. Says whether it found one empty.
-    #[inline(always)]
-    fn take_first(&mut self, found_empty: &mut bool) -> Option<Taken<K::Got>>
-        ensures same { self.new ≡ with_older (with_seen self.old self.new.seen) self.new.older }
-        ensures later { IsLater self.old self.new }
-        ensures takes { TakesFirst K.takes K.seals result self.old.older self.new.older }
-    {
-        let places = self.shared.places();
-        self.older
-            .take_first::<K>(places, &mut self.history, found_empty)
-    }
-
-    /// What a take returns that came to this in the newest generation: Busy in place of Empty where another one is the
-    /// newest by now.
-    #[cold]
-    #[inline(never)]
-    fn look_again(&mut self, taken: Taken<K::Got>) -> Taken<K::Got>
-        ensures same { self.new ≡ with_seen self.old self.new.seen }
-        ensures later { IsLater self.old self.new }
-        ensures looks { LooksAgain taken result self.old self.new }
-    {
-        if let Taken::Empty = taken {
-            // A value may lie in the generation that others have opened meanwhile.
-            if self.is_behind() {
-                return Taken::Busy;
-            }
-        }
-        taken
-    }
-
-    /// Takes from the newest generation, where each older one is empty.
-    fn take_newest(&mut self) -> Taken<K::Got>
-        ensures later { IsLater self.old self.new }
-        ensures same { (self.new.older ≡ self.old.older) × (self.new.number ≡ self.old.number) }
-        ensures takes { TakesNewest K.takes result self.old self.new }
-    {
-        let taken = self.newest.take::<K>(&self.generation);
-        self.look_again(taken)
-    }
-
-    /// Takes from the oldest generation that is not empty.
-    fn take_oldest(&mut self) -> Taken<K::Got>
-        ensures { TakesOldest K.takes K.seals result self.old self.new }
-    {
-        match self.take_older() {
-            Some(taken) => taken,
-            None => self.take_newest(),
-        }
-    }
-
-    /// The same as `take`, where the handle has older generations, or others to follow.
-    #[cold]
-    #[inline(never)]
-    fn take_late(&mut self) -> Taken<K::Got>
-        ensures { TakesBy K.takes K.seals result self.old self.new }
-    {
-        if !self.keep_up() {
-            return Taken::Busy;
-        }
-        self.take_oldest()
-    }
-
-    /// Takes from the oldest generation that is not found empty, once the handle has followed others.
-    #[inline(always)]
-    pub(crate) fn take_in_order(&mut self) -> Taken<K::Got>
-        ensures { TakesBy K.takes K.seals result self.old self.new }
-    {
-        let generation: &Generation<T> = &self.generation;
-        let later = generation.next().look(&self.newest, &mut self.history);
-        // One test for both.
-        // What is rare goes out of line, and its answer into a local: written where the result is to be, it would keep
-        // each result in memory, copied from place to place.
-        if later + self.older.len() as u64 != 0 {
-            let taken = self.take_late();
-            return taken;
-        }
-        match self.newest.take::<K>(generation) {
-            Taken::Got(got) => Taken::Got(got),
-            taken => {
-                let taken = self.look_again(taken);
-                taken
-            }
-        }
-    }
-
     /// Follows others that have opened a newer generation, and returns in how many generations the handle then is.
     ///
     /// That is 1, but for the time of a change: an older one stays until it is found empty and is sealed, which it is not
@@ -595,27 +490,6 @@ impl<T: Drop, K: Kind<T>> RenewingHandle<T, K> {
     /// always false.
     pub fn lacks_memory(&self) -> bool {
         self.lacks_memory
-    }
-
-    /// About how many values are in the queue: the sum over its generations, as `PooledQueue::len` counts each of them.
-    ///
-    /// The handle first follows others that have opened a newer generation. Calls that run meanwhile are counted or
-    /// not. It makes 2k + 1 loads at most for each generation, of which there is mostly one.
-    pub fn len(&mut self) -> usize
-        ensures { Counts result self.old self.new }
-    {
-        // Where others open new ones all the time, those are counted that the handle has come to.
-        let _ = self.keep_up();
-        self.count_all()
-    }
-
-    /// About how many values are in the generations of the handle.
-    fn count_all(&self) -> usize
-        ensures { result ≤ length (all_of self.now) * slots_of self.now.opened }
-    {
-        self.older
-            .count()
-            .saturating_add(self.generation.queue().len())
     }
 
     /// Whether the generation to which this handle gives is that to which another handle of its queue gives, as far as

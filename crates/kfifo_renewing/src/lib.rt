@@ -2,6 +2,7 @@
 //! before it while that has versions left.
 #![tactic(auto)]
 
+mod capacity;
 mod cells;
 mod change;
 mod fault;
@@ -15,9 +16,11 @@ mod leaving;
 mod left;
 mod memory;
 mod older;
+mod opening;
 mod payloads;
 mod places;
 mod queue;
+mod taking;
 
 pub use fault::{CapacityFault, RenewFault};
 pub use handle::RenewingHandle;
@@ -25,6 +28,5 @@ pub use kfifo_exclusive::Exclusive;
 pub use kind::{Cells, Kind, Payloads};
 pub use left::{LeftCells, close_cells};
 pub use memory::{CellAt, CellLayout};
-pub use queue::{
-    DEFAULT_RESERVE, NO_RENEWAL, Renewals, close, open, open_cells, open_cells_with, open_with,
-};
+pub use opening::{open, open_cells, open_cells_with, open_with};
+pub use queue::{DEFAULT_RESERVE, NO_RENEWAL, Renewals, close};

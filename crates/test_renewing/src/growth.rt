@@ -2,7 +2,7 @@
 use crate::plain::{close, give, take};
 use kfifo_live::{Given, Sizes, Taken};
 use kfifo_renewing::{
-    DEFAULT_RESERVE, NO_RENEWAL, RenewFault, Renewals, RenewingHandle, open_with,
+    DEFAULT_RESERVE, NO_RENEWAL, RenewFault, Renewals, RenewingHandle, open, open_with,
 };
 use kfifo_words::MAX_VERSION;
 use std::alloc::Global;
@@ -42,12 +42,25 @@ fn empty(rt: &impl Abort, handle: &mut RenewingHandle<u64>, count: u64) {
     assert_eq!(rt; take(handle), Taken::Empty);
 }
 
+/// A capacity is rounded up to a multiple of the threads, and the tokens that handles may keep come on top of it.
+#[test]
+fn the_capacity_is_what_a_queue_was_opened_for(rt: HostRuntime) -> Result<(), Fail> {
+    for (threads, wanted) in [(1, 100), (3, 102), (64, 128)] {
+        let mut handles = open::<u64>(rt.alloc(), 16, 100, threads)?;
+        for handle in handles.as_mut_slice() {
+            assert_eq!(rt; handle.capacity(), wanted);
+        }
+    }
+    Ok(())
+}
+
 /// A handle counts the values of all generations, also of those that others opened.
 #[test]
 fn values_are_counted(rt: HostRuntime) -> Result<(), Fail> {
     let mut handles = open_growing(rt.alloc(), 2, DEFAULT_RESERVE, 100)?;
     if let [giver, taker] = handles.as_mut_slice() {
         assert_eq!(rt; (giver.len(), taker.len()), (0, 0));
+        assert!(rt; giver.is_empty() && taker.is_empty());
         assert_eq!(rt; fill(giver, 300), 300);
         assert!(rt; giver.generations() > Some(1));
         assert_eq!(rt; (giver.len(), taker.len()), (300, 300));
@@ -55,6 +68,7 @@ fn values_are_counted(rt: HostRuntime) -> Result<(), Fail> {
             assert_eq!(rt; take(taker), Taken::Got(value));
         }
         assert_eq!(rt; (giver.len(), taker.len()), (100, 100));
+        assert!(rt; !giver.is_empty() && !taker.is_empty());
     }
     assert_eq!(rt; close(rt.alloc(), handles)?.len(), 100);
     Ok(())
