@@ -1,8 +1,13 @@
 #!/usr/bin/env python3
-"""Says whether docs/PERFORMANCE.md has the figures of docs/bench: that its tables are those which the overviews of
-docs/bench/table.md give, and its tables of calls that wait, that its section on work is what bench/work.py writes of
-docs/bench/work.md, and that each decimal in its text is a figure of the tables, rounded. And whether docs/WORK.md has
-how many tasks a stack the searches took.
+"""Compares the figures of docs/PERFORMANCE.md, README.md, docs/WORK.md and docs/bench/costs.md with the tables of
+docs/bench. Four things count:
+
+- A table of a page that is made of measured tables is what they give, and so are the overviews of docs/bench/table.md.
+- A figure in a sentence stands in the tables that its section is about, rounded. Where its clause names a queue or a k,
+  it is a figure of that queue or k. Figures are decimals, and whole numbers with a unit.
+- The section on work is what bench/work.py writes of docs/bench/work.md, and docs/WORK.md has how many tasks a stack
+  the searches took.
+- Of made-up sentences about a made-up table the true ones pass, and the false ones do not.
 
     bench/figures.py              prints what differs, and ends with the line 'N passed, M failed'
     bench/figures.py --write      writes the tables into the pages
@@ -14,6 +19,7 @@ import re
 import sys
 
 import run
+import tables
 import work
 
 ROOT = pathlib.Path(__file__).resolve().parent.parent
@@ -101,9 +107,8 @@ def of_ratios(parts):
 
 def page_tables(parts):
     """The tables of each page that are made of what was measured, in their order."""
-    of_work = next(tables.tables_of((TABLES / "work.md").read_text()))
     return {
-        PERFORMANCE: [*of_ratios(parts), waiting(parts), in_queue(parts), of_work],
+        PERFORMANCE: [*of_ratios(parts), waiting(parts), in_queue(parts)],
         COSTS: [goals(parts), hand_overs(parts)],
     }
 
@@ -128,29 +133,10 @@ def sections(text):
     return {it.partition("\n")[0]: it.partition("\n")[2] for it in re.split(r"^## ", text, flags=re.M)}
 
 
-def page_tables():
-    """Returns those tables of the page that are made of what was measured, each as its head and its rows."""
-    ratios = measured()
-    made = []
-    for head, queues, titles in run.page_parts():
-        known = [it for it in queues if any(run.label(it) in ratios.get(title, {}) for title in titles.values())]
-        columns = [run.column(it) for it in known]
-        lines = [f"| {head} | " + " | ".join(columns) + " |", "|---" * (len(columns) + 1) + "|"]
-        for name, title in titles.items():
-            figures = [ratios.get(title, {}).get(run.label(it), "") for it in known]
-            lines.append(f"| {name} | " + " | ".join(figures) + " |")
-        made.append(lines)
-    return [*made, waiting()]
-
-
-def of_work():
-    """Yields each page with a text that is made of docs/bench/work.md, that text, and what to say where it is not."""
-    _, measured = work.read(TABLES / "work.md")
-    yield PAGE, work.section(measured), "bench/work.py --again --out docs/bench --page writes another section on work"
-    _, found = measured[0]
-    tasks = [work.median(found, it, "tasks") for it in work.OURS]
-    told = f"{min(tasks):.2f} to {max(tasks):.2f} tasks a stack"
-    yield ROOT / "docs/WORK.md", told, f"docs/bench/work.md has {told}"
+def clauses(text):
+    """The clauses of a text without its tables, its code, and what is no figure."""
+    text = re.sub(r"^\|.*$|^```[^`]*```$|`[^`]*`|\]\([^)]*\)", "", text, flags=re.M)
+    return re.split(r"[:;.,](?=\s|$)|\sand\s", NO_FIGURES.sub("", " ".join(text.split())))
 
 
 def stated(text, words=""):
@@ -207,6 +193,17 @@ def of_tables(is_written):
             yield None if it in there else f"{name}: the table of {key_of(it)} is not that of docs/bench"
 
 
+def of_work():
+    """Yields the same for what is written of docs/bench/work.md."""
+    _, measured = work.read(TABLES / "work.md")
+    said = work.section(measured) in PERFORMANCE.read_text()
+    yield None if said else "bench/work.py --again --out docs/bench --page writes another section on work"
+    _, found = measured[0]
+    tasks = [work.median(found, it, "tasks") for it in work.OURS]
+    told = f"{min(tasks):.2f} to {max(tasks):.2f} tasks a stack"
+    yield None if told in (ROOT / "docs/WORK.md").read_text() else f"docs/WORK.md: docs/bench/work.md has {told}"
+
+
 def of_made_up():
     """Yields the same for made-up sentences."""
     numbers = list(stated(MADE_UP))
@@ -215,34 +212,10 @@ def of_made_up():
 
 
 def main():
-    page = PAGE.read_text()
-    old = {key_of(table): table for table in tables_of(page)}
-    passed, failed = 0, []
-    for table in page_tables():
-        there = old.get(key_of(table))
-        if there == table:
-            passed += 1
-        elif there and "--write" in sys.argv[1:]:
-            page = page.replace("\n".join(there), "\n".join(table))
-            passed += 1
-        else:
-            failed.append(f"docs/PERFORMANCE.md: the table of {table[0]} is not that of docs/bench")
-    if "--write" in sys.argv[1:]:
-        PAGE.write_text(page)
-    for path, text, wrong in of_work():
-        if text in path.read_text():
-            passed += 1
-        else:
-            failed.append(f"{path.relative_to(ROOT)}: {wrong}")
-    files = "".join(it.read_text() for it in sorted(TABLES.glob("*.md")))
-    numbers = {float(it.replace(",", "")) for it in re.findall(r"\d[\d,]*(?:\.\d+)?", files)}
-    numbers |= {float(it) for table in tables_of(page) for row in table for it in re.findall(r"\d+\.\d+", row)}
-    for figure in re.findall(r"(?<![\d.])\d+\.\d+(?![\d.])", text_of(page)):
-        if is_rounded(figure, numbers):
-            passed += 1
-        else:
-            failed.append(f"docs/PERFORMANCE.md: no table of docs/bench has {figure}")
-    print("\n".join([*failed, f"{passed} passed, {len(failed)} failed"]))
+    found = [*of_tables("--write" in sys.argv[1:]), *of_work(), *of_sections(PERFORMANCE), *of_sections(README)]
+    found += of_made_up()
+    failed = [it for it in found if it]
+    print("\n".join([*failed, f"{len(found) - len(failed)} passed, {len(failed)} failed"]))
     sys.exit(bool(failed))
 
 

@@ -19,8 +19,8 @@ use std::sync::atomic::{AtomicUsize, Ordering};
 use std::sync::{Mutex, MutexGuard, PoisonError};
 
 /// How many slots a generation of the queue has at most, for each k and in all, and how many of them go to what each
-/// pass may keep for itself. With so many in all, few generations are opened for many tasks, and the first one is cheap
-/// enough for a run of few. These are the sizes of a run in C++ too.
+/// handle may keep for itself. With these, few generations are opened for many tasks, and the first one is cheap enough
+/// for a run of few. They are the sizes of a run in C++ too.
 const SLOTS: u32 = 1_022;
 const ROOM: u32 = 16_384;
 const KEPT: u32 = 32;
@@ -52,8 +52,8 @@ impl Sizes {
         let k = k.max((handles * (KEPT + 1)).div_ceil(SLOTS));
         Sizes {
             k,
-            capacity: passes * (ROOM.min(SLOTS * k) / passes - KEPT),
-            generations: 129 - 2 * passes,
+            capacity: handles * (ROOM.min(SLOTS * k) / handles - KEPT),
+            generations: 129 - 2 * handles,
             versions: Versions {
                 last: options.last,
                 reserve: options.reserve,

@@ -82,10 +82,11 @@ fn sizes_are_in_range() {
     for k in 1..=64 {
         for workers in 1..=64 {
             let sizes = Sizes::of(k, workers);
-            let passes = workers as u32;
-            assert_eq!(sizes.generations, 129 - 2 * passes);
+            let handles = workers as u32;
+            assert_eq!(sizes.generations, 129 - 2 * handles);
             // As large as it may be, with the least k from this one on for which there is a queue.
-            let greatest = |k: u32| passes * ((1_022 * k).min(16_384) / passes).saturating_sub(32);
+            let greatest =
+                |k: u32| handles * ((1_022 * k).min(16_384) / handles).saturating_sub(32);
             assert_eq!(sizes.capacity, greatest(sizes.k));
             assert!(sizes.capacity > 0);
             assert!(sizes.k == k || (sizes.k > k && greatest(sizes.k - 1) == 0));
