@@ -32,7 +32,7 @@ def line_of(cells_of_line):
 
 
 def part_of(title, told, heads, rows):
-    """The text of a part: its heading, what is told of its runs, and its table."""
+    """The text of a part: its heading, the lines on its runs, and its table."""
     return "\n".join([f"{HEADING}{title}", "", f"{told}.", "", *table_of(heads, rows), ""])
 
 

@@ -116,7 +116,7 @@ MANY_HELP = {
     "movers": ("three of four threads wait 0.5 µs before they move an end", {"movers": 4, "patience": 1200}),
     "wait-near": NEAR_TAIL,
 }
-# How a place of a call is told of, by the beginning of its name in what the simulation prints.
+# What a place of a call is called, by the beginning of its name in what the simulation prints.
 PLACES = {
     "a give reads the ends": "enqueue done (LoadEnds|Recheck|ReloadEnds|ConfirmFull)",
     "a give holds the head or moves an end": "enqueue done (Hold|Move)",
