@@ -14,8 +14,7 @@ use std::marker::Model;
 /// Clauses see it as its queue and its number.
 #[derive(Drop)]
 pub struct Token<T> {
-    // It is below 2^32. With 64 bits a token fills half of a slot in a queue of tokens. So four slots share a line of the
-    // cache, not eight, and fewer threads write to one line at once.
+    // It is below 2^32. 64 bits paid where tokens were payloads of another queue; with 32 no rate is measured.
     number: u64,
     /// A seat of no thread, which has this token alone.
     seat: ThreadSeat<T>,
