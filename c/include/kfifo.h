@@ -221,9 +221,10 @@ typedef struct kfifo_waits {
     uint32_t state; /* how many threads wait, and whether the queue is finished: only waiting threads and kfifo_finish
                        write this line */
     char between[124];
-    uint32_t filled;  /* what takers sleep on: it changes where a value may have come */
-    uint32_t emptied; /* what givers sleep on: it changes where room may have come */
-    char after[120];
+    uint32_t filled;      /* what takers sleep on: it changes where a value may have come */
+    uint32_t emptied;     /* what givers sleep on: it changes where room may have come */
+    uint32_t wakes_noted; /* how often a giver was to be woken since one looked */
+    char after[116];
 } kfifo_waits;
 
 /* The same, with how many handles of the queue are open, and how many callers are left: in C the open handles, and in
@@ -355,7 +356,7 @@ static inline uint32_t kfifo_mark_of(const kfifo_handle *handle) {
 static inline kfifo_shared *kfifo_shared_new(size_t threads, uint32_t capacity) {
     kfifo_shared *shared = KFIFO_CAST(kfifo_shared *, malloc(sizeof *shared));
     if (!shared) return NULL;
-    shared->waits.state = shared->waits.filled = shared->waits.emptied = 0;
+    shared->waits.state = shared->waits.filled = shared->waits.emptied = shared->waits.wakes_noted = 0;
     shared->handles = shared->callers = KFIFO_CAST(uint32_t, threads);
     shared->capacity = capacity;
     return shared;

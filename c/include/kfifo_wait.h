@@ -30,9 +30,17 @@
    wake-up on.
 
    A give or a reserve finds FULL where no token or cell is free. A take, a release or a cancel frees one and then looks
-   for givers, and wakes one. That one may find none, since a handle keeps some of those that it frees. When it lays a
-   batch of them into the pool, that call wakes a giver too. The giver that takes the batch wakes the next one when
-   its give is done, so while the pool has tokens a giver is on its way to them.
+   for givers, and wakes one. That one may find none, since a handle keeps some of those that it frees. So it looks for
+   5 microseconds again before it sleeps. When a handle lays a batch of them into the pool, that call wakes a giver too.
+   The giver that takes the batch wakes the next one when its give is done, or its reserve, so while the pool has tokens
+   a giver is on its way to them.
+
+   Takes come faster than a giver wakes up, and each would make a call of the system meanwhile. So who wakes a giver
+   notes it in a third word, and while that is noted others only count on, and every sixteenth wakes one more. A giver
+   removes the note each time before it looks: as it announces itself, after it has read the second word, and when it no
+   longer sleeps. The note comes before the change of the second word. So while it stands, a giver that was woken has
+   yet to look, or the one who wakes it has yet to change the second word. That giver sees all room that was made
+   meanwhile, and wakes the next one.
 
    test_wait_model.cpp goes through all interleavings of three threads in a model of these steps. */
 #ifndef KFIFO_WAIT_H

@@ -38,7 +38,13 @@ static void wake(uint32_t *word, int most) {
     syscall(SYS_futex, word, FUTEX_WAKE_PRIVATE, most, NULL, NULL, 0);
 }
 
-static void wake_one(kfifo_waits *waits, uint32_t kind) { wake(word_of(waits, kind), 1); }
+/* Wakes a giver, unless one was woken that has yet to look: until that thread runs, each take would make a call of the
+   system. That giver looks after the caller made room, and hands the wake-up on when it is done. Should it be stopped,
+   every sixteenth call wakes another. It is noted before the word changes: a giver that reads the changed word removes
+   the note afterwards, as it looks itself. */
+static void wake_giver(kfifo_waits *waits) {
+    if (__atomic_fetch_add(&waits->wakes_noted, 1, __ATOMIC_SEQ_CST) % 16 == 0) wake(&waits->emptied, 1);
+}
 
 /* After a give, where threads wait. A give that was done wakes a taker. It wakes a giver too: one take may make room
    for several, as when it empties the last slot of a segment, and wakes one alone, which hands on what it was told. A
@@ -46,13 +52,13 @@ static void wake_one(kfifo_waits *waits, uint32_t kind) { wake(word_of(waits, ki
 kfifo_status kfifo_wait_given(kfifo_waits *waits, kfifo_status status) {
     uint32_t state = kfifo_waits_state(waits);
     if (status == KFIFO_DONE && (state & KFIFO_WAITS_TAKERS)) wake(&waits->filled, 1);
-    if ((status == KFIFO_DONE || status == KFIFO_BUSY) && (state & KFIFO_WAITS_GIVERS)) wake(&waits->emptied, 1);
+    if ((status == KFIFO_DONE || status == KFIFO_BUSY) && (state & KFIFO_WAITS_GIVERS)) wake_giver(waits);
     return status;
 }
 
 /* After a take, where givers wait. One that took nothing may still have laid a token down. */
 kfifo_status kfifo_wait_taken(kfifo_waits *waits, kfifo_status status) {
-    wake(&waits->emptied, 1);
+    wake_giver(waits);
     return status;
 }
 
@@ -62,14 +68,22 @@ void kfifo_wait_finished(kfifo_waits *waits) {
     wake(&waits->emptied, INT_MAX);
 }
 
+/* A giver that is about to look removes the note that one was woken. */
+static void remove_note(kfifo_waiter *waiter) {
+    if (waiter->kind == KFIFO_WAITS_GIVER) __atomic_store_n(&waiter->waits->wakes_noted, 0, __ATOMIC_SEQ_CST);
+}
+
 static void announce(kfifo_waiter *waiter) {
     __atomic_fetch_add(&waiter->waits->state, waiter->kind, __ATOMIC_SEQ_CST);
     waiter->seen = __atomic_load_n(word_of(waiter->waits, waiter->kind), __ATOMIC_SEQ_CST);
+    remove_note(waiter);
     waiter->is_announced = waiter->was_announced = 1;
 }
 
 static void retract(kfifo_waiter *waiter) {
-    if (waiter->is_announced) __atomic_fetch_sub(&waiter->waits->state, waiter->kind, __ATOMIC_SEQ_CST);
+    if (!waiter->is_announced) return;
+    __atomic_fetch_sub(&waiter->waits->state, waiter->kind, __ATOMIC_SEQ_CST);
+    remove_note(waiter);
     waiter->is_announced = 0;
 }
 
@@ -95,7 +109,8 @@ static void pause_between_looks(kfifo_waiter *waiter, uint64_t time) {
     if (waiter->pauses < MOST_PAUSES) waiter->pauses *= 2;
 }
 
-/* Whether the time is up. The first wait of a call reads off when that will be, and each until when it looks. */
+/* Whether the time is up. The first wait of a call reads off when that will be, and each until when it looks, as after
+   each sleep. */
 static int is_late(kfifo_waiter *waiter, uint64_t *time) {
     if (waiter->nanoseconds == 0) return 1;
     *time = now();
@@ -109,11 +124,22 @@ static int is_late(kfifo_waiter *waiter, uint64_t *time) {
     return *time >= waiter->deadline;
 }
 
-/* Ends a wait. One that leaves without having seen the queue full or empty hands on the wake-up that it may have had.
- */
+/* Hands on the wake-up that a thread may have had. One that was BUSY or WORN has not seen the queue full or empty. A
+   giver that is done may have left room for others, and a reserve wakes nobody else. */
+static void hand_on(kfifo_waiter *waiter, kfifo_status status) {
+    kfifo_waits *waits = waiter->waits;
+    int was_refused = status == KFIFO_BUSY || status == KFIFO_WORN;
+    if (waiter->kind == KFIFO_WAITS_TAKER) {
+        if (was_refused) wake(&waits->filled, 1);
+    } else if (was_refused || (status == KFIFO_DONE && (kfifo_waits_state(waits) & KFIFO_WAITS_GIVERS))) {
+        wake_giver(waits);
+    }
+}
+
+/* Ends a wait. */
 static int leave(kfifo_waiter *waiter, kfifo_status status) {
     retract(waiter);
-    if (waiter->was_announced && (status == KFIFO_BUSY || status == KFIFO_WORN)) wake_one(waiter->waits, waiter->kind);
+    if (waiter->was_announced) hand_on(waiter, status);
     waiter->has_begun = waiter->was_announced = 0;
     return 0;
 }
@@ -137,5 +163,7 @@ int kfifo_wait_again(kfifo_waiter *waiter, kfifo_status *status) {
     }
     sleep_on(waiter);
     retract(waiter);
+    /* It looks for a while again before it sleeps: what it was woken for often comes with the next calls. */
+    waiter->has_begun = 0;
     return 1;
 }

@@ -164,8 +164,11 @@ static void *make_call(void *argument) {
     struct call *self = argument;
     uint64_t began = now(CLOCK_MONOTONIC);
     kfifo_status status = KFIFO_BAD_CALL;
+    void *cell;
     if (self->handle->kind == KFIFO_ITEMS)
         status = kfifo_put_wait(self->handle, (uint32_t)self->value, self->nanoseconds);
+    else if (self->handle->kind == KFIFO_CELLS)
+        status = kfifo_reserve_wait(self->handle, &cell, self->nanoseconds);
     else
         status = self->gives ? kfifo_give_wait(self->handle, self->value, self->nanoseconds)
                              : kfifo_take_wait(self->handle, &self->value, self->nanoseconds);
@@ -280,6 +283,31 @@ static void room_for_all(void) {
     for (int i = 0; i < GIVERS; i++) {
         pthread_join(ids[i], NULL);
         expect(calls[i].status, KFIFO_DONE, "a give that slept");
+    }
+    expect(kfifo_abandon(handles, GIVERS + 1), KFIFO_DONE, "abandon");
+}
+
+/* So do reserves. None of their cells is published, so that it is the reserve that wakes the next one. */
+static void cells_for_all(void) {
+    enum { GIVERS = 6 };
+    kfifo_handle handles[GIVERS + 1];
+    struct call calls[GIVERS];
+    pthread_t ids[GIVERS];
+    void *cell;
+    size_t given = 0;
+    expect(kfifo_open_cells(1, 8, 8, 8, handles, GIVERS + 1), KFIFO_DONE, "open cells for all");
+    for (int i = 0; i <= GIVERS; i++)
+        for (; kfifo_reserve(&handles[i], &cell) == KFIFO_DONE; given++)
+            expect(kfifo_publish(&handles[i]), KFIFO_DONE, "a publish that uses up the cells");
+    for (int i = 0; i < GIVERS; i++) ids[i] = start(&calls[i], &handles[i], 1, 0, KFIFO_FOREVER);
+    until_asleep(&handles[0], GIVERS, KFIFO_WAITS_GIVER);
+    for (size_t i = 0; i < given; i++) {
+        expect(kfifo_receive(&handles[GIVERS], &cell), KFIFO_DONE, "a receive of a cell");
+        expect(kfifo_release(&handles[GIVERS]), KFIFO_DONE, "a release of it");
+    }
+    for (int i = 0; i < GIVERS; i++) {
+        pthread_join(ids[i], NULL);
+        expect(calls[i].status, KFIFO_DONE, "a reserve that slept");
     }
     expect(kfifo_abandon(handles, GIVERS + 1), KFIFO_DONE, "abandon");
 }
@@ -457,6 +485,7 @@ int main(void) {
     times();
     room_for_several();
     room_for_all();
+    cells_for_all();
     finishes();
     alone();
     signals();

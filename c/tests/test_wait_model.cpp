@@ -22,6 +22,11 @@ enum class Fault {
     asleep_before_it_wakes,
     only_wakes_before_sleep,
     first_take_not_counted,
+    note_stays_at_announcement,
+    note_stays_after_sleep,
+    note_removed_before_word_is_read,
+    noted_after_change,
+    reserve_not_handed_on,
     count
 };
 
@@ -33,12 +38,15 @@ enum Step : std::uint64_t {
     last_look,     // the look after that
     announce,      // it says that it waits
     read_word,     // it reads the word that it would sleep on
+    remove_note,   // a giver removes the note that one was woken
     sleep,         // it falls asleep if the word is still what it read
     asleep,        //
     retract,       // it says that it no longer waits
+    remove_later,  // it removes the note after it slept
     see_others,    // after a call: whether others wait
     change_filled, // the word of takers, before one is woken
     wake_taker,    //
+    note_giver,    // it notes that a giver is woken, unless one was that has yet to look (and here for ever)
     change_emptied,
     wake_giver,
     set_end, // it finishes the queue
@@ -59,7 +67,8 @@ struct Thread {
     bool is_current;          // the word that it would sleep on is what it read
     bool of_many = false;     // it gives or takes all that is left in one call, or as much as there is room or values
     bool gives_all = false;   // the same, but the call waits for room, and ends when all are given
-    bool has_slept = false;   // that call announced itself before
+    bool reserves = false;    // its gives wake a giver only where they waited, as a reserve does
+    bool has_slept = false;   // a call that gives all or reserves announced itself before
     bool sees_takers = false; // what it saw of the others
     bool sees_givers = false;
     std::uint64_t done = 0;  // how many values of this call were given or taken, and woke nobody yet
@@ -79,10 +88,10 @@ struct Thread {
 struct State {
     std::array<Thread, 3> threads;
     std::uint64_t k, head, tail;
-    bool finished = false;
+    bool finished = false, giver_woken = false;
 
     std::uint64_t packed() const {
-        std::uint64_t bits = finished;
+        std::uint64_t bits = finished << 1 | giver_woken;
         for (const Thread &thread : threads) bits = bits << 19 | thread.packed();
         return (bits << 2 | head) << 2 | tail;
     }
@@ -153,7 +162,7 @@ class Search {
         if (thread.sees_takers && thread.gives)
             thread.step = change_filled;
         else if (thread.sees_givers)
-            thread.step = change_emptied;
+            thread.step = note_giver;
         else
             woke(thread);
     }
@@ -262,13 +271,18 @@ class Search {
             return {state};
         case announce:
             thread.is_announced = true;
-            thread.has_slept = thread.gives_all;
-            thread.step = read_word;
+            thread.has_slept = thread.gives_all || thread.reserves;
+            thread.step = fault == Fault::note_removed_before_word_is_read && thread.gives ? remove_note : read_word;
             return {state};
         case read_word:
             thread.is_current = true;
-            thread.step = thread.gives ? see_end : look;
+            thread.step = thread.gives ? remove_note : look;
+            if (fault == Fault::note_removed_before_word_is_read && thread.gives) thread.step = see_end;
             if (fault == Fault::no_second_look) thread.step = sleep;
+            return {state};
+        case remove_note:
+            if (fault != Fault::note_stays_at_announcement) state.giver_woken = false;
+            thread.step = fault == Fault::note_removed_before_word_is_read ? read_word : see_end;
             return {state};
         case sleep:
             thread.step = thread.is_current || fault == Fault::word_read_after_look ? asleep : retract;
@@ -276,12 +290,18 @@ class Search {
         case asleep: return {};
         case retract:
             leave(thread);
-            thread.step = thread.gives ? see_end : look;
+            thread.step = thread.gives ? remove_later : look;
+            return {state};
+        case remove_later:
+            if (fault != Fault::note_stays_after_sleep) state.giver_woken = false;
+            thread.step = see_end;
             return {state};
         case see_others:
             if (thread.wakes == 0) thread.wakes = wakes_of(state, thread);
             thread.sees_takers = thread.gives && state.waiting(false) > 0;
             thread.sees_givers = state.waiting(true) > 0;
+            if (thread.reserves && (!thread.has_slept || fault == Fault::reserve_not_handed_on))
+                thread.sees_givers = false;
             wake_others(thread);
             return {state};
         case change_filled:
@@ -292,11 +312,22 @@ class Search {
             thread.sees_takers = false;
             wake_others(thread);
             return wakes(state, false, false);
+        case note_giver:
+            if (state.giver_woken) {
+                woke(thread);
+            } else {
+                state.giver_woken = fault != Fault::noted_after_change;
+                thread.step = change_emptied;
+            }
+            return {state};
         case change_emptied:
             if (fault != Fault::word_not_changed) state.change(true);
             thread.step = wake_giver;
             return {state};
-        case wake_giver: woke(thread); return wakes(state, true, false);
+        case wake_giver:
+            if (fault == Fault::noted_after_change) state.giver_woken = true;
+            woke(thread);
+            return wakes(state, true, false);
         case set_end:
             state.finished = true;
             thread.step = end_filled;
@@ -329,6 +360,11 @@ Thread all_at_once(Thread thread) {
     thread.of_many = thread.gives_all = true;
     return thread;
 }
+Thread reserver(std::uint64_t values) {
+    Thread thread = giver(values);
+    thread.reserves = true;
+    return thread;
+}
 Thread taker_until_end() { return {look, false, 0, false, true, false, false}; }
 Thread finisher() { return {set_end, true, 0, true, false, false, false}; }
 
@@ -358,6 +394,9 @@ std::vector<State> beginnings() {
         ring(1, 2, all_at_once(giver(3)), of_many(taker(2)), taker(3)),
         ring(1, 0, all_at_once(giver(3)), all_at_once(giver(2)), of_many(taker(5))),
         ring(2, 0, all_at_once(giver(3, true)), of_many(taker_until_end()), taker(1)),
+        ring(2, 4, reserver(1), reserver(1), taker(2)),
+        ring(2, 4, reserver(1), giver(1), taker(2)),
+        ring(1, 2, reserver(1), reserver(2), taker(3)),
     };
 }
 

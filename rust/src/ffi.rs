@@ -37,7 +37,8 @@ pub(crate) struct Waits {
     between: [u8; 124],
     filled: AtomicU32,
     emptied: AtomicU32,
-    after: [u8; 120],
+    wakes_noted: AtomicU32,
+    after: [u8; 116],
 }
 
 // As in `c/src/wait.c`.
@@ -51,7 +52,8 @@ impl Waits {
             between: [0; 124],
             filled: AtomicU32::new(0),
             emptied: AtomicU32::new(0),
-            after: [0; 120],
+            wakes_noted: AtomicU32::new(0),
+            after: [0; 116],
         }
     }
 }
