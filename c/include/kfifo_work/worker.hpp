@@ -67,8 +67,7 @@ template <typename Task> class alignas(2 * line) Worker {
         std::uint64_t word = carrier.make(std::forward<Arguments>(arguments)...);
         count_given();
         // Behind those in the list, and into it where there is no queue yet.
-        bool is_in_queue =
-            pool->is_open && listed.load(std::memory_order_relaxed) == 0 && kfifo_give(pass, word) == KFIFO_DONE;
+        bool is_in_queue = pool->is_open && listed.load(std::memory_order_relaxed) == 0 && puts(pass, word);
         if (!is_in_queue) enlist(word, back);
         pool->after_give();
     }
@@ -132,6 +131,14 @@ template <typename Task> class alignas(2 * line) Worker {
         if (all > ended && all - ended > greatest_backlog) greatest_backlog = all - ended;
     }
 
+    // Puts a task into the queue: false where that has no room. One that is worn out ends the run: else all tasks would
+    // go through the lists from then on, slowly, and whether the run ends would hang on how takes meet the end.
+    bool puts(kfifo_handle *by, std::uint64_t word) {
+        kfifo_status status = kfifo_give(by, word);
+        if (__builtin_expect(status == KFIFO_WORN, 0)) pool->wear();
+        return status == KFIFO_DONE;
+    }
+
     // Puts a task that found no room into the list, and wakes a worker for it.
     template <typename Back> void enlist(std::uint64_t word, Back back) {
         {
@@ -158,7 +165,7 @@ template <typename Task> class alignas(2 * line) Worker {
 
     // A task leaves the list only when it is in the queue: at each moment it is in one of the two.
     void move_on_by(kfifo_handle *by, std::size_t most) {
-        while (most-- > 0 && !list.is_empty() && kfifo_give(by, list.front()) == KFIFO_DONE) unlist_first();
+        while (most-- > 0 && !list.is_empty() && puts(by, list.front())) unlist_first();
     }
 
     // Hands a task to a worker that found the queue empty, and moves others into the queue. Somebody may have moved

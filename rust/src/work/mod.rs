@@ -42,8 +42,8 @@
 //!
 //! # What the queue has no room for
 //!
-//! The tasks lie in a queue that grows. With k = 16 or more it has room for 1.5 million tasks on up to 16 threads, for a
-//! million on 32, and for 14,000 on 64; with k = 1 and 4 threads for 100,000. It takes 0.8 megabytes at first, and as
+//! The tasks lie in a queue that grows. With k = 16 or more it has room for 1.5 million tasks on up to 16 threads, for
+//! a million on 32, and for 14,000 on 64; with k = 1 and 4 threads for 100,000. It takes 0.8 megabytes at first, and as
 //! much again for every 16,000 tasks that wait; with k = 1 it takes 0.2, and as much again for every 1,000.
 //!
 //! What does not fit goes to a list under a lock, first in, first out, as long as there is memory. While it holds
@@ -189,8 +189,8 @@ impl<T> Report<T> {
 /// left are dropped.
 ///
 /// Returns an error where an option is out of range, where the system lacks memory or a thread, or where the versions
-/// of the queue are used up. It holds the tasks that were not begun. But where std gets no memory for the vectors of the
-/// report, or for what it starts a thread with, the program ends, as with any vector or thread.
+/// of the queue are used up. It holds the tasks that were not begun. But where std gets no memory for the vectors of
+/// the report, or for what it starts a thread with, the program ends, as with any vector or thread.
 ///
 /// Cost: it opens its queue, 0.8 megabytes with k = 16, and starts `threads - 1` threads, unless there is no task. A
 /// task costs a push and a pop, and a move of the task in and out; an idle worker uses no time after 5 microseconds.
@@ -343,6 +343,9 @@ where
             report.add(other.join().unwrap_or_else(|panic| resume_unwind(panic)));
         }
     });
+    if shared.queue.is_worn() {
+        first.set(End::Cause(Cause::Worn));
+    }
     for (worker, done) in report.done.iter_mut().enumerate() {
         *done = shared.counts.done(worker);
     }

@@ -15,7 +15,7 @@ use crate::ffi::{self, Value};
 use crate::shared::pause;
 use std::cell::UnsafeCell;
 use std::collections::VecDeque;
-use std::sync::atomic::{AtomicUsize, Ordering};
+use std::sync::atomic::{AtomicBool, AtomicUsize, Ordering};
 use std::sync::{Mutex, MutexGuard, PoisonError};
 
 /// How many slots a generation of the queue has at most, for each k and in all, and how many of them go to what each
@@ -129,6 +129,8 @@ pub(crate) struct Queue {
     list: Mutex<VecDeque<Value>>,
     /// How many tasks are in the list: it changes under the lock alone.
     listed: AtomicUsize,
+    /// Whether a call has found that the versions of the queue are used up.
+    worn: AtomicBool,
 }
 
 // SAFETY: a handle is reached by `give`, `take` and `refill`, whose callers see to it that one thread at a time uses
@@ -144,6 +146,7 @@ impl Queue {
             waits: ffi::Waits::open(),
             list: Mutex::new(VecDeque::new()),
             listed: AtomicUsize::new(0),
+            worn: AtomicBool::new(false),
         })
     }
 
@@ -166,6 +169,19 @@ impl Queue {
         }
     }
 
+    /// Whether the run ended because the versions of the queue are used up.
+    pub(crate) fn is_worn(&self) -> bool {
+        self.worn.load(Ordering::SeqCst)
+    }
+
+    /// Ends the run, since the versions of the queue are used up. A give that finds it says so too: else all tasks
+    /// would go through the list from then on, slowly, and whether the run ends would hang on how takes meet the end.
+    #[cold]
+    fn wear(&self) {
+        self.worn.store(true, Ordering::SeqCst);
+        self.finish();
+    }
+
     /// After a task was given: wakes a worker where one waits.
     #[inline]
     fn wake(&self) {
@@ -175,7 +191,7 @@ impl Queue {
         }
     }
 
-    /// Puts a value into the queue: whether it had room.
+    /// Puts a value into the queue: whether it had room. Where it is worn out the run ends.
     ///
     /// # Safety
     ///
@@ -186,6 +202,9 @@ impl Queue {
         loop {
             // SAFETY: the handle is of an open queue, and the caller says that nobody else uses it.
             let status = unsafe { ffi::kfifo_c_give(self.handles.at(handle), value) };
+            if status == ffi::WORN {
+                self.wear();
+            }
             if status != ffi::BUSY {
                 return status == ffi::DONE;
             }
@@ -257,7 +276,7 @@ impl Queue {
         }
     }
 
-    /// One look for a value: GOT, EMPTY, FINISHED, or WORN.
+    /// One look for a value: GOT, EMPTY, or FINISHED. Where the queue is worn out the run ends.
     ///
     /// # Safety
     ///
@@ -274,6 +293,10 @@ impl Queue {
             if status == ffi::EMPTY && self.has_list() {
                 // SAFETY: as the caller says.
                 status = unsafe { self.take_listed(handle, value) };
+            }
+            if status == ffi::WORN {
+                self.wear();
+                return ffi::FINISHED;
             }
             if status != ffi::BUSY {
                 return status;

@@ -225,43 +225,37 @@ impl<'a, T> More<'a, T> {
         F: Fn(T, &mut More<'_, T>) -> Result<(), E>,
     {
         let end = loop {
-            let task = match self.take() {
-                Ok(task) => task,
-                Err(end) => break end,
+            let Some(task) = self.take() else {
+                return self.told;
             };
             match catch_unwind(AssertUnwindSafe(|| body(task, &mut self))) {
                 Ok(Ok(())) => {
                     self.done += 1;
                     self.shared.counts.set_done(self.number, self.done);
                 }
-                Ok(Err(error)) => break Some(End::Cause(Cause::Task(error))),
-                Err(panic) => break Some(End::Panic(panic)),
+                Ok(Err(error)) => break End::Cause(Cause::Task(error)),
+                Err(panic) => break End::Panic(panic),
             }
         };
-        if let Some(end) = end {
-            first.set(end);
-            self.stop();
-        }
+        first.set(end);
+        self.stop();
         self.told
     }
 
-    /// Takes a task, and sleeps while there is none. Else the run ends, with an end of this worker's own or without.
+    /// Takes a task, and sleeps while there is none. It returns none where the run ends.
     #[inline]
-    fn take<E>(&mut self) -> Result<T, Option<End<E>>> {
+    fn take(&mut self) -> Option<T> {
         let mut value = Value::uninit();
         let mut status = self.look(&mut value);
         if status != ffi::GOT {
             status = self.wait(status, &mut value);
         }
-        match status {
-            // SAFETY: a worker of this run packed the value, and the queue gives it out once.
-            ffi::GOT => Ok(unsafe { self.nodes.unpack(value) }),
-            ffi::FINISHED => Err(None),
-            status => {
-                debug_assert_eq!(status, ffi::WORN);
-                Err(Some(End::Cause(Cause::Worn)))
-            }
+        if status != ffi::GOT {
+            debug_assert_eq!(status, ffi::FINISHED);
+            return None;
         }
+        // SAFETY: a worker of this run packed the value, and the queue gives it out once.
+        Some(unsafe { self.nodes.unpack(value) })
     }
 
     /// One look for a task.
