@@ -119,10 +119,10 @@ struct KfifoByStride : Kfifo {
     }
     std::uint32_t next(std::uint32_t &start) const { return std::exchange(start, (start + stride) % k); }
     bool push(std::size_t thread, std::uint32_t item) {
-        return passes[thread].enqueue_once(item, next(starts[thread].put), turns) == kfifo::Put::done;
+        return handles[thread].enqueue_once(item, next(starts[thread].put), turns) == kfifo::Put::done;
     }
     std::uint32_t pop(std::size_t thread) {
-        return passes[thread].dequeue_once(next(starts[thread].take), turns).item.value_or(0);
+        return handles[thread].dequeue_once(next(starts[thread].take), turns).item.value_or(0);
     }
 };
 
