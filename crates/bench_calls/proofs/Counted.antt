@@ -1,6 +1,6 @@
 -- A complete execution is one call more, and that of an enqueue one item more.
-use Rattle.std.proofs.Common.{◌≡◌, ℕ, zero, suc, ◌+◌, ◌-◌, ◌≤◌, List, [], ◌∷◌, ◌++◌, length, filter, is_some, Some, refl, ap, ◌∙◌}
-use Rattle.std.proofs.Common.{length-append, append_assoc, arith}
+use Rattle.std.proofs.Common.{◌≡◌, ℕ, zero, suc, ◌+◌, ◌-◌, ◌≤◌, List, [], ◌∷◌, ◌++◌, length, filter, is_some, Some}
+use Rattle.std.proofs.Common.{refl, ap, ◌∙◌, length-append, append_assoc, arith}
 use Rattle.std.specs.List.{filter_map, range_with_len}
 use Rattle.std.proofs.lemmas.List.Elements.{filter-append, filter_map-append}
 use Rattle.kfifo_words.specs.declared.shape.Shape.{Shape}
@@ -33,7 +33,8 @@ own_after : (shape : Shape) (threads thread : ℕ) (call : Begin) (answer : Answ
     → (h : CompleteExecution shape threads thread call answer old new)
     → own thread new ≡ own thread old ++ event thread (Some call) ∷ h.one_call.others
 own_after shape threads thread call answer old new h =
-    ap (own thread) (h.new_is ∙ append_assoc old h.between (h.last ∷ [])) ∙ own-append thread old (h.between ++ h.last ∷ [])
+    ap (own thread) (h.new_is ∙ append_assoc old h.between (h.last ∷ []))
+    ∙ own-append thread old (h.between ++ h.last ∷ [])
     ∙ ap (λ es. own thread old ++ es) h.one_call.first
 
 pub one_more : (shape : Shape) (threads thread : ℕ) (call : Begin) (answer : Answer) (old new : List Event)
@@ -41,9 +42,11 @@ pub one_more : (shape : Shape) (threads thread : ℕ) (call : Begin) (answer : A
 unfolding begun
 one_more shape threads thread call answer old new h =
     ap (λ es. length (begun es)) (own_after shape threads thread call answer old new h)
-    ∙ ap length (filter-append (λ (e : Event). is_some e.begin) (own thread old) (event thread (Some call) ∷ h.one_call.others))
+    ∙ ap length (filter-append (λ (e : Event). is_some e.begin) (own thread old)
+    (event thread (Some call) ∷ h.one_call.others))
     ∙ length-append (begun (own thread old)) (begun (event thread (Some call) ∷ h.one_call.others))
-    ∙ ap (λ es. calls thread old + length (event thread (Some call) ∷ es)) (none_begun h.one_call.others h.one_call.go_on)
+    ∙ ap (λ es. calls thread old + length (event thread (Some call) ∷ es))
+    (none_begun h.one_call.others h.one_call.go_on)
 
 pub item_more : (shape : Shape) (threads thread item start turns : ℕ) (answer : Answer) (old new : List Event)
     → CompleteExecution shape threads thread (Enqueue item start turns) answer old new
@@ -65,4 +68,5 @@ range_more a (suc n) =
 pub up_to : (item : ℕ) → 1 ≤ item → range_with_len 1 (item - 1) ++ item ∷ [] ≡ range_with_len 1 ((item + 1) - 1)
 up_to item positive =
     ap (λ (k : ℕ). range_with_len 1 (item - 1) ++ k ∷ []) (let e : item ≡ 1 + (item - 1) = omega (arith, positive) in e)
-    ∙ range_more 1 (item - 1) ∙ ap (range_with_len 1) (let e : suc (item - 1) ≡ (item + 1) - 1 = omega (arith, positive) in e)
+    ∙ range_more 1 (item - 1) ∙ ap (range_with_len 1) (let e : suc (item - 1) ≡ (item + 1) - 1 =
+    omega (arith, positive) in e)

@@ -22,11 +22,13 @@ module _ {T : Type 0} where
   same_last os a b = one_last a.others b.others a.last b.last (sym (all_seats os a) ∙ all_seats os b)
 
   -- the last of the handles that close a queue
-  pub closing_last : (os : List (Option (Generations T))) (all : AreAll os) (others : List (Generations T)) (last : Generations T)
+  pub closing_last : (os : List (Option (Generations T))) (all : AreAll os) (others : List (Generations T))
+      (last : Generations T)
       → seats_in os ≡ others ++ last ∷ [] → last ≡ all.last
   closing_last os all others last e = one_last others all.others last all.last (sym e ∙ all_seats os all)
 
-  module _ (k : Kind (Generations T)) (hs : List Handle) (i : ℕ) (h : Handle) (was is : Generations T) (last : Last k hs i h was is) where
+  module _ (k : Kind (Generations T)) (hs : List Handle) (i : ℕ) (h : Handle) (was is : Generations T)
+      (last : Last k hs i h was is) where
     pub read_after : map k.read (behind (set hs i h)) ≡ map Some (last.others ++ is ∷ [])
     read_after = ap (map k.read) last.after ∙ read_seats k (last.others ++ is ∷ [])
 
@@ -39,12 +41,15 @@ module _ {T : Type 0} where
     -- they are as many as the queue of the last has only if it is this one
     pub last_of_all : (all : AreAll (map k.read (behind (set hs i h)))) → all.last ≡ is
     last_of_all all = one_last all.others last.others all.last is
-        (sym (all_seats (map k.read (behind (set hs i h))) all) ∙ ap seats_in read_after ∙ seats_of (last.others ++ is ∷ []))
+        (sym (all_seats (map k.read (behind (set hs i h))) all) ∙ ap seats_in read_after
+        ∙ seats_of (last.others ++ is ∷ []))
 
     pub not_all : ¬ (length hs ≡ is.opened.threads) → ¬ AreAll (map k.read (behind (set hs i h)))
-    not_all many all = many (sym read_count ∙ all.count ∙ ap (λ (s : Generations T). s.opened.threads) (last_of_all all))
+    not_all many all =
+        many (sym read_count ∙ all.count ∙ ap (λ (s : Generations T). s.opened.threads) (last_of_all all))
 
-pub last_follows : (hs : List Handle) (i : ℕ) (h : Handle) (was is : ValueSeated) → Last values hs i h was is → Follows was is
+pub last_follows : (hs : List Handle) (i : ℕ) (h : Handle) (was is : ValueSeated) → Last values hs i h was is
+    → Follows was is
     → LastFollows (behind hs) (behind (set hs i h))
 last_follows hs i h was is last follows = inr (
   map (λ s. Some (Values s)) last.others,
@@ -61,9 +66,12 @@ great n m above is = omega (arith, above, is)
 -- the room for so many generations of so many slots
 pub needs_room : (o : Option ℕ) (count slots : ℕ) (os : List (Option ValueSeated)) (all : AreAll os)
     → SomeIff o (count * slots < 2 ^ 64) (count * slots) → room_for all.last ≡ count * slots → NeedsRoom o os
-needs_room None count slots os all above is = λ other. great (count * slots) (room_for other.last) above (ap room_for (same_last os other all) ∙ is)
+needs_room None count slots os all above is = λ other. great (count * slots) (room_for other.last) above
+    (ap room_for (same_last os other all) ∙ is)
 needs_room (Some room) count slots os all below is = (all, below.1 ∙ sym is)
 
-pub may_close : (o : Option ℕ) (os : List (Option ValueSeated)) (needed room : ℕ) → NeedsRoom o os → o ≡ Some needed → needed ≤ room
+pub may_close : (o : Option ℕ) (os : List (Option ValueSeated)) (needed room : ℕ) → NeedsRoom o os → o ≡ Some needed
+    → needed ≤ room
     → MayCloseValues os room
-may_close o os needed room either is wide = let needs = subst (λ o'. NeedsRoom o' os) is either in record { all = needs.0; room_is = subst (λ n. n ≤ room) needs.1 wide }
+may_close o os needed room either is wide = let needs = subst (λ o'. NeedsRoom o' os) is either in
+    record { all = needs.0; room_is = subst (λ n. n ≤ room) needs.1 wide }

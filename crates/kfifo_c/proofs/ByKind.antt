@@ -1,7 +1,8 @@
 -- Handles by their kind.
 use Rattle.std.proofs.Common.{◌≡◌, ◌<◌, arith, rules, ℕ, Option, Some, None, refl, sym, ap, ◌∙◌}
 use Rattle.std.specs.Prelude.{◌==◌, true}
-use Rattle.kfifo_c.specs.Behind.{Behind, Items, Values, Cells, Left, cells_in, items_in, kind_of, left_holds_of, left_in, starts_of, values_in}
+use Rattle.kfifo_c.specs.Behind.{Behind, Items, Values, Cells, Left, cells_in, items_in, kind_of, left_holds_of}
+use Rattle.kfifo_c.specs.Behind.{left_in, starts_of, values_in}
 use Rattle.kfifo_c.specs.CellLeft.{LeftSeated}
 use Rattle.kfifo_c.specs.CellSeats.{CellSeated}
 use Rattle.kfifo_c.specs.Seats.{Seated}
@@ -26,7 +27,8 @@ items_at o start below = items_from o (λ none. omega arith)
 
 -- and one from which it may begin nowhere has none
 pub no_items : (o : Option Behind) → starts_of o ≡ 0 → (x : Seated) → o ≡ Some (Items x) → ⊥
-no_items o none x is = let slots = x.queue.opened.shape.some_slot in let k = sym (ap starts_of is) ∙ none in omega (arith, slots, k)
+no_items o none x is = let slots = x.queue.opened.shape.some_slot in let k = sym (ap starts_of is) ∙ none in
+    omega (arith, slots, k)
 
 pub no_items_in : (o : Option Behind) → starts_of o ≡ 0 → items_in o ≡ None
 no_items_in None none = refl
@@ -36,7 +38,8 @@ no_items_in (Some (Cells x)) none = refl
 no_items_in (Some (Left x)) none = refl
 
 -- a handle of another kind has no seat of this kind
-pub no_seat : {S : Type 0} (kind : S → Behind) (own : ℕ) → ((x : S) → kind_of (Some (kind x)) ≡ own) → (o : Option Behind)
+pub no_seat : {S : Type 0} (kind : S → Behind) (own : ℕ) → ((x : S) → kind_of (Some (kind x)) ≡ own)
+    → (o : Option Behind)
     → ¬ (kind_of o ≡ own) → (x : S) → o ≡ Some (kind x) → ⊥
 no_seat kind own is o other x there = other (ap kind_of there ∙ is x)
 

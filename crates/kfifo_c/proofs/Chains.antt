@@ -9,7 +9,8 @@ use Rattle.kfifo_c.specs.Many.{GivesEach, TakesEach}
 module _ {A S : Type 0} (gives : ℕ → A → S → S → Type 0) (done : A) where
   -- whatever the calls of the values from i on do, all calls do that and what those before i did
   abbrev pub GivesOn : List ℕ → ℕ → S → S → Type 0
-  GivesOn values i first now = (count : ℕ) (last : Option A) (new : S) → GivesEach gives done (drop i values) count last now new
+  GivesOn values i first now = (count : ℕ) (last : Option A) (new : S)
+      → GivesEach gives done (drop i values) count last now new
       → GivesEach gives done values (i + count) last first new
 
   pub gives-start : (values : List ℕ) (s : S) → GivesOn values 0 s s
@@ -18,7 +19,8 @@ module _ {A S : Type 0} (gives : ℕ → A → S → S → Type 0) (done : A) wh
 
   -- the call of value i was done
   pub gives-more : (values : List ℕ) (i : ℕ) (first old mid : S) (answer : A) → i < length values
-      → gives (get_or values i 0) answer old mid → answer ≡ done → GivesOn values i first old → GivesOn values (i + 1) first mid
+      → gives (get_or values i 0) answer old mid → answer ≡ done → GivesOn values i first old
+      → GivesOn values (i + 1) first mid
   gives-more values i first old mid answer below made is before count last new each =
       let rest : GivesEach gives done (drop (suc i) values) count last mid new =
       subst (λ n. GivesEach gives done (drop n values) count last mid new) (add-one i) each in
@@ -75,7 +77,8 @@ module _ {A S : Type 0} (takes : A → S → S → Type 0) (got : ℕ → A) whe
 
   -- call i came to this value, and it is written
   pub takes-more : (i : ℕ) (old now : List ℕ) (first s mid : S) (answer : A) (value : ℕ) → i < length old
-      → takes answer s mid → answer ≡ got value → Takes i old now first s → Takes (i + 1) old (set now i value) first mid
+      → takes answer s mid → answer ≡ got value → Takes i old now first s
+      → Takes (i + 1) old (set now i value) first mid
   takes-more i old now first s mid answer value below made is before =
       let e : drop i old ≡ get_or old i 0 ∷ drop (suc i) old = drop-cons old i 0 below in
       let rest : List ℕ = drop (suc i) old in
@@ -90,7 +93,8 @@ module _ {A S : Type 0} (takes : A → S → S → Type 0) (got : ℕ → A) whe
             let count : i + suc left ≡ length old = omega arith in
             let all : TakesEach takes got (suc left) (value ∷ others) last s new =
             (answer, mid, made, inl (value, others, is, refl, each)) in
-            subst (λ l. TakesEach takes got (length old) l last first new) (sym (append_assoc before.out (value ∷ []) others))
+            subst (λ l. TakesEach takes got (length old) l last first new)
+            (sym (append_assoc before.out (value ∷ []) others))
             (before.on (suc left) (value ∷ others) last new count all);
       }
 

@@ -1,6 +1,6 @@
 -- What is behind handles, read one after the other, and when a queue may be closed by them.
-use Rattle.std.proofs.Common.{◌≡◌, ◌+◌, ◌*◌, ◌<◌, ◌≤◌, ℕ, zero, suc, List, [], ◌∷◌, ◌++◌, Option, Some, None, IfSome, MatchOption, All}
-use Rattle.std.proofs.Common.{length, map, take, get_or, refl, sym, ap, subst, ◌∙◌, arith, rules}
+use Rattle.std.proofs.Common.{◌≡◌, ◌+◌, ◌*◌, ◌<◌, ◌≤◌, ℕ, zero, suc, List, [], ◌∷◌, ◌++◌, Option, Some, None, IfSome}
+use Rattle.std.proofs.Common.{MatchOption, All, length, map, take, get_or, refl, sym, ap, subst, ◌∙◌, arith, rules}
 use Rattle.std.specs.Prelude.{◌==◌}
 use Rattle.std.specs.List.{list_any}
 use Rattle.std.proofs.lemmas.List.{length-map, length-append}
@@ -18,7 +18,8 @@ use Rattle.kfifo_c.specs.Exports.{passes_in, numbers_in, BeginsWith, HasEach, Is
 use Rattle.kfifo_c.proofs.HandleLists.{items, next_behind}
 
 -- the next handle of a list
-pub next_items : (hs : List Handle) (os : List (Option Seated)) (i : ℕ) (d : Handle) (o : Option Seated) → items_behind hs ≡ os
+pub next_items : (hs : List Handle) (os : List (Option Seated)) (i : ℕ) (d : Handle) (o : Option Seated)
+    → items_behind hs ≡ os
     → i < length hs → items_in (get_or hs i d).held.value ≡ o
     → take (i + 1) os ≡ take i os ++ o ∷ []
 next_items hs os i d o e below is =
@@ -34,7 +35,8 @@ passes_same [] = refl
 passes_same (None ∷ os) = passes_same os
 passes_same (Some x ∷ os) = ap (λ l. x.pass ∷ l) (passes_same os)
 
-pub theirs_more : (os : List (Option Seated)) (o : Option Seated) → AreTheirs os → IfSome o (λ s. IsPassOf s.queue s.pass)
+pub theirs_more : (os : List (Option Seated)) (o : Option Seated) → AreTheirs os
+    → IfSome o (λ s. IsPassOf s.queue s.pass)
     → AreTheirs (os ++ o ∷ [])
 theirs_more [] None all is = tt
 theirs_more [] (Some s) all is = (is, tt)
@@ -42,7 +44,8 @@ theirs_more (None ∷ os) o all is = theirs_more os o all is
 theirs_more (Some s ∷ os) o all is = (all.0, theirs_more os o all.1 is)
 
 -- the passes of open handles of one queue
-pub theirs_of : (q : OpenQueue) (os : List (Option Seated)) → All (IsOpenOf q) os → AreTheirs os → All (IsPassOf q) (passes_in os)
+pub theirs_of : (q : OpenQueue) (os : List (Option Seated)) → All (IsOpenOf q) os → AreTheirs os
+    → All (IsPassOf q) (passes_in os)
 theirs_of q [] each all = All-nil (IsPassOf q)
 theirs_of q (None ∷ os) each all = absurd (All-head (IsOpenOf q) None os each)
 theirs_of q (Some s ∷ os) each all = All-cons (IsPassOf q) s.pass (passes_in os)
@@ -60,20 +63,23 @@ few_passes (None ∷ os) = let few = few_passes os in omega arith
 few_passes (Some s ∷ os) = let few = few_passes os in omega arith
 
 -- handles of one queue that are as many as their passes are all open
-pub all_open : (q : OpenQueue) (os : List (Option Seated)) → All (OneQueue q) os → length (passes_in os) ≡ length os → All (IsOpenOf q) os
+pub all_open : (q : OpenQueue) (os : List (Option Seated)) → All (OneQueue q) os → length (passes_in os) ≡ length os
+    → All (IsOpenOf q) os
 all_open q [] one many = All-nil (IsOpenOf q)
 all_open q (None ∷ os) one many = let few = few_passes os in absurd (omega arith)
 all_open q (Some s ∷ os) one many = All-cons (IsOpenOf q) (Some s) os (All-head (OneQueue q) (Some s) os one)
     (all_open q os (All-tail (OneQueue q) (Some s) os one) (omega arith))
 
 -- the first is of the queue of all
-pub same_queue : (q first : OpenQueue) (os : List (Option Seated)) → All (OneQueue q) os → BeginsWith first os → first ≡ q
+pub same_queue : (q first : OpenQueue) (os : List (Option Seated)) → All (OneQueue q) os → BeginsWith first os
+    → first ≡ q
 same_queue q first [] one begins = absurd begins
 same_queue q first (None ∷ os) one begins = absurd begins
 same_queue q first (Some s ∷ os) one begins = begins ∙ All-head (OneQueue q) (Some s) os one
 
 -- a test of numbers is one of passes
-any_number : (ps : List PassView) (t : ℕ) → list_any (λ n. n == t) (map (λ p. p.thread) ps) ≡ list_any (λ p. p.thread == t) ps
+any_number : (ps : List PassView) (t : ℕ) → list_any (λ n. n == t) (map (λ p. p.thread) ps)
+    ≡ list_any (λ p. p.thread == t) ps
 any_number [] t = refl
 any_number (p ∷ ps) t = search (rules, any_number ps t)
 
@@ -100,7 +106,8 @@ few_slots words index (suc count) =
     let one = few_in (get_or words index 0) in
     let rest = few_slots words (suc index) count in omega arith
 
-few_segments : (shape : Shape) (words : List ℕ) (segment count : ℕ) → length (segments_left shape words segment count) ≤ count * shape.k
+few_segments : (shape : Shape) (words : List ℕ) (segment count : ℕ)
+    → length (segments_left shape words segment count) ≤ count * shape.k
 few_segments shape words segment zero = omega arith
 few_segments shape words segment (suc count) =
     let e = length-append (slots_left words (slot_at shape.k segment 0) shape.k)
@@ -111,7 +118,8 @@ few_segments shape words segment (suc count) =
 pub few_left : (shape : Shape) (words : List ℕ) → length (items_left shape words) ≤ shape.n * shape.k
 few_left shape words = few_segments shape words (head_of (get_or words 0 0)) shape.n
 
-pub numbers_more : (os : List (Option Seated)) (s : Seated) → numbers_in (os ++ Some s ∷ []) ≡ numbers_in os ++ s.pass.thread ∷ []
+pub numbers_more : (os : List (Option Seated)) (s : Seated) → numbers_in (os ++ Some s ∷ []) ≡ numbers_in os
+    ++ s.pass.thread ∷ []
 numbers_more [] s = refl
 numbers_more (None ∷ os) s = numbers_more os s
 numbers_more (Some x ∷ os) s = ap (λ l. x.pass.thread ∷ l) (numbers_more os s)
@@ -120,7 +128,8 @@ pub numbers_same : (os : List (Option Seated)) → numbers_in (os ++ None ∷ []
 numbers_same os = ap (map (λ pass. pass.thread)) (passes_same os)
 
 -- what is behind handles that are all open
-pub seats_open : (q : OpenQueue) (os : List (Option Seated)) → All (IsOpenOf q) os → (ss : List Seated) × (os ≡ map Some ss)
+pub seats_open : (q : OpenQueue) (os : List (Option Seated)) → All (IsOpenOf q) os → (ss : List Seated)
+    × (os ≡ map Some ss)
 seats_open q [] each = ([], refl)
 seats_open q (None ∷ os) each = absurd (All-head (IsOpenOf q) None os each)
 seats_open q (Some s ∷ os) each =
@@ -131,7 +140,8 @@ one_longer xs x = length-append xs (x ∷ [])
 
 -- a queue that is closed by a list of handles is the queue of the first
 pub closes_first : (os : List (Option Seated)) (room : ℕ) (q : OpenQueue) → MayClose q os room → BeginsWith q os
-closes_first os room q may = begins os may.each_open (let e = may.complete.count in let some = may.some_pass in omega arith)
+closes_first os room q may = begins os may.each_open (let e = may.complete.count in let some =
+    may.some_pass in omega arith)
   where
     begins : (xs : List (Option Seated)) → All (IsOpenOf q) xs → 1 ≤ length (passes_in xs) → BeginsWith q xs
     begins [] each few = absurd (omega arith)
@@ -145,10 +155,12 @@ one_first (None ∷ os) q first a b = absurd a
 one_first (Some s ∷ os) q first a b = a ∙ sym b
 
 -- what a close by these handles says of their numbers
-pub closes_numbers : (os : List (Option Seated)) (room : ℕ) (q : OpenQueue) → MayClose q os room → HasEach q.opened.threads (numbers_in os)
+pub closes_numbers : (os : List (Option Seated)) (room : ℕ) (q : OpenQueue) → MayClose q os room
+    → HasEach q.opened.threads (numbers_in os)
 closes_numbers os room q may = has_all q.opened.threads (passes_in os) may.complete
 
-pub closes_length : (os : List (Option Seated)) (room : ℕ) (q : OpenQueue) → MayClose q os room → length (numbers_in os) ≡ length os
+pub closes_length : (os : List (Option Seated)) (room : ℕ) (q : OpenQueue) → MayClose q os room
+    → length (numbers_in os) ≡ length os
 closes_length os room q may = length-map (passes_in os) (λ p. p.thread) ∙ many_passes q os may.each_open
 
 begun : (q : OpenQueue) (os : List (Option Seated)) → BeginsWith q os → 1 ≤ length os
@@ -173,14 +185,15 @@ may_close os room first q one begins has many wide =
 pub match_none : {X : Type 0} (P : Type 0) (Q : X → Type 0) (o : Option X) → MatchOption o P Q → o ≡ None → P
 match_none {X} P Q o m e = subst (λ (o' : Option X). MatchOption o' P Q) e m
 
-pub match_some : {X : Type 0} (P : Type 0) (Q : X → Type 0) (o : Option X) (x : X) → MatchOption o P Q → o ≡ Some x → Q x
+pub match_some : {X : Type 0} (P : Type 0) (Q : X → Type 0) (o : Option X) (x : X) → MatchOption o P Q → o ≡ Some x
+    → Q x
 match_some {X} P Q o x m e = subst (λ (o' : Option X). MatchOption o' P Q) e m
 
 -- at most as many items are left as there are slots
 pub few_closed : (q : OpenQueue) (ps : List PassView) (items : List ℕ) → Closes q ps items
     → length items ≤ q.opened.shape.n * q.opened.shape.k
-few_closed q ps items closes = subst (λ (l : List ℕ). length l ≤ q.opened.shape.n * q.opened.shape.k) (sym closes.items_are)
-    (few_left q.opened.shape closes.world.words)
+few_closed q ps items closes = subst (λ (l : List ℕ). length l ≤ q.opened.shape.n * q.opened.shape.k)
+    (sym closes.items_are) (few_left q.opened.shape closes.world.words)
 
 pub closes_theirs : (os : List (Option Seated)) (room : ℕ) (q : OpenQueue) → MayClose q os room → AreTheirs os
     → All (IsPassOf q) (passes_in os)

@@ -8,11 +8,13 @@ use Rattle.kfifo_c.specs.Seats.{seated, IsOpenPassOf}
 use Rattle.kfifo_c.specs.Exports.{seats_of}
 
 -- of a list whose last element goes over to a list that is read from its end, both together stay the same
-pub moved : {A B : Type 0} (f : A → B) (rest : List A) (x : A) (made : List B) → map f rest ++ f x ∷ made ≡ map f (rest ++ x ∷ []) ++ made
+pub moved : {A B : Type 0} (f : A → B) (rest : List A) (x : A) (made : List B)
+    → map f rest ++ f x ∷ made ≡ map f (rest ++ x ∷ []) ++ made
 moved f [] x made = refl
 moved f (y ∷ rest) x made = ap (λ l. f y ∷ l) (moved f rest x made)
 
-pub reverse_mapped : {A B : Type 0} (f : A → B) (xs : List A) (x : A) → reverse (map f (xs ++ x ∷ [])) ≡ f x ∷ reverse (map f xs)
+pub reverse_mapped : {A B : Type 0} (f : A → B) (xs : List A) (x : A) → reverse (map f (xs ++ x ∷ [])) ≡ f x
+    ∷ reverse (map f xs)
 reverse_mapped f xs x = ap reverse (map-append f xs (x ∷ [])) ∙ reverse-append (map f xs) (f x ∷ [])
 
 pub length_read : {A B : Type 0} (f : A → B) (xs : List A) → length (reverse (map f xs)) ≡ length xs
@@ -26,6 +28,8 @@ pub length_seats : (q : OpenQueue) (first count : ℕ) → length (seats_of q (n
 length_seats q first count = length-map (new_passes q first count) (λ p. seated q p) ∙ length_passes q first count
 
 -- the new passes of a queue are of its threads
-pub passes_of : (q : OpenQueue) (first count : ℕ) → q.opened.threads ≡ first + count → All (IsOpenPassOf q) (new_passes q first count)
+pub passes_of : (q : OpenQueue) (first count : ℕ) → q.opened.threads ≡ first + count
+    → All (IsOpenPassOf q) (new_passes q first count)
 passes_of q first zero are = All-nil (IsOpenPassOf q)
-passes_of q first (suc count) are = All-cons (IsOpenPassOf q) _ _ ((refl, refl), omega arith) (passes_of q (suc first) count (omega arith))
+passes_of q first (suc count) are = All-cons (IsOpenPassOf q) _ _ ((refl, refl), omega arith)
+    (passes_of q (suc first) count (omega arith))

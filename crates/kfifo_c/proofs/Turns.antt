@@ -11,7 +11,8 @@ module _ {A : Type 0} (olds hs : List A) (i : ℕ) (h : A) where
   rest_more rest k d above = let ne : k ≢ i = omega arith in get_or-set_other hs i k h d ne ∙ rest k d (omega arith)
 
   -- and those before were changed
-  pub changed_more : (R : A → A → Type 0) (e : A) → i < length hs → ((k : ℕ) (d : A) → i ≤ k → get_or hs k d ≡ get_or olds k d)
+  pub changed_more : (R : A → A → Type 0) (e : A) → i < length hs
+      → ((k : ℕ) (d : A) → i ≤ k → get_or hs k d ≡ get_or olds k d)
       → ((k : ℕ) (d : A) → k < i → R (get_or olds k d) (get_or hs k d)) → R (get_or hs i e) h
       → (k : ℕ) (d : A) → k < i + 1 → R (get_or olds k d) (get_or (set hs i h) k d)
   changed_more R e below rest changed is k d under =

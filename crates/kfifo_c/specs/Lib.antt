@@ -9,7 +9,7 @@ pub mod Fields
 pub mod Fits
 pub mod Handles
 pub mod Held
-pub mod Lent
+pub mod SeatPointer
 pub mod Many
 pub mod Openings
 pub mod Seats

@@ -11,7 +11,8 @@ use Rattle.kfifo_c.specs.Behind as B
 use Rattle.kfifo_c.specs.ValueSeats.{ValueSeated}
 
 module _ {T : Type 0} where
-  -- The number of what a give came to, and of one that was not made. With no token for the value there is no room for it
+  -- The number of what a give came to, and of one that was not made. With no token for the value there is no room for
+  -- it
   abbrev pub given_number : Option (Given T) → ℕ
   given_number (Some G.Done) = 0
   given_number (Some (G.Full value)) = 1

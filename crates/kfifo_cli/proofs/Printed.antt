@@ -11,7 +11,8 @@ use Rattle.kfifo_cli_commands.specs.Endings.{Ends}
 -- a run that ends so, ends so by weaker facts of what may be printed, told, and is at fault
 pub ends_as : (answers answers' : List ℕ → ℕ → Type 0) (causes causes' : Fault → Type 0) (misuse misuse' : Type 0)
     (output faults : Written → Type 0) (status : ℕ)
-    → ((text : List ℕ) (s : ℕ) → answers text s → answers' text s) → ((fault : Fault) → causes fault → causes' fault) → (misuse → misuse')
+    → ((text : List ℕ) (s : ℕ) → answers text s → answers' text s) → ((fault : Fault) → causes fault → causes' fault)
+    → (misuse → misuse')
     → Ends answers causes misuse output faults status → Ends answers' causes' misuse' output faults status
 ends_as answers answers' causes causes' misuse misuse' output faults status answer cause misused e = record {
   known = e.known;
@@ -27,7 +28,8 @@ ends_as answers answers' causes causes' misuse misuse' output faults status answ
 }
 
 -- what was told on one writer was told on another that holds the same
-pub tells_on : (faults faults' : Written → Type 0) → ((w : Written) → faults w → faults' w) → (text : List ℕ) → Tells faults text
+pub tells_on : (faults faults' : Written → Type 0) → ((w : Written) → faults w → faults' w) → (text : List ℕ)
+    → Tells faults text
     → Tells faults' text
 tells_on faults faults' on text (inl whole) = inl (on (Whole text) whole)
 tells_on faults faults' on text (inr part) = inr (on (Part text) part)
@@ -51,18 +53,22 @@ ends_on answers causes misuse misuse' output output' faults faults' status out t
 }
 
 -- what was written on a printer was written on its writer, which it had all the time
-pub on_writer : {W : Type 0} (contents : W → Option (List ℕ)) (old new : Printer W) (before after : W) → old.writer.now ≡ before
+pub on_writer : {W : Type 0} (contents : W → Option (List ℕ)) (old new : Printer W) (before after : W)
+    → old.writer.now ≡ before
     → (Stays old new → new.writer.now ≡ after)
     → (w : Written) → OnPrinter contents old new w → OnWriter contents before after w
-on_writer {W = W} contents old new before after held kept (Whole text) p = let same : new.writer.now ≡ after = kept p.2 in
+on_writer {W = W} contents old new before after held kept (Whole text) p = let same : new.writer.now ≡ after =
+    kept p.2 in
     rw (← held, ← same) p.0
-on_writer {W = W} contents old new before after held kept (Part text) p = let same : new.writer.now ≡ after = kept p.2 in
+on_writer {W = W} contents old new before after held kept (Part text) p = let same : new.writer.now ≡ after =
+    kept p.2 in
     rw (← held, ← same) p.0
 on_writer {W = W} contents old new before after held kept Nothing p =
     sym (kept (ap (λ (x : Printer W). x.writer.ghost_name) p)) ∙ (ap (λ (x : Printer W). x.writer.now) p ∙ held)
 
 -- what was told of a misuse on one writer was told on another that holds the same
-pub misuse_on : (words : List Text) (faults faults' : Written → Type 0) → ((w : Written) → faults w → faults' w) → IsMisuse words faults
+pub misuse_on : (words : List Text) (faults faults' : Written → Type 0) → ((w : Written) → faults w → faults' w)
+    → IsMisuse words faults
     → IsMisuse words faults'
 misuse_on words faults faults' on (inl p) = inl (p.0, (p.1.0, tells_on faults faults' on p.1.0 p.1.1))
 misuse_on words faults faults' on (inr p) = inr (p.0, p.1, on Nothing p.2)

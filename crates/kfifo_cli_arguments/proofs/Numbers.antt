@@ -13,7 +13,8 @@ abbrev ParsesTo : ℕ → List ℕ → Result ℕ ParseIntError → Type 0
 ParsesTo bits t r = ParsesUnsigned bits 10 t r × ExplainsUnsignedError 10 t r × HasUnsignedDigitsIfOk t r
 
 -- what an option's value is read as
-reads : (bits : ℕ) (t : List ℕ) (r : Option ℕ) → ReadsOne (ParsesTo bits) t r → IsDigits t → 1 ≤ length t → digits_value 10 t < 2 ^ bits
+reads : (bits : ℕ) (t : List ℕ) (r : Option ℕ) → ReadsOne (ParsesTo bits) t r → IsDigits t → 1 ≤ length t
+    → digits_value 10 t < 2 ^ bits
     → r ≡ Some (digits_value 10 t)
 reads bits t (Some v) h digits some fits = let r : Result ℕ ParseIntError = Ok v in
     ap (λ n. Some n) (parse_digits own bits t r h.0 digits).1

@@ -1,11 +1,12 @@
 -- What a parse of the program's words gives.
-use Rattle.std.proofs.Common.{◌≡◌, ◌≢◌, ◌∙◌, true, List, Option, Some, None, Result, IfOk, ap, ap₂, sym, subst, refl, inl, inr, option_map}
+use Rattle.std.proofs.Common.{◌≡◌, ◌≢◌, ◌∙◌, true, List, Option, Some, None, Result, IfOk, ap, ap₂, sym, subst, refl}
+use Rattle.std.proofs.Common.{inl, inr, option_map}
 use Rattle.std.proofs.lemmas.Result.{IfOk-weaker}
 use Rattle.clap.proofs.OnLiterals.{clap_on_literals}
 use Rattle.clap.specs.Faults.{fault_of, is_simple_and_free}
 use Rattle.clap.specs.Kinds.{FailsBy, HasKind, IsAmong, Kinds}
-use Rattle.clap.specs.Words.{App, HasMatchesOf, Row, Text, is_simple, kind_of, rows_of, subcommand_name_of, subcommand_of, subcommand_rows}
-use Rattle.clap.specs.Words.{subcommand_rows_of}
+use Rattle.clap.specs.Words.{App, HasMatchesOf, Row, Text, is_simple, kind_of, rows_of, subcommand_name_of}
+use Rattle.clap.specs.Words.{subcommand_of, subcommand_rows, subcommand_rows_of}
 use Rattle.std.specs.Prelude.{Box}
 use Rattle.std.specs.Box.{box_value}
 use Rattle.clap.specs.declared.error.kind.ErrorKind.{ErrorKind}
@@ -35,7 +36,8 @@ unfolding kinds
 kinds_are words = refl
 
 -- the command that the matches name
-pub names : (app : App) (words : List Text) (r : Result ArgMatches Error) → app ≡ kfifo → IfOk r (HasMatchesOf app words)
+pub names : (app : App) (words : List Text) (r : Result ArgMatches Error) → app ≡ kfifo
+    → IfOk r (HasMatchesOf app words)
     → IfOk r (λ m. subcommand_rows_of m ≡ named words)
 names app words r is h = IfOk-weaker r _ _
     (λ m has. (has (ap is_simple is ∙ simple)).1 ∙ (ap (λ (a : App). subcommand_of a words) is ∙ named_is words)) h
@@ -63,10 +65,12 @@ both_of (Some p) name rows e f =
 -- the matches of the command that was named
 pub named_as : (m : ArgMatches) (name : Text) (found : Found) → subcommand_name_of m ≡ Some name
     → option_map (λ p. p.1) (subcommand_rows_of m) ≡ Some (rows_of found) → Names (subcommand_rows_of m) name found
-named_as m name found e f = both_of (subcommand_rows_of m) name (rows_of found) (sym (same_name (out-ArgMatches m).subcommand) ∙ e) f
+named_as m name found e f =
+    both_of (subcommand_rows_of m) name (rows_of found) (sym (same_name (out-ArgMatches m).subcommand) ∙ e) f
 
 -- help is shown where it was asked for
-pub help_asked : (ks : Kinds) (e : Error) → HasKind ks e → Shows (kind_of e) → (kind : ErrorKind) × IsAmong kind ks × Shows kind
+pub help_asked : (ks : Kinds) (e : Error) → HasKind ks e → Shows (kind_of e) → (kind : ErrorKind) × IsAmong kind ks
+    × Shows kind
 help_asked ks e (inl none) shows = elim shows [
   | inl help ↦ absurd (cc)
   | inr version ↦ absurd (cc)
@@ -74,7 +78,8 @@ help_asked ks e (inl none) shows = elim shows [
 help_asked ks e (inr among) shows = (kind_of e, among, shows)
 
 -- the error of words that are at fault
-pub at_fault : (ks : Kinds) (e : Error) → HasKind ks e → ¬ (Shows (kind_of e)) → kind_of e ≢ OutOfMemory → (kind : ErrorKind)
+pub at_fault : (ks : Kinds) (e : Error) → HasKind ks e → ¬ (Shows (kind_of e)) → kind_of e ≢ OutOfMemory
+    → (kind : ErrorKind)
     × IsAmong kind ks × ¬ (Shows kind)
 at_fault ks e (inl none) hides some = absurd (some none)
 at_fault ks e (inr among) hides some = (kind_of e, among, hides)

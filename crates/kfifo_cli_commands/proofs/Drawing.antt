@@ -1,9 +1,11 @@
 -- Why the command `draw` has no answer.
 use Rattle.std.proofs.Common.{◌≡◌, ◌≢◌, ℕ, List, Option, Some, subst, sym, ◌⊎◌, inl, inr, option_map}
 use Rattle.kfifo_cli_commands.proofs.Types.{Fault}
-use Rattle.kfifo_cli_texts.specs.declared.fault.Fault.TheVariants.{Shape, Word, Order, Picks, Replay, Trace, Open, Dispatch, Input, NoInput}
-use Rattle.kfifo_cli_texts.specs.declared.fault.Fault.TheVariants.{NotJson, Record, Search, RepeatedItem, Import, TooManyDrawn}
-use Rattle.kfifo_cli_texts.specs.declared.fault.Fault.TheVariants.{Contradiction, Stretch, NoLines, NoEvidence, Unexplained, Memory, Output}
+use Rattle.kfifo_cli_texts.specs.declared.fault.Fault.TheVariants.{Shape, Word, Order, Picks, Replay, Trace, Open}
+use Rattle.kfifo_cli_texts.specs.declared.fault.Fault.TheVariants.{Dispatch, Input, NoInput, NotJson, Record, Search}
+use Rattle.kfifo_cli_texts.specs.declared.fault.Fault.TheVariants.{RepeatedItem, Import, TooManyDrawn, Contradiction}
+use Rattle.kfifo_cli_texts.specs.declared.fault.Fault.TheVariants.{Stretch, NoLines, NoEvidence, Unexplained, Memory}
+use Rattle.kfifo_cli_texts.specs.declared.fault.Fault.TheVariants.{Output}
 use Rattle.kfifo_cli_commands.specs.declared.cut.Cut.{Cut}
 use Rattle.kfifo_cli_requests.specs.declared.requests.DrawOptions.{DrawOptions}
 use Rattle.kfifo_cli_commands.specs.Cuts.{AsksFor, IsCutFault}
@@ -52,7 +54,8 @@ module _ (input : Option (List ℕ)) (before after : ℕ) (options : DrawOptions
   input_refused fault (inr w) = subst (λ f. IsDrawRefusal options input before after f) (sym w.0) w.1
 
   module _ (cut : Cut) (asked : AsksFor options cut) (bytes : List ℕ) (read : IsCallsInput input bytes) where
-    undrawn : (fault : Fault) → IsNoPicture options.check.k options.evidence cut bytes fault → IsUndrawn options input fault
+    undrawn : (fault : Fault) → IsNoPicture options.check.k options.evidence cut bytes fault
+        → IsUndrawn options input fault
     undrawn fault u = record { cut = cut; asked = asked; bytes = bytes; read = read; unpictured = u }
 
     -- calls of an input of which there is no picture are a refusal

@@ -1,9 +1,11 @@
 -- How a run ends with a fault.
 use Rattle.std.proofs.Common.{◌≡◌, ◌≢◌, ◌≤◌, ◌⊎◌, inl, inr, ℕ, List, refl, arith}
 use Rattle.kfifo_cli_commands.proofs.Types.{Fault}
-use Rattle.kfifo_cli_texts.specs.declared.fault.Fault.TheVariants.{Shape, Word, Order, Picks, Replay, Trace, Open, Dispatch, Input, NoInput}
-use Rattle.kfifo_cli_texts.specs.declared.fault.Fault.TheVariants.{NotJson, Record, Search, RepeatedItem, Import, TooManyDrawn}
-use Rattle.kfifo_cli_texts.specs.declared.fault.Fault.TheVariants.{Contradiction, Stretch, NoLines, NoEvidence, Unexplained, Memory, Output}
+use Rattle.kfifo_cli_texts.specs.declared.fault.Fault.TheVariants.{Shape, Word, Order, Picks, Replay, Trace, Open}
+use Rattle.kfifo_cli_texts.specs.declared.fault.Fault.TheVariants.{Dispatch, Input, NoInput, NotJson, Record, Search}
+use Rattle.kfifo_cli_texts.specs.declared.fault.Fault.TheVariants.{RepeatedItem, Import, TooManyDrawn, Contradiction}
+use Rattle.kfifo_cli_texts.specs.declared.fault.Fault.TheVariants.{Stretch, NoLines, NoEvidence, Unexplained, Memory}
+use Rattle.kfifo_cli_texts.specs.declared.fault.Fault.TheVariants.{Output}
 use Rattle.kfifo_cli_texts.specs.Faults.{fault_line}
 use Rattle.kfifo_cli_texts.specs.Printing.{Nothing, Part, Tells, Whole, Written}
 use Rattle.kfifo_cli_commands.specs.declared.status.Status.{Status}
@@ -48,10 +50,12 @@ no_misuse : (status : ℕ) → status ≡ 1 → status ≡ 2 → ⊥
 no_misuse status one two = omega (arith, one, two)
 
 module _ (answers : List ℕ → ℕ → Type 0) (causes : Fault → Type 0) (output faults : Written → Type 0) where
-  -- A run that ends with a fault ends with status 1: the text of an answer broke off, or nothing of one was written and the fault is told.
+  -- A run that ends with a fault ends with status 1: the text of an answer broke off, or nothing of one was written and
+  -- the fault is told.
   pub ends_with : (fault : Fault) → (fault ≡ Output → faults Nothing)
       → (fault ≡ Output → (text : List ℕ) × (planned : ℕ) × answers text planned × output (Part text))
-      → (fault ≢ Output → output Nothing) → (fault ≢ Output → causes fault) → (fault ≢ Output → Tells faults (fault_line fault))
+      → (fault ≢ Output → output Nothing) → (fault ≢ Output → causes fault)
+      → (fault ≢ Output → Tells faults (fault_line fault))
       → Ends answers causes ⊥ output faults 1
   ends_with fault silent broke untouched cause told = record {
     known = omega arith;
@@ -74,7 +78,8 @@ module _ (answers : List ℕ → ℕ → Type 0) (causes : Fault → Type 0) (ou
   }
 
   -- A run whose whole text was written ends with the status of that text, which may be that of a failure.
-  pub ends_well : (status : Status) (text : List ℕ) → status ≢ Misused → faults Nothing → answers text (status_number status)
+  pub ends_well : (status : Status) (text : List ℕ) → status ≢ Misused → faults Nothing
+      → answers text (status_number status)
       → output (Whole text) → Ends answers causes ⊥ output faults (status_number status)
   ends_well Answered text known silent answered whole =
       answered_by 0 text (omega arith) (λ e. omega (arith, e)) (λ e. omega (arith, e)) silent answered whole

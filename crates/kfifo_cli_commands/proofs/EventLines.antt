@@ -1,5 +1,6 @@
 -- What the lines of events and the report behind them are, and why there are none.
-use Rattle.std.proofs.Common.{◌≡◌, ◌⊎◌, ℕ, ◌≤◌, ◌<◌, Bool, true, List, ◌++◌, Option, Some, inl, inr, length, take, subst, arith}
+use Rattle.std.proofs.Common.{◌≡◌, ◌⊎◌, ℕ, ◌≤◌, ◌<◌, Bool, true, List, ◌++◌, Option, Some, inl, inr, length, take}
+use Rattle.std.proofs.Common.{subst, arith}
 use Rattle.std.proofs.lemmas.List.{take_all}
 use Rattle.kfifo_cli_commands.proofs.Types.{Begin, Fault, Shape}
 use Rattle.kfifo_machine.specs.declared.event.Event.{Event}
@@ -28,16 +29,19 @@ module _ (shape : Shape) (scripts : List (List Begin)) (picks : List ℕ) (count
 
   -- the lines of the steps of so few events are those of all, and the report stands behind them
   pub is_traced : (steps : List Step) → IsTrace shape scripts picks MAX_STEPS steps → count ≤ MAX_STEPS
-      → (points : Bool) (stopped : Option ℕ) (report text : List ℕ) → IsReportText points stopped shape scripts picks report
+      → (points : Bool) (stopped : Option ℕ) (report text : List ℕ)
+      → IsReportText points stopped shape scripts picks report
       → text ≡ trace_lines shape.k 0 steps ++ report → IsTracedText points stopped shape scripts picks text
   is_traced steps trace few points stopped report text reported is =
       let same = counted trace.events trace.made in
-      let all : take MAX_STEPS trace.events ≡ trace.events = take_all MAX_STEPS trace.events (omega (arith, same, few)) in
+      let all : take MAX_STEPS trace.events ≡ trace.events =
+      take_all MAX_STEPS trace.events (omega (arith, same, few)) in
       record {
         events = trace.events;
         made = trace.made;
         steps = steps;
-        are = subst (λ (events : List Event). AreSteps shape (opening shape (length scripts)) events steps) all trace.are;
+        are = subst (λ (events : List Event). AreSteps shape (opening shape (length scripts)) events steps) all
+            trace.are;
         report = report;
         reported = reported;
         text_is = is;
@@ -48,8 +52,17 @@ module _ (options : ReplayOptions) (shape : Shape) (scripts : List (List Begin))
     (stands : StandsFor shape scripts made p) where
   -- what has no text of its events is a refusal: memory is, and more events than a trace may have are
   pub no_text : (fault : Fault) → (fault ≡ Memory) ⊎ (fault ≡ Replay replays.Memory)
-      ⊎ ((fault ≡ Trace) × ((own : List (List Begin)) (all : List ℕ) → StandsFor shape own all p → IsLong shape own all))
+      ⊎ ((fault ≡ Trace) × ((own : List (List Begin)) (all : List ℕ) → StandsFor shape own all p → IsLong shape own
+      all))
       → IsUnplayed options shape scripts picks fault
   no_text fault (inl is) = inl is
   no_text fault (inr (inl is)) = inr (inl (replays.Memory, is, tt))
-  no_text fault (inr (inr u)) = inr (inr (u.0, record { asked = asked; made = made; makes = makes; long = u.1 scripts made stands }))
+  no_text fault (inr (inr u)) = inr (inr (
+    u.0,
+    record {
+      asked = asked;
+      made = made;
+      makes = makes;
+      long = u.1 scripts made stands;
+    },
+  ))

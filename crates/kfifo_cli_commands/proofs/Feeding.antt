@@ -1,6 +1,6 @@
 -- Groups of picks that were fed one after the other.
-use Rattle.std.proofs.Common.{◌≡◌, ℕ, suc, ◌+◌, ◌-◌, ◌<◌, ◌≤◌, List, [], ◌∷◌, ◌++◌, length, get_or, take, drop, replicate, sym, ap, subst}
-use Rattle.std.proofs.Common.{◌∙◌, arith, add-one}
+use Rattle.std.proofs.Common.{◌≡◌, ℕ, suc, ◌+◌, ◌-◌, ◌<◌, ◌≤◌, List, [], ◌∷◌, ◌++◌, length, get_or, take, drop}
+use Rattle.std.proofs.Common.{replicate, sym, ap, subst, ◌∙◌, arith, add-one}
 use Rattle.std.proofs.lemmas.List.{append_assoc, get_or-append-add, get_or_append_left, length-append, length-replicate}
 use Rattle.std.proofs.lemmas.List.{replicate-append-replicate, append-nil, take-append-drop, take-append-le}
 use Rattle.std.proofs.lemmas.List.Concat.{flat_map-append, length-flat_map}
@@ -31,7 +31,8 @@ cut groups i d inside =
 pub one_more : (groups : List Group) (i : ℕ) (d : Group) (earlier : List ℕ) → i < length groups
     → (earlier ++ picks_of (take i groups)) ++ own_of (get_or groups i d) ≡ earlier ++ picks_of (take (i + 1) groups)
 one_more groups i d earlier inside =
-    let next : take (i + 1) groups ≡ take i groups ++ get_or groups i d ∷ [] = rw add-one (take-suc groups i d inside) in
+    let next : take (i + 1) groups ≡ take i groups ++ get_or groups i d ∷ [] =
+    rw add-one (take-suc groups i d inside) in
     let picks : picks_of (take (i + 1) groups) ≡ picks_of (take i groups) ++ picks_of (get_or groups i d ∷ []) =
     ap picks_of next ∙ flat_map-append own_of (take i groups) (get_or groups i d ∷ []) in
     let alone : picks_of (get_or groups i d ∷ []) ≡ own_of (get_or groups i d) = simp append-nil in
@@ -43,28 +44,32 @@ length_of : (groups : List Group) → length (picks_of groups) ≡ count_of grou
 length_of groups = length-flat_map own_of groups ∙ simp length-replicate
 
 -- picks that stop within their own part stop within the whole
-stops_within : (shape : Shape) (scripts : List (List Begin)) (earlier before own after : List ℕ) (place : ℕ) (p : Player)
+stops_within : (shape : Shape) (scripts : List (List Begin)) (earlier before own after : List ℕ) (place : ℕ)
+    (p : Player)
     → StopsAt shape scripts (earlier ++ before) own place p
     → StopsAt shape scripts earlier (before ++ (own ++ after)) (length before + place) p
 stops_within shape scripts earlier before own after place p at =
     let inside = at.within in
     let below : place ≤ length own = omega (arith, inside) in
     let taken : take (length before + place) (before ++ (own ++ after)) ≡ before ++ take place own =
-    take-append-add before (own ++ after) place ∙ ap (λ (xs : List ℕ). before ++ xs) (take-append-le place own after below) in
-    let picks : (earlier ++ before) ++ take place own ≡ earlier ++ take (length before + place) (before ++ (own ++ after)) =
+    take-append-add before (own ++ after) place
+    ∙ ap (λ (xs : List ℕ). before ++ xs) (take-append-le place own after below) in
+    let picks : (earlier ++ before) ++ take place own ≡ earlier
+    ++ take (length before + place) (before ++ (own ++ after)) =
     append_assoc earlier before (take place own) ∙ ap (λ (xs : List ℕ). earlier ++ xs) (sym taken) in
     let next : get_or own place 0 ≡ get_or (before ++ (own ++ after)) (length before + place) 0 =
     sym (get_or-append-add before (own ++ after) place 0 ∙ get_or_append_left own after 0 place inside) in
     record {
-      within = let one = length-append before (own ++ after) in let two = length-append own after in omega (arith, one, two, inside);
-      refused = subst (IsRefused shape scripts (earlier ++ take (length before + place) (before ++ (own ++ after)))) next
-          (subst (λ (xs : List ℕ). IsRefused shape scripts xs (get_or own place 0)) picks at.refused);
+      within = let one = length-append before (own ++ after) in let two = length-append own after in
+          omega (arith, one, two, inside);
+      refused = subst (IsRefused shape scripts (earlier ++ take (length before + place) (before ++ (own ++ after))))
+          next (subst (λ (xs : List ℕ). IsRefused shape scripts xs (get_or own place 0)) picks at.refused);
       stands = subst (λ (xs : List ℕ). StandsFor shape scripts xs p) picks at.stands;
     }
 
 -- a group that stops stops the groups
-pub stops_on : (shape : Shape) (scripts : List (List Begin)) (earlier : List ℕ) (groups : List Group) (i : ℕ) (d : Group)
-    (fault : ReplayFault) (p : Player) → i < length groups
+pub stops_on : (shape : Shape) (scripts : List (List Begin)) (earlier : List ℕ) (groups : List Group) (i : ℕ)
+    (d : Group) (fault : ReplayFault) (p : Player) → i < length groups
     → Stops shape scripts (earlier ++ picks_of (take i groups)) (own_of (get_or groups i d)) fault p
     → Stops shape scripts earlier (picks_of groups) (behind (count_of (take i groups)) fault) p
 stops_on shape scripts earlier groups i d fault p inside stops =
@@ -72,9 +77,11 @@ stops_on shape scripts earlier groups i d fault p inside stops =
     let sized : length before ≡ count_of (take i groups) = length_of (take i groups) in
     let at : StopsAt shape scripts earlier (before ++ (own_of (get_or groups i d) ++ picks_of (drop (suc i) groups)))
     (length before + stops.0) p =
-    stops_within shape scripts earlier before (own_of (get_or groups i d)) (picks_of (drop (suc i) groups)) stops.0 p stops.2 in
+    stops_within shape scripts earlier before (own_of (get_or groups i d)) (picks_of (drop (suc i) groups)) stops.0 p
+    stops.2 in
     let whole : StopsAt shape scripts earlier (picks_of groups) (length before + stops.0) p =
-    subst (λ (xs : List ℕ). StopsAt shape scripts earlier xs (length before + stops.0) p) (sym (cut groups i d inside)) at in (
+    subst (λ (xs : List ℕ). StopsAt shape scripts earlier xs (length before + stops.0) p) (sym (cut groups i d inside))
+    at in (
       count_of (take i groups) + stops.0,
       ap (behind (count_of (take i groups))) stops.1,
       subst (λ n. StopsAt shape scripts earlier (picks_of groups) (n + stops.0) p) sized whole,
@@ -88,8 +95,8 @@ piece_more earlier fed piece thread =
     ∙ ap (λ (xs : List ℕ). earlier ++ xs) (replicate-append-replicate fed piece thread)
 
 -- a piece that stops stops its group
-pub piece_stops : (shape : Shape) (scripts : List (List Begin)) (earlier : List ℕ) (fed piece count thread : ℕ) (fault : ReplayFault)
-    (p : Player) → fed + piece ≤ count
+pub piece_stops : (shape : Shape) (scripts : List (List Begin)) (earlier : List ℕ) (fed piece count thread : ℕ)
+    (fault : ReplayFault) (p : Player) → fed + piece ≤ count
     → Stops shape scripts (earlier ++ replicate fed thread) (replicate piece thread) fault p
     → Stops shape scripts earlier (replicate count thread) (behind fed fault) p
 piece_stops shape scripts earlier fed piece count thread fault p within stops =
@@ -100,15 +107,17 @@ piece_stops shape scripts earlier fed piece count thread fault p within stops =
     ∙ (replicate-append-replicate fed (piece + rest) thread ∙ ap (λ n. replicate n thread) counts) in
     let at : StopsAt shape scripts earlier (replicate count thread) (length (replicate fed thread) + stops.0) p =
     subst (λ (xs : List ℕ). StopsAt shape scripts earlier xs (length (replicate fed thread) + stops.0) p) whole
-    (stops_within shape scripts earlier (replicate fed thread) (replicate piece thread) (replicate rest thread) stops.0 p stops.2) in (
+    (stops_within shape scripts earlier (replicate fed thread) (replicate piece thread) (replicate rest thread) stops.0
+    p stops.2) in (
       fed + stops.0,
       ap (behind fed) stops.1,
-      subst (λ n. StopsAt shape scripts earlier (replicate count thread) (n + stops.0) p) (length-replicate fed thread) at,
+      subst (λ n. StopsAt shape scripts earlier (replicate count thread) (n + stops.0) p)
+          (length-replicate fed thread) at,
     )
 
 -- the place of a pick that is refused is within its group
-pub place_within : (shape : Shape) (scripts : List (List Begin)) (earlier : List ℕ) (group : Group) (fault : ReplayFault) (p : Player)
-    (place : ℕ) → Stops shape scripts earlier (own_of group) fault p
+pub place_within : (shape : Shape) (scripts : List (List Begin)) (earlier : List ℕ) (group : Group)
+    (fault : ReplayFault) (p : Player) (place : ℕ) → Stops shape scripts earlier (own_of group) fault p
     → fault ≡ BadPick place → place < group.count
 place_within shape scripts earlier group fault p place stops is =
     let same : BadPick stops.0 ≡ BadPick place = sym stops.1 ∙ is in

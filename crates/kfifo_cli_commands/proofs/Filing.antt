@@ -1,6 +1,7 @@
 -- Several files, judged one after the other.
-use Rattle.std.proofs.Common.{◌≡◌, ◌∙◌, ◌+◌, ◌<◌, ℕ, List, [], ◌∷◌, ◌++◌, Result, Ok, Err, IfErr, MatchResult, ap, arith, get_or, length, map, refl, subst}
-use Rattle.std.proofs.Common.{append_assoc, append-nil, cond, drop, inl, sym, take}
+use Rattle.std.proofs.Common.{◌≡◌, ◌∙◌, ◌+◌, ◌<◌, ℕ, List, [], ◌∷◌, ◌++◌, Result, Ok, Err, IfErr, MatchResult, ap}
+use Rattle.std.proofs.Common.{arith, get_or, length, map, refl, subst, append_assoc, append-nil, cond, drop, inl, sym}
+use Rattle.std.proofs.Common.{take}
 use Rattle.std.proofs.lemmas.Fn.{FoldsTo-push}
 use Rattle.std.proofs.lemmas.List.{map-append, take-append-drop, take_more}
 use Rattle.std.specs.List.{FoldsTo}
@@ -34,10 +35,12 @@ judged_more options pending n d lines line tally found inside judged said =
     (lines ++ line, tallied tally found) judged (found, line, said, refl) in
     let same : map name_of (take (n + 1) pending) ≡ map name_of (take n pending) ++ name ∷ [] =
     ap (map name_of) (take_more pending n d inside) ∙ map-append name_of (take n pending) (get_or pending n d ∷ []) in
-    subst (λ (ns : List (List ℕ)). FoldsTo (JudgesOne options) ([], none) ns (lines ++ line, tallied tally found)) (sym same) grown
+    subst (λ (ns : List (List ℕ)). FoldsTo (JudgesOne options) ([], none) ns (lines ++ line, tallied tally found))
+    (sym same) grown
 
 -- what is taken over some items and then over others
-folds_append : {P A : Type 0} (R : P → A → P → Type 0) (p : P) (xs ys : List A) (q u : P) → FoldsTo R p xs q → FoldsTo R q ys u
+folds_append : {P A : Type 0} (R : P → A → P → Type 0) (p : P) (xs ys : List A) (q u : P) → FoldsTo R p xs q
+    → FoldsTo R q ys u
     → FoldsTo R p (xs ++ ys) u
 folds_append R p [] ys q u same h = subst (λ k. FoldsTo R k ys u) (sym same) h
 folds_append R p (x ∷ xs) ys q u y h = (y.0, y.1, folds_append R y.0 xs ys q u y.2 h)
@@ -72,7 +75,8 @@ pub all_judged : (options : JudgeFilesOptions) (pending : List Pending) (n : ℕ
 all_judged options pending n lines tally named judged =
     let name_of : Pending → List ℕ = λ file. file.name.now in
     let rest = rest_judged options (map name_of (drop n pending)) lines tally in
-    let whole = sym (map-append name_of (take n pending) (drop n pending)) ∙ ap (map name_of) (take-append-drop n pending) ∙ named.0 in (
+    let whole = sym (map-append name_of (take n pending) (drop n pending))
+    ∙ ap (map name_of) (take-append-drop n pending) ∙ named.0 in (
       rest.0,
       rest.1,
       subst (λ (ns : List (List ℕ)). FoldsTo (JudgesOne options) ([], none) ns (lines ++ rest.0, rest.1)) whole
@@ -91,7 +95,8 @@ below_more most t (Unjudged fault) below =
     (omega (arith, below.0), omega (arith, below.1), omega (arith, below.2), omega (arith, below.3))
 
 -- what the fault of a result has, where another fact gives it
-pub err_of : {T E : Type 0} (P : T → Type 0) (Q R : E → Type 0) → ((e : E) → Q e → R e) → (r : Result T E) → MatchResult r P Q → IfErr r R
+pub err_of : {T E : Type 0} (P : T → Type 0) (Q R : E → Type 0) → ((e : E) → Q e → R e) → (r : Result T E)
+    → MatchResult r P Q → IfErr r R
 err_of P Q R give (Ok x) h = tt
 err_of P Q R give (Err e) h = give e h
 

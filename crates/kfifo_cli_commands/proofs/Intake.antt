@@ -1,6 +1,6 @@
 -- A log of which pieces were taken.
-use Rattle.std.proofs.Common.{◌≡◌, ◌≢◌, ◌∙◌, ◌++◌, ◌⊎◌, ℕ, List, [], ◌∷◌, Option, Some, None, Result, Ok, Err, IfErr, IfOk, OnOk, MatchResult}
-use Rattle.std.proofs.Common.{ap, append-nil, append_assoc, inl, inr, length, refl, subst, sym}
+use Rattle.std.proofs.Common.{◌≡◌, ◌≢◌, ◌∙◌, ◌++◌, ◌⊎◌, ℕ, List, [], ◌∷◌, Option, Some, None, Result, Ok, Err, IfErr}
+use Rattle.std.proofs.Common.{IfOk, OnOk, MatchResult, ap, append-nil, append_assoc, inl, inr, length, refl, subst, sym}
 use Rattle.std.proofs.KnownBytes.{Consumes-trans}
 use Rattle.std.specs.Io.KnownBytes.{Consumes, IsAtEnd}
 use Rattle.csv.specs.Reading.{strip_bom}
@@ -18,7 +18,8 @@ use Rattle.kfifo_cli_texts.specs.Faults.{log_fault}
 use Rattle.std.specs.Result.{IsErrAnd}
 use Rattle.kfifo_cli_commands.specs.declared.failure.Failure.{Failure}
 use Rattle.kfifo_cli_commands.proofs.Types.{Fault}
-use Rattle.kfifo_cli_commands.specs.Inputs.{HasCalls, HasNoCalls, IsCallsInput, IsCallsRefusal, IsLogFault, IsLogUnread, IsNoCalls, Leaves}
+use Rattle.kfifo_cli_commands.specs.Inputs.{HasCalls, HasNoCalls, IsCallsInput, IsCallsRefusal, IsLogFault, IsLogUnread}
+use Rattle.kfifo_cli_commands.specs.Inputs.{IsNoCalls, Leaves}
 
 -- of a log that begins with these bytes the reader has taken these, and some that the source has given
 pub record IsFed (start : List ℕ) (before now : Option (List ℕ)) (reader : LogReader) : Type 0 where
@@ -35,13 +36,15 @@ none_came None = tt
 none_came (Some given) = refl
 
 -- the bytes that the log begins with
-pub fed_first : (start : List ℕ) (input : Option (List ℕ)) (fresh reader : LogReader) → ((text : List ℕ) → IsReading fresh text text)
+pub fed_first : (start : List ℕ) (input : Option (List ℕ)) (fresh reader : LogReader)
+    → ((text : List ℕ) → IsReading fresh text text)
     → TakesPiece fresh reader start → IsFed start input input reader
 fed_first start input fresh reader begins takes =
     record { seen = []; came = none_came input; reading = λ more. takes (start ++ more) more (begins (start ++ more)) }
 
 -- one piece more
-pub fed_more : (start : List ℕ) (before now after : Option (List ℕ)) (old new : LogReader) (piece : List ℕ) → IsFed start before now old
+pub fed_more : (start : List ℕ) (before now after : Option (List ℕ)) (old new : LogReader) (piece : List ℕ)
+    → IsFed start before now old
     → Consumes now after piece → TakesPiece old new piece → IsFed start before after new
 fed_more start before now after old new piece fed came takes = record {
   seen = fed.seen ++ piece;
@@ -50,7 +53,8 @@ fed_more start before now after old new piece fed came takes = record {
       (takes (start ++ (fed.seen ++ (piece ++ more))) more (fed.reading (piece ++ more)));
 }
 
-at_end : (before after : Option (List ℕ)) (bytes : List ℕ) → Consumes before after bytes → IsAtEnd after → Leaves before bytes
+at_end : (before after : Option (List ℕ)) (bytes : List ℕ) → Consumes before after bytes → IsAtEnd after
+    → Leaves before bytes
 at_end None after bytes came ended = tt
 at_end (Some given) None bytes came ended = absurd came
 at_end (Some given) (Some rest) bytes came ended = came ∙ (ap (λ (r : List ℕ). bytes ++ r) ended ∙ append-nil bytes)
@@ -69,13 +73,15 @@ abbrev left_of : Option (List ℕ) → List ℕ
 left_of None = []
 left_of (Some given) = given
 
-all_given : (before after : Option (List ℕ)) (bytes : List ℕ) → Consumes before after bytes → Leaves before (bytes ++ left_of after)
+all_given : (before after : Option (List ℕ)) (bytes : List ℕ) → Consumes before after bytes
+    → Leaves before (bytes ++ left_of after)
 all_given None after bytes came = tt
 all_given (Some given) None bytes came = absurd came
 all_given (Some given) (Some rest) bytes came = came
 
 -- a piece is refused: the log is what was taken, and what is left
-pub fed_wrong : (start : List ℕ) (before now after : Option (List ℕ)) (reader : LogReader) (piece : List ℕ) (fault : Fault)
+pub fed_wrong : (start : List ℕ) (before now after : Option (List ℕ)) (reader : LogReader) (piece : List ℕ)
+    (fault : Fault)
     → IsFed start before now reader → Consumes now after piece
     → ((text more : List ℕ) → IsReading reader text (piece ++ more) → IsLogFault text fault)
     → (rest : List ℕ) × Leaves before rest × IsLogFault (start ++ rest) fault
@@ -88,7 +94,8 @@ fed_wrong start before now after reader piece fault fed came wrong =
     )
 
 -- the same of the bytes that the log begins with
-pub first_wrong : (start : List ℕ) (input : Option (List ℕ)) (fresh : LogReader) (fault : Fault) → ((text : List ℕ) → IsReading fresh text text)
+pub first_wrong : (start : List ℕ) (input : Option (List ℕ)) (fresh : LogReader) (fault : Fault)
+    → ((text : List ℕ) → IsReading fresh text text)
     → ((text more : List ℕ) → IsReading fresh text (start ++ more) → IsLogFault text fault)
     → (rest : List ℕ) × Leaves input rest × IsLogFault (start ++ rest) fault
 first_wrong start input fresh fault begins wrong =
@@ -96,7 +103,8 @@ first_wrong start input fresh fault begins wrong =
     (more, all_given input input [] (none_came input), wrong (start ++ more) more (begins (start ++ more)))
 
 -- a fault of the rows of a log is one of the log
-pub rows_unjudged : (text : List ℕ) (fault : ImportFault) → IsTextFault MAX_LOG_CALLS (strip_bom text) fault → IsUnjudged text fault
+pub rows_unjudged : (text : List ℕ) (fault : ImportFault) → IsTextFault MAX_LOG_CALLS (strip_bom text) fault
+    → IsUnjudged text fault
 rows_unjudged text (logs.Csv n) f = f
 rows_unjudged text logs.TooMany f = f
 rows_unjudged text (logs.NotACall n) f = f
@@ -107,9 +115,10 @@ rows_unjudged text (logs.Overlap n) f = absurd f
 rows_unjudged text logs.Memory f = tt
 
 -- what is read of a log is read of its input
-module _ (start rest : List ℕ) (before now : Option (List ℕ)) (begins : BeginsLog start) (came : Consumes before now start)
-    (left : Leaves now rest) where
-  whole_input : (before now : Option (List ℕ)) → Consumes before now start → Leaves now rest → Leaves before (start ++ rest)
+module _ (start rest : List ℕ) (before now : Option (List ℕ)) (begins : BeginsLog start)
+    (came : Consumes before now start) (left : Leaves now rest) where
+  whole_input : (before now : Option (List ℕ)) → Consumes before now start → Leaves now rest
+      → Leaves before (start ++ rest)
   whole_input None now came left = tt
   whole_input (Some given) None came left = absurd came
   whole_input (Some given) (Some more) came left = came ∙ ap (λ (r : List ℕ). start ++ r) left
@@ -151,7 +160,8 @@ err_on (Ok x) given Says is says = absurd is
 err_on (Err failure) given Says is says = subst Says (sym is) says
 
 -- a log that was not read whole has no calls
-pub log_unread : (start : List ℕ) (before now : Option (List ℕ)) (old new : ℕ) (fault : Fault) → BeginsLog start → Consumes before now start
+pub log_unread : (start : List ℕ) (before now : Option (List ℕ)) (old new : ℕ) (fault : Fault) → BeginsLog start
+    → Consumes before now start
     → IsLogUnread start now old new fault → IsCallsRefusal before old new fault
 log_unread start before now old new fault begins came (inl memory) = inl memory
 log_unread start before now old new fault begins came (inr (inl failed)) = inr (inl (failed.0, inl failed.1))

@@ -11,15 +11,18 @@ use Rattle.kfifo_draw.specs.declared.picture.DrawFault.{DrawFault}
 use Rattle.kfifo_draw.specs.declared.picture.DrawFault.TheVariants as pictures
 use Rattle.kfifo_cli_texts.specs.Faults.{picture_fault}
 use Rattle.kfifo_cli_commands.proofs.Types.{Fault}
-use Rattle.kfifo_cli_texts.specs.declared.fault.Fault.TheVariants.{Shape, Word, Order, Picks, Replay, Trace, Open, Dispatch, Input, NoInput}
-use Rattle.kfifo_cli_texts.specs.declared.fault.Fault.TheVariants.{NotJson, Record, Search, RepeatedItem, Import, TooManyDrawn}
-use Rattle.kfifo_cli_texts.specs.declared.fault.Fault.TheVariants.{Contradiction, Stretch, NoLines, NoEvidence, Unexplained, Memory, Output}
+use Rattle.kfifo_cli_texts.specs.declared.fault.Fault.TheVariants.{Shape, Word, Order, Picks, Replay, Trace, Open}
+use Rattle.kfifo_cli_texts.specs.declared.fault.Fault.TheVariants.{Dispatch, Input, NoInput, NotJson, Record, Search}
+use Rattle.kfifo_cli_texts.specs.declared.fault.Fault.TheVariants.{RepeatedItem, Import, TooManyDrawn, Contradiction}
+use Rattle.kfifo_cli_texts.specs.declared.fault.Fault.TheVariants.{Stretch, NoLines, NoEvidence, Unexplained, Memory}
+use Rattle.kfifo_cli_texts.specs.declared.fault.Fault.TheVariants.{Output}
 use Rattle.kfifo_cli_commands.specs.declared.cut.Cut.{Cut}
 use Rattle.kfifo_cli_commands.specs.declared.cut.Cut.TheVariants as cuts
 use Rattle.kfifo_judge.specs.Reasons.{named_by}
 use Rattle.kfifo_cli_commands.specs.Cuts.{IsOfLines, IsPartOf, LacksEvidence}
 use Rattle.kfifo_cli_commands.specs.Inputs.{IsCalls, IsNoCalls, logged_calls}
-use Rattle.kfifo_cli_commands.specs.Pictures.{AreCallsOf, HasAll, HasFew, HasMany, IsNoPicture, IsNotDrawn, IsPictureOf}
+use Rattle.kfifo_cli_commands.specs.Pictures.{AreCallsOf, HasManyUnnamed, HasFew, HasMany, IsNoPicture, IsNotDrawn}
+use Rattle.kfifo_cli_commands.specs.Pictures.{IsPictureOf}
 
 module _ (k : ℕ) (asked : Bool) (cut : Cut) (bytes : List ℕ) where
   -- an input that has no calls has no picture
@@ -50,13 +53,15 @@ module _ (k : ℕ) (asked : Bool) (cut : Cut) (bytes : List ℕ) where
 
   module _ (history : List Call) (logged : Option (List LoggedCall)) (calls : IsCalls bytes history logged)
       (lines : IsOfLines cut → IsSome logged) where
-    pub of_calls : (Has : Option Evidence → (ℕ → Type 0) → ℕ → Type 0) → IsPictureOf Has k asked cut history (logged_calls logged)
+    pub of_calls : (Has : Option Evidence → (ℕ → Type 0) → ℕ → Type 0)
+        → IsPictureOf Has k asked cut history (logged_calls logged)
         → AreCallsOf Has k asked cut bytes
     of_calls Has number = record { history = history; logged = logged; calls = calls; lines = lines; number = number }
 
-    pub not_drawn : (fault : Fault) → IsNotDrawn k asked cut history (logged_calls logged) fault → IsNoPicture k asked cut bytes fault
+    pub not_drawn : (fault : Fault) → IsNotDrawn k asked cut history (logged_calls logged) fault
+        → IsNoPicture k asked cut bytes fault
     not_drawn TooManyDrawn u = of_calls (HasMany asked cut) u
-    not_drawn NoEvidence u = of_calls (HasAll asked cut) u
+    not_drawn NoEvidence u = of_calls (HasManyUnnamed asked cut) u
     not_drawn Memory u = tt
     not_drawn Contradiction u = absurd u
     not_drawn Stretch u = absurd u
@@ -88,21 +93,26 @@ module _ (k : ℕ) (cut : Cut) (h : List Call) (logged : List LoggedCall) (part 
   plain_refused pictures.Memory to few = tt
 
   -- the same, where the evidence is this one
-  pub found_refused : (found : Evidence) (fault : DrawFault) → IsFirstEvidence k h found → IsPartOf (Some (named_by h found)) cut part
-      → (fault ≡ pictures.TooMany → AreMany (IsInPart h logged part) (length h)) → IsNotDrawn k true cut h logged (picture_fault fault)
+  pub found_refused : (found : Evidence) (fault : DrawFault) → IsFirstEvidence k h found
+      → IsPartOf (Some (named_by h found)) cut part
+      → (fault ≡ pictures.TooMany → AreMany (IsInPart h logged part) (length h))
+      → IsNotDrawn k true cut h logged (picture_fault fault)
   found_refused found pictures.TooMany first to many =
       record { found = Some found; sought = first; part = part; cut_to = to; drawn = (many refl, λ lacks. lacks) }
   found_refused found pictures.Memory first to many = tt
 
-none_drawn : (Has : Option Evidence → (ℕ → Type 0) → ℕ → Type 0) (k : ℕ) (cut : Cut) (h : List Call) (logged : List LoggedCall)
+none_drawn : (Has : Option Evidence → (ℕ → Type 0) → ℕ → Type 0) (k : ℕ) (cut : Cut) (h : List Call)
+    (logged : List LoggedCall)
     (part : Part) → HasNoEvidence k h → IsPartOf None cut part → Has None (IsInPart h logged part) (length h)
     → IsPictureOf Has k true cut h logged
 none_drawn Has k cut h logged part none to drawn =
     record { found = None; sought = none; part = part; cut_to = to; drawn = drawn }
 
 -- the same, where there is none
-pub none_refused : (k : ℕ) (cut : Cut) (h : List Call) (logged : List LoggedCall) (part : Part) (fault : DrawFault) (told : Fault)
-    → HasNoEvidence k h → IsPartOf None cut part → (fault ≡ pictures.TooMany → AreMany (IsInPart h logged part) (length h))
+pub none_refused : (k : ℕ) (cut : Cut) (h : List Call) (logged : List LoggedCall) (part : Part) (fault : DrawFault)
+    (told : Fault)
+    → HasNoEvidence k h → IsPartOf None cut part
+    → (fault ≡ pictures.TooMany → AreMany (IsInPart h logged part) (length h))
     → (fault ≡ pictures.Memory → told ≡ Memory)
     → (fault ≡ pictures.TooMany → LacksEvidence true None cut → told ≡ NoEvidence)
     → (fault ≡ pictures.TooMany → ¬ (LacksEvidence true None cut) → told ≡ TooManyDrawn)
@@ -111,7 +121,8 @@ none_refused k cut h logged part pictures.Memory told none to many memory lacks 
     subst (λ f. IsNotDrawn k true cut h logged f) (sym (memory refl)) tt
 none_refused k (cuts.Evidence around) h logged part pictures.TooMany told none to many memory lacks has =
     subst (λ f. IsNotDrawn k true (cuts.Evidence around) h logged f) (sym (lacks refl tt))
-    (none_drawn (HasAll true (cuts.Evidence around)) k (cuts.Evidence around) h logged part none to (many refl, tt))
+    (none_drawn (HasManyUnnamed true (cuts.Evidence around)) k (cuts.Evidence around) h logged part none to
+    (many refl, tt))
 none_refused k cuts.Whole h logged part pictures.TooMany told none to many memory lacks has =
     subst (λ f. IsNotDrawn k true cuts.Whole h logged f) (sym (has refl (λ l. l)))
     (none_drawn (HasMany true cuts.Whole) k cuts.Whole h logged part none to (many refl, λ l. l))

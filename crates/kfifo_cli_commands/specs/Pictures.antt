@@ -33,8 +33,8 @@ abbrev pub HasMany : Bool → Cut → Option Evidence → (ℕ → Type 0) → �
 HasMany asked cut found P n = AreMany P n × ¬ (LacksEvidence asked found cut)
 
 -- P holds of too many calls, since no evidence says which of them are asked for
-abbrev pub HasAll : Bool → Cut → Option Evidence → (ℕ → Type 0) → ℕ → Type 0
-HasAll asked cut found P n = AreMany P n × LacksEvidence asked found cut
+abbrev pub HasManyUnnamed : Bool → Cut → Option Evidence → (ℕ → Type 0) → ℕ → Type 0
+HasManyUnnamed asked cut found P n = AreMany P n × LacksEvidence asked found cut
 
 -- The number of the calls to be drawn: `Has` says of the evidence, of a fact and of how many calls there are whether it
 -- holds of few or of many.
@@ -49,7 +49,7 @@ pub record IsPictureOf (Has : Option Evidence → (ℕ → Type 0) → ℕ → T
 -- why these calls of a history are not drawn
 abbrev pub IsNotDrawn : ℕ → Bool → Cut → List Call → List LoggedCall → Fault → Type 0
 IsNotDrawn k asked cut h logged TooManyDrawn = IsPictureOf (HasMany asked cut) k asked cut h logged
-IsNotDrawn k asked cut h logged NoEvidence = IsPictureOf (HasAll asked cut) k asked cut h logged
+IsNotDrawn k asked cut h logged NoEvidence = IsPictureOf (HasManyUnnamed asked cut) k asked cut h logged
 IsNotDrawn k asked cut h logged Memory = Unit {0}
 IsNotDrawn k asked cut h logged _ = ⊥
 
@@ -74,7 +74,7 @@ IsNoPicture k asked cut bytes (Record fault) = IsNoCalls bytes (Record fault)
 IsNoPicture k asked cut bytes (Import fault) = IsNoCalls bytes (Import fault)
 IsNoPicture k asked cut bytes NoLines = IsOfLines cut × BeginsRecord bytes
 IsNoPicture k asked cut bytes TooManyDrawn = AreCallsOf (HasMany asked cut) k asked cut bytes
-IsNoPicture k asked cut bytes NoEvidence = AreCallsOf (HasAll asked cut) k asked cut bytes
+IsNoPicture k asked cut bytes NoEvidence = AreCallsOf (HasManyUnnamed asked cut) k asked cut bytes
 IsNoPicture k asked cut bytes Memory = Unit {0}
 IsNoPicture k asked cut bytes _ = ⊥
 

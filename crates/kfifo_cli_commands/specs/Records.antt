@@ -1,6 +1,6 @@
 -- What the commands `check` and `measure` come to, by their options, their input and its failed reads.
-use Rattle.std.specs.Prelude.{◌≡◌, ◌≢◌, ◌⊎◌, ◌<◌, ◌≤◌, ℕ, List, [], Option, Some, None, IfSome, Result, MatchResult, length}
-use Rattle.std.specs.Prelude.{option_map}
+use Rattle.std.specs.Prelude.{◌≡◌, ◌≢◌, ◌⊎◌, ◌<◌, ◌≤◌, ℕ, List, [], Option, Some, None, IfSome, Result, MatchResult}
+use Rattle.std.specs.Prelude.{length, option_map}
 use Rattle.kfifo_judge.specs.declared.streams.TheConstants.{MAX_BYTES}
 use Rattle.kfifo_judge.specs.declared.outcome.Outcome.{Outcome}
 use Rattle.kfifo_judge.specs.declared.streams.ReadFault.{ReadFault}

@@ -26,7 +26,7 @@ IsBelow most t = (t.legal < most) × (t.unordered < most) × (t.undecided < most
 
 -- the status where so many files have no order, no verdict, and neither an order nor evidence
 abbrev pub status_by : ℕ → ℕ → ℕ → Status
-status_by (suc n) unjudged undecided = statuses.Unordered
+status_by (suc n) unjudged undecided = statuses.Failed
 status_by zero (suc n) undecided = statuses.Failed
 status_by zero zero (suc n) = statuses.Undecided
 status_by zero zero zero = statuses.Answered

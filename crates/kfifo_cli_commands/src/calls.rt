@@ -82,10 +82,10 @@ pub(crate) fn read_calls_named<H: Files, P: Progress>(
     }
 }
 
-/// The calls of a source with this name. Where its first byte that is no white space is `[` it is a record in JSON, read
-/// as `check` reads it and with its faults; else it is a log in CSV, read as `import` reads it and with its faults,
-/// except that a get of an item that no call can put is none. An input of white space alone is a log that lacks its
-/// header. One with no byte is neither: the command before it in a pipe has probably failed.
+/// The calls of a source with this name. Where its first byte that is no white space is `[` it is a record in JSON,
+/// read as `check` reads it and with its faults; else it is a log in CSV, read as `import` reads it and with its
+/// faults, except that a get of an item that no call can put is none. An input of white space alone is a log that lacks
+/// its header. One with no byte is neither: the command before it in a pipe has probably failed.
 ///
 /// Of a log no more than the lines is kept, and of no input anything but the calls: what is made of them takes much
 /// memory. A log is read up to its first line that is at fault.

@@ -19,5 +19,5 @@ mod tracing;
 pub use ending::{Notice, carry_out, end_with_fault, end_with_text};
 pub use failure::{Detail, Failure};
 pub use progress::{Notes, Progress, Silent, Stage};
-pub use start::{Prompting, Showing, Started, start as start_program};
+pub use start::{ProgressLine, Prompting, Started, start as start_program};
 pub use status::Status;

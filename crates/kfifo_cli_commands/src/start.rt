@@ -32,7 +32,7 @@ pub struct Started<'a> {
     pub faults: Stderr,
     /// Shows on standard error how far work of over a second has come, if that is a terminal, and what is wrong where
     /// there is a fault.
-    pub progress: Showing<'a, HostRuntime, Stderr>,
+    pub progress: ProgressLine<'a, HostRuntime, Stderr>,
 }
 
 /// Returns what this process was started with. If an argument is not UTF-8, or memory runs out for the arguments, it
@@ -52,7 +52,7 @@ pub fn start(streams: &HostRuntime) -> Result<Started<'_>, u8> {
         input: Prompting::new(reader, hint),
         output: streams.stdout(),
         faults,
-        progress: Showing::new(
+        progress: ProgressLine::new(
             streams,
             Instant::now(streams).ok(),
             screen,
@@ -111,7 +111,7 @@ impl<R: Read, W: Write + Drop> Read for Prompting<R, W> {
 /// Shows how far work has come, on a line of its own that is written anew each time, where there is a screen and a
 /// second has gone by. Behind the line of a fault it says what is wrong, in words.
 #[derive(Drop)]
-pub struct Showing<'a, C, W> {
+pub struct ProgressLine<'a, C, W> {
     clock: &'a C,
     begun: Option<Instant>,
     screen: Option<W>,
@@ -119,7 +119,7 @@ pub struct Showing<'a, C, W> {
     shown: bool,
 }
 
-impl<'a, C: Clock, W: Write> Showing<'a, C, W> {
+impl<'a, C: Clock, W: Write> ProgressLine<'a, C, W> {
     /// For work that began then. If the clock could not tell when, no progress is shown. What is wrong goes to the
     /// notes.
     pub fn new(
@@ -127,8 +127,8 @@ impl<'a, C: Clock, W: Write> Showing<'a, C, W> {
         begun: Option<Instant>,
         screen: Option<W>,
         notes: W,
-    ) -> Showing<'a, C, W> {
-        Showing {
+    ) -> ProgressLine<'a, C, W> {
+        ProgressLine {
             clock,
             begun,
             screen,
@@ -149,7 +149,7 @@ impl<'a, C: Clock, W: Write> Showing<'a, C, W> {
     }
 }
 
-impl<C: Clock, W: Write> Progress for Showing<'_, C, W> {
+impl<C: Clock, W: Write> Progress for ProgressLine<'_, C, W> {
     fn told(&mut self, made: u64, all: u64) {
         if !self.is_due() {
             return;
@@ -191,7 +191,7 @@ impl<C: Clock, W: Write> Progress for Showing<'_, C, W> {
     }
 }
 
-impl<C: Clock, W: Write> Notes for Showing<'_, C, W> {
+impl<C: Clock, W: Write> Notes for ProgressLine<'_, C, W> {
     fn explained(&mut self, lines: &str) {
         // Lines that cannot be written change nothing.
         let _ = self.notes.write_all(lines.as_bytes());

@@ -59,15 +59,12 @@ impl Tally {
         tally
     }
 
-    /// The status for all of them: that a file has no order, which is certain whatever the others have; else that one
-    /// has no verdict; else that one is undecided.
+    /// The status for all of them: Failed if a file has no order or no verdict, else Undecided if one is.
     pub(crate) fn status(self) -> Status
         ensures known { result ≡ tally_status self }
         ensures status { result ≢ Status.Misused }
     {
-        if self.unordered > 0 {
-            Status::Unordered
-        } else if self.unjudged > 0 {
+        if self.unordered > 0 || self.unjudged > 0 {
             Status::Failed
         } else if self.undecided > 0 {
             Status::Undecided

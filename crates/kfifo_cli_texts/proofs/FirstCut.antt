@@ -1,5 +1,6 @@
 -- Where a text is cut: at the first such byte, and nowhere else.
-use Rattle.std.proofs.Common.{◌≡◌, ◌≢◌, ℕ, zero, suc, List, [], ◌∷◌, ◌++◌, get_or, EachIndex, inl, inr, arith, refl, sym, ◌∙◌, ◌⊎◌}
+use Rattle.std.proofs.Common.{◌≡◌, ◌≢◌, ℕ, zero, suc, List, [], ◌∷◌, ◌++◌, get_or, EachIndex, inl, inr, arith, refl}
+use Rattle.std.proofs.Common.{sym, ◌∙◌, ◌⊎◌}
 
 module _ (mark : ℕ) where
   -- no byte is that one

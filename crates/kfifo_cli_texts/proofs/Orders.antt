@@ -1,8 +1,9 @@
 -- Orders that were read so far.
-use Rattle.std.proofs.Common.{◌≡◌, ◌≢◌, ℕ, inl, inr, ◌⊎◌, Result, Ok, Err, MatchResult, codes, List, [], ◌∷◌, map, Bor, sym, subst, ap, ◌∙◌}
-use Rattle.std.proofs.Common.{refl}
+use Rattle.std.proofs.Common.{◌≡◌, ◌≢◌, ℕ, inl, inr, ◌⊎◌, Result, Ok, Err, MatchResult, codes, List, [], ◌∷◌, map, Bor}
+use Rattle.std.proofs.Common.{sym, subst, ap, ◌∙◌, refl}
 use Rattle.kfifo_cli_texts.proofs.Each.{texts_by}
-use Rattle.kfifo_cli_texts.specs.Orders.{GivesNoOrder, GivesOrder, WriteNumbers, WritesOrder, WritesSpacedOrder, comma_parts, trimmed}
+use Rattle.kfifo_cli_texts.specs.Orders.{GivesNoOrder, GivesOrder, WriteNumbers, WritesOrder, WritesSpacedOrder}
+use Rattle.kfifo_cli_texts.specs.Orders.{comma_parts, trimmed}
 use Rattle.kfifo_cli_texts.specs.Scripts.{texts_of}
 use Rattle.std.specs.Str.{IsTrimAscii, IsUtf8}
 use Rattle.std.proofs.lemmas.Str.Ascii.{trim_ascii_is}
@@ -10,7 +11,8 @@ use Rattle.kfifo_cli_texts.specs.declared.fault.Fault.{Fault}
 use Rattle.kfifo_cli_texts.specs.declared.fault.Fault.TheVariants.{Memory, Order}
 
 -- what is known of the numbers of the parts is known of the order
-pub order_told : {V : Type 0} (items : V → List ℕ) (text : List ℕ) (words : List (Bor (List ℕ))) (r : Result V Fault) → text ≢ codes "none"
+pub order_told : {V : Type 0} (items : V → List ℕ) (text : List ℕ) (words : List (Bor (List ℕ))) (r : Result V Fault)
+    → text ≢ codes "none"
     → texts_of words ≡ comma_parts text
     → MatchResult r (λ v. WriteNumbers (texts_of words) (items v))
     (λ fault. (fault ≡ Memory) ⊎ ((fault ≡ Order) × ((numbers : List ℕ) → WriteNumbers (texts_of words) numbers → ⊥)))
@@ -29,11 +31,13 @@ spaced_texts [] = refl
 spaced_texts (word ∷ words) = ap (λ (ts : List (List ℕ)). trimmed word.now ∷ ts) (spaced_texts words)
 
 -- the same for the bytes of a file
-pub spaced_told : {V : Type 0} (items : V → List ℕ) (bytes text : List ℕ) (words : List (Bor (List ℕ))) (r : Result V Fault) → bytes ≡ text
+pub spaced_told : {V : Type 0} (items : V → List ℕ) (bytes text : List ℕ) (words : List (Bor (List ℕ)))
+    (r : Result V Fault) → bytes ≡ text
     → IsUtf8 bytes → trimmed text ≢ codes "none"
     → texts_of words ≡ comma_parts text
     → MatchResult r (λ v. WriteNumbers (texts_by trimmed words) (items v))
-    (λ fault. (fault ≡ Memory) ⊎ ((fault ≡ Order) × ((numbers : List ℕ) → WriteNumbers (texts_by trimmed words) numbers → ⊥)))
+    (λ fault. (fault ≡ Memory)
+    ⊎ ((fault ≡ Order) × ((numbers : List ℕ) → WriteNumbers (texts_by trimmed words) numbers → ⊥)))
     → MatchResult r (λ v. WritesSpacedOrder bytes (items v))
     (λ fault. (fault ≡ Memory) ⊎ ((fault ≡ Order) × ((order : List ℕ) → WritesSpacedOrder bytes order → ⊥)))
 spaced_told {V = V} items bytes text words r same utf8 some parts h = cases r h
@@ -44,7 +48,8 @@ spaced_told {V = V} items bytes text words r same utf8 some parts h = cases r h
 
     cases : (r : Result V Fault)
         → MatchResult r (λ v. WriteNumbers (texts_by trimmed words) (items v))
-        (λ fault. (fault ≡ Memory) ⊎ ((fault ≡ Order) × ((numbers : List ℕ) → WriteNumbers (texts_by trimmed words) numbers → ⊥)))
+        (λ fault. (fault ≡ Memory)
+        ⊎ ((fault ≡ Order) × ((numbers : List ℕ) → WriteNumbers (texts_by trimmed words) numbers → ⊥)))
         → MatchResult r (λ v. WritesSpacedOrder bytes (items v))
         (λ fault. (fault ≡ Memory) ⊎ ((fault ≡ Order) × ((order : List ℕ) → WritesSpacedOrder bytes order → ⊥)))
     cases (Ok v) h = (utf8, inr (subst (λ t. WriteNumbers t (items v)) all_parts h))

@@ -1,5 +1,6 @@
 -- A stretch is cut at its first hyphen.
-use Rattle.std.proofs.Common.{◌≡◌, ℕ, ◌<◌, ◌≤◌, List, [], ◌∷◌, ◌++◌, inl, inr, arith, refl, sym, ◌∙◌, subst, ap, append-nil}
+use Rattle.std.proofs.Common.{◌≡◌, ℕ, ◌<◌, ◌≤◌, List, [], ◌∷◌, ◌++◌, inl, inr, arith, refl, sym, ◌∙◌, subst, ap}
+use Rattle.std.proofs.Common.{append-nil}
 use Rattle.std.proofs.lemmas.Str.Parse.{not_in_digits}
 use Rattle.kfifo_cli_texts.specs.declared.stretch.Stretch.{Stretch}
 use Rattle.kfifo_cli_texts.specs.Stretches.{WritesStretch}
@@ -13,7 +14,8 @@ digits_plain number n w = not_in_digits own number 45 w.digits (λ h. omega (ari
 -- a text with no hyphen writes no stretch
 pub no_hyphen : (text : List ℕ) → IsPlain 45 text → (s : Stretch) → WritesStretch text s → ⊥
 no_hyphen text plain s w =
-    let cut = cut_once 45 text [] w.first (45 ∷ w.last) plain (digits_plain w.first s.first w.first_written) (inl refl) (inr (w.last, refl))
+    let cut = cut_once 45 text [] w.first (45 ∷ w.last) plain (digits_plain w.first s.first w.first_written) (inl refl)
+    (inr (w.last, refl))
     (append-nil text ∙ w.split) in
     let bad : [] ≡ 45 ∷ w.last = cut.1 in
     cc
@@ -21,7 +23,8 @@ no_hyphen text plain s w =
 module _ (text before behind : List ℕ) (split : text ≡ before ++ 45 ∷ behind) (plain : IsPlain 45 before) where
   cut_same : (s : Stretch) (w : WritesStretch text s) → (w.first ≡ before) × (w.last ≡ behind)
   cut_same s w =
-      let cut = cut_once 45 w.first (45 ∷ w.last) before (45 ∷ behind) (digits_plain w.first s.first w.first_written) plain
+      let cut = cut_once 45 w.first (45 ∷ w.last) before (45 ∷ behind) (digits_plain w.first s.first w.first_written)
+      plain
       (inr (w.last, refl)) (inr (behind, refl)) (sym w.split ∙ split) in
       let rests : 45 ∷ w.last ≡ 45 ∷ behind = cut.1 in
       let tails : w.last ≡ behind = cc in

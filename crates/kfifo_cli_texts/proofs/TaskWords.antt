@@ -1,5 +1,6 @@
 -- Where the word of a task is cut: at its first colon, and what is behind it at the next.
-use Rattle.std.proofs.Common.{◌≡◌, ℕ, ◌<◌, ◌≤◌, ◌^◌, List, [], ◌∷◌, ◌++◌, inl, inr, arith, refl, sym, ◌∙◌, subst, append-nil}
+use Rattle.std.proofs.Common.{◌≡◌, ℕ, ◌<◌, ◌≤◌, ◌^◌, List, [], ◌∷◌, ◌++◌, inl, inr, arith, refl, sym, ◌∙◌, subst}
+use Rattle.std.proofs.Common.{append-nil}
 use Rattle.std.proofs.lemmas.Str.Parse.{not_in_digits}
 use Rattle.kfifo_dispatch.specs.declared.task.Task.{Task}
 use Rattle.kfifo_cli_texts.specs.Tasks.{WritesTask}
@@ -27,27 +28,34 @@ no_cut text b s plain pb e =
 
 -- a word with no colon writes no task
 pub no_colon : (word : List ℕ) → IsPlain 58 word → (task : Task) → WritesTask word task → ⊥
-no_colon word plain task w = no_cut word w.id (w.left ++ 58 ∷ w.sum) plain (digits_plain w.id task.id w.id_written) w.split
+no_colon word plain task w = no_cut word w.id (w.left ++ 58 ∷ w.sum) plain (digits_plain w.id task.id w.id_written)
+    w.split
 
 module _ (word id rest : List ℕ) (split : word ≡ id ++ 58 ∷ rest) (plain : IsPlain 58 id) where
   first_cut : (task : Task) (w : WritesTask word task) → (w.id ≡ id) × (w.left ++ 58 ∷ w.sum ≡ rest)
-  first_cut task w = cut_same w.id (w.left ++ 58 ∷ w.sum) id rest (digits_plain w.id task.id w.id_written) plain (sym w.split ∙ split)
+  first_cut task w = cut_same w.id (w.left ++ 58 ∷ w.sum) id rest (digits_plain w.id task.id w.id_written) plain
+      (sym w.split ∙ split)
 
   -- nor does one with a single colon
   pub one_colon : IsPlain 58 rest → (task : Task) → WritesTask word task → ⊥
-  one_colon none task w = no_cut rest w.left w.sum none (digits_plain w.left task.left w.left_written) (sym (first_cut task w).1)
+  one_colon none task w = no_cut rest w.left w.sum none (digits_plain w.left task.left w.left_written)
+      (sym (first_cut task w).1)
 
   module _ (left sum : List ℕ) (more : rest ≡ left ++ 58 ∷ sum) (bare : IsPlain 58 left) where
     second_cut : (task : Task) (w : WritesTask word task) → (w.left ≡ left) × (w.sum ≡ sum)
-    second_cut task w = cut_same w.left w.sum left sum (digits_plain w.left task.left w.left_written) bare ((first_cut task w).1 ∙ more)
+    second_cut task w = cut_same w.left w.sum left sum (digits_plain w.left task.left w.left_written) bare
+        ((first_cut task w).1 ∙ more)
 
     -- nor does one of which a part writes no number that fits
     pub no_id : ((n : ℕ) → 0 ≤ n → n < 2 ^ 32 → WritesNumber id n → ⊥) → (task : Task) → WritesTask word task → ⊥
-    no_id none task w = none task.id (omega arith) w.id_fits (subst (λ t. WritesNumber t task.id) (first_cut task w).0 w.id_written)
+    no_id none task w =
+        none task.id (omega arith) w.id_fits (subst (λ t. WritesNumber t task.id) (first_cut task w).0 w.id_written)
 
     pub no_left : ((n : ℕ) → 0 ≤ n → n < 2 ^ 16 → WritesNumber left n → ⊥) → (task : Task) → WritesTask word task → ⊥
     no_left none task w = none task.left (omega arith) w.left_fits
         (subst (λ t. WritesNumber t task.left) (second_cut task w).0 w.left_written)
 
     pub no_sum : ((n : ℕ) → 0 ≤ n → n < 2 ^ 32 → WritesNumber sum n → ⊥) → (task : Task) → WritesTask word task → ⊥
-    no_sum none task w = none task.sum (omega arith) w.sum_fits (subst (λ t. WritesNumber t task.sum) (second_cut task w).1 w.sum_written)
+    no_sum none task w =
+        none task.sum (omega arith) w.sum_fits (subst (λ t. WritesNumber t task.sum) (second_cut task w).1
+        w.sum_written)

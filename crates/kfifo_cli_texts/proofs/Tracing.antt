@@ -1,5 +1,6 @@
 -- A trace has one line more.
-use Rattle.std.proofs.Common.{◌≡◌, ◌∙◌, ℕ, suc, ◌+◌, ◌<◌, List, [], ◌∷◌, ◌++◌, length, take, get_or, append_assoc, sym, ap, arith, add-one}
+use Rattle.std.proofs.Common.{◌≡◌, ◌∙◌, ℕ, suc, ◌+◌, ◌<◌, List, [], ◌∷◌, ◌++◌, length, take, get_or, append_assoc, sym}
+use Rattle.std.proofs.Common.{ap, arith, add-one}
 use Rattle.std.proofs.lemmas.List.{append-nil, length-take-le}
 use Rattle.std.proofs.Math.Seq.{take-suc}
 use Rattle.kfifo_replay.specs.declared.steps.Step.{Step}
@@ -14,11 +15,13 @@ one_more k first [] s =
 one_more k first (x ∷ steps) s =
     let places : (first + 1) + length steps ≡ first + suc (length steps) = omega arith in
     ap (λ t. step_line k first x ++ t) (one_more k (first + 1) steps s)
-    ∙ (sym (append_assoc (step_line k first x) (trace_lines k (first + 1) steps) (step_line k ((first + 1) + length steps) s))
+    ∙ (sym (append_assoc (step_line k first x) (trace_lines k (first + 1) steps)
+    (step_line k ((first + 1) + length steps) s))
     ∙ ap (λ n. (step_line k first x ++ trace_lines k (first + 1) steps) ++ step_line k n s) places)
 
 -- the line of the next step is added to a text
-pub next_line : (k : ℕ) (steps : List Step) (i : ℕ) (s : Step) (start before after : List ℕ) → i < length steps → s ≡ get_or steps i s
+pub next_line : (k : ℕ) (steps : List Step) (i : ℕ) (s : Step) (start before after : List ℕ) → i < length steps
+    → s ≡ get_or steps i s
     → before ≡ start ++ trace_lines k 0 (take i steps) → after ≡ before ++ step_line k i s
     → after ≡ start ++ trace_lines k 0 (take (i + 1) steps)
 next_line k steps i s start before after inside is earlier now =
@@ -27,6 +30,7 @@ next_line k steps i s start before after inside is earlier now =
     let next : take (i + 1) steps ≡ take i steps ++ s ∷ [] =
     rw add-one (take-suc steps i s inside ∙ ap (λ x. take i steps ++ x ∷ []) (sym is)) in
     let lines : trace_lines k 0 (take (i + 1) steps) ≡ trace_lines k 0 (take i steps) ++ step_line k i s =
-    ap (trace_lines k 0) next ∙ (one_more k 0 (take i steps) s ∙ ap (λ n. trace_lines k 0 (take i steps) ++ step_line k n s) size) in
+    ap (trace_lines k 0) next
+    ∙ (one_more k 0 (take i steps) s ∙ ap (λ n. trace_lines k 0 (take i steps) ++ step_line k n s) size) in
     now ∙ (ap (λ t. t ++ step_line k i s) earlier
     ∙ (append_assoc start (trace_lines k 0 (take i steps)) (step_line k i s) ∙ ap (λ t. start ++ t) (sym lines)))

@@ -20,16 +20,20 @@ none_again id (task ∷ tasks) none = elim (cases_Bool (id == task.id)) [
 ]
 
 -- the first task's number comes again
-pub of_first : (tasks rest : List Task) (first : Task) → tasks ≡ first ∷ rest → list_any (λ (t : Task). first.id == t.id) rest ≡ true
+pub of_first : (tasks rest : List Task) (first : Task) → tasks ≡ first ∷ rest
+    → list_any (λ (t : Task). first.id == t.id) rest ≡ true
     → HasRepeatedId tasks
-of_first tasks rest first is found = rw is (λ apart. again first.id rest found (IsDistinct-head (λ a b. a == b) first.id (ids rest) apart))
+of_first tasks rest first is found =
+    rw is (λ apart. again first.id rest found (IsDistinct-head (λ a b. a == b) first.id (ids rest) apart))
 
 -- a later task's number comes again
 pub of_later : (tasks rest : List Task) (first : Task) → tasks ≡ first ∷ rest → HasRepeatedId rest → HasRepeatedId tasks
-of_later tasks rest first is repeated = rw is (λ apart. repeated (IsDistinct-tail (λ a b. a == b) first.id (ids rest) apart))
+of_later tasks rest first is repeated =
+    rw is (λ apart. repeated (IsDistinct-tail (λ a b. a == b) first.id (ids rest) apart))
 
 -- no number comes again
-pub of_none : (tasks rest : List Task) (first : Task) → tasks ≡ first ∷ rest → list_any (λ (t : Task). first.id == t.id) rest ≡ false
+pub of_none : (tasks rest : List Task) (first : Task) → tasks ≡ first ∷ rest
+    → list_any (λ (t : Task). first.id == t.id) rest ≡ false
     → (HasRepeatedId rest → ⊥) → HasRepeatedId tasks → ⊥
 of_none tasks rest first is none apart repeated =
     apart (λ distinct. subst HasRepeatedId is repeated

@@ -98,7 +98,8 @@ module _ {S : Type 0} (Told : ℕ → Type 0) (Gives : S → JobView → ℕ →
   abbrev pub GivesAll : ℕ → ℕ → List Task → S → S → List ℕ → Type 0
   GivesAll turns place [] s t kept = (t ≡ s) × (kept ≡ [])
   GivesAll turns place (task ∷ tasks) s t kept = (u : S) × (answer : Given JobView) × (later : List ℕ)
-      × Gives s (begun place task) 0 turns answer u × TellsOfKept Told answer × GivesAll turns (suc place) tasks u t later
+      × Gives s (begun place task) 0 turns answer u × TellsOfKept Told answer
+      × GivesAll turns (suc place) tasks u t later
       × (kept ≡ kept_after answer ++ later)
 
 -- each of the first list is so to its counterpart in the second, and there are as many

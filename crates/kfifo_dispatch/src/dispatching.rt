@@ -238,7 +238,8 @@ fn run_at_station<L: Tasks, G: WorkGate, P: Station<Job<L>, G> + Drop>(
     requires shape { queue.now.opened.shape ≡ shape }
     ensures same { IsSamePass (P.known pass) (P.known result.pass) }
     ensures runs { IfOk result.kept (λ kept. Runs (P.passes gate.now)
-        (λ s. TellsOf (G.told gate.now) L.tasks (P.known s).thread) P.takes P.gives shape seed (P.known pass).thread pass result.pass (map (λ done. done.place) kept.items)) }
+        (λ s. TellsOf (G.told gate.now) L.tasks (P.known s).thread) P.takes P.gives shape seed (P.known pass).thread pass
+        result.pass (map (λ done. done.place) kept.items)) }
 {
     let starts = Starts::new(seed, pass.worker(), shape.k());
     let turns = turns(shape);

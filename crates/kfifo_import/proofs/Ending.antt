@@ -1,6 +1,6 @@
 -- The ends of a log's calls, call by call: they are all ends, in any order of them.
-use Rattle.std.proofs.Common.{ℕ, zero, suc, ◌≡◌, ◌+◌, ◌<◌, ◌≤◌, true, false, List, [], ◌∷◌, ◌++◌, Option, Some, None, length, count_by}
-use Rattle.std.proofs.Common.{is_some, refl, sym, ◌∙◌, ap, subst, inl, inr, arith, length-append}
+use Rattle.std.proofs.Common.{ℕ, zero, suc, ◌≡◌, ◌+◌, ◌<◌, ◌≤◌, true, false, List, [], ◌∷◌, ◌++◌, Option, Some, None}
+use Rattle.std.proofs.Common.{length, count_by, is_some, refl, sym, ◌∙◌, ap, subst, inl, inr, arith, length-append}
 use Rattle.std.specs.List.{Contains}
 use Rattle.std.specs.List.Sorted.{IsPermutation}
 use Rattle.std.proofs.lemmas.Bool.{cases_eq}
@@ -20,19 +20,24 @@ IsEnd l end = (end.number < length l) × (end ≡ end_of l end.number)
 pub no_ends : (l : List Call) → AreEndsTo l [] 0
 no_ends l = record { each = All-nil (IsEnd l); all = λ m lt. absurd (omega arith); count = refl }
 
-pub one_end : (l : List Call) (ends : List Moment) (n : ℕ) → n < length l → AreEndsTo l ends n → is_some (end_at l n) ≡ true
+pub one_end : (l : List Call) (ends : List Moment) (n : ℕ) → n < length l → AreEndsTo l ends n
+    → is_some (end_at l n) ≡ true
     → AreEndsTo l (ends ++ end_of l n ∷ []) (n + 1)
 one_end l ends n lt was is = record {
-  each = All-append (IsEnd l) ends (end_of l n ∷ []) was.each (All-cons (IsEnd l) (end_of l n) [] (lt, refl) (All-nil (IsEnd l)));
+  each = All-append (IsEnd l) ends (end_of l n ∷ []) was.each
+      (All-cons (IsEnd l) (end_of l n) [] (lt, refl) (All-nil (IsEnd l)));
   all = λ m less h. elim (cases_eq m n) [
-    | inl same ↦ subst (λ x. Contains (ends ++ end_of l n ∷ []) (end_of l x)) (sym same) (Contains-push ends (end_of l n))
+    | inl same ↦ subst (λ x. Contains (ends ++ end_of l n ∷ []) (end_of l x)) (sym same)
+        (Contains-push ends (end_of l n))
     | inr ne ↦ Contains-append_left ends (end_of l n ∷ []) (end_of l m) (was.all m (omega arith) h)
   ];
-  count = let a = length-append ends (end_of l n ∷ []) in let b = count_by_more_yes (λ c. is_some c.end) l n no_call lt is in let e = was.count in
+  count = let a = length-append ends (end_of l n ∷ []) in
+      let b = count_by_more_yes (λ c. is_some c.end) l n no_call lt is in let e = was.count in
       omega (arith, a, b, e);
 }
 
-pub no_end : (l : List Call) (ends : List Moment) (n : ℕ) → n < length l → AreEndsTo l ends n → is_some (end_at l n) ≡ false
+pub no_end : (l : List Call) (ends : List Moment) (n : ℕ) → n < length l → AreEndsTo l ends n
+    → is_some (end_at l n) ≡ false
     → AreEndsTo l ends (n + 1)
 no_end l ends n lt was is = record {
   each = was.each;
@@ -59,7 +64,8 @@ all_ends l ends n le was = record {
     inside (c ∷ l) zero h = omega arith
     inside (c ∷ l) (suc m) h = let r = inside l m h in omega arith
 
-pub ends_moved : (l : List Call) (ends moved : List Moment) → IsPermutation ends moved → AreEnds l ends → AreEnds l moved
+pub ends_moved : (l : List Call) (ends moved : List Moment) → IsPermutation ends moved → AreEnds l ends
+    → AreEnds l moved
 ends_moved l ends moved p a = record {
   each = All-permutation (IsEnd l) ends moved p a.each;
   all = λ m h. Contains-permutation ends moved (end_of l m) p (a.all m h);

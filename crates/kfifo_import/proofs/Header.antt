@@ -15,7 +15,8 @@ module _ (fields : List (List ℕ)) (name : List ℕ) where
   found_none = λ k below. absurd (omega (arith, below))
 
   -- the place n does not have the name
-  pub found_same : (n : ℕ) (found : Option ℕ) → IsFound n found → ¬ (field_at fields n ≡ Some name) → IsFound (n + 1) found
+  pub found_same : (n : ℕ) (found : Option ℕ) → IsFound n found → ¬ (field_at fields n ≡ Some name)
+      → IsFound (n + 1) found
   found_same n None h away = λ k below is. elim (cases_lt k n) [
     | inl before ↦ h k before is
     | inr from ↦ (let e : k ≡ n = omega (arith, below, from) in away (subst (λ x. field_at fields x ≡ Some name) e is))
@@ -25,7 +26,9 @@ module _ (fields : List (List ℕ)) (name : List ℕ) where
     omega (arith, h.1),
     λ k below is. elim (cases_lt k n) [
       | inl before ↦ h.2 k before is
-      | inr from ↦ (let e : k ≡ n = omega (arith, below, from) in absurd (away (subst (λ x. field_at fields x ≡ Some name) e is)))
+      | inr from ↦
+          (let e : k ≡ n =
+          omega (arith, below, from) in absurd (away (subst (λ x. field_at fields x ≡ Some name) e is)))
     ],
   )
 
@@ -41,7 +44,8 @@ module _ (fields : List (List ℕ)) (name : List ℕ) where
   )
 
   -- it is the second: no place is the only one
-  pub found_twice : (n first place : ℕ) → IsFound n (Some first) → field_at fields n ≡ Some name → ¬ (IsOnlyAt fields name place)
+  pub found_twice : (n first place : ℕ) → IsFound n (Some first) → field_at fields n ≡ Some name
+      → ¬ (IsOnlyAt fields name place)
   found_twice n first place h is only =
       let one = only.alone first h.0 in
       let two = only.alone n is in

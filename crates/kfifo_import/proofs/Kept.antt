@@ -1,7 +1,7 @@
 -- Lines in which no call got an item that no call can put: they are to be judged as they are. Where one did,
 -- fewer items are asked to be put than there are lines.
-use Rattle.std.proofs.Common.{ℕ, ◌≡◌, ◌<◌, ◌≤◌, true, false, List, [], ◌∷◌, Option, Some, None, arith, cond, length, map, option_map}
-use Rattle.std.proofs.Common.{unwrap_or, refl, ap, ◌∙◌, inl, inr, length-append}
+use Rattle.std.proofs.Common.{ℕ, ◌≡◌, ◌<◌, ◌≤◌, true, false, List, [], ◌∷◌, Option, Some, None, arith, cond, length}
+use Rattle.std.proofs.Common.{map, option_map, unwrap_or, refl, ap, ◌∙◌, inl, inr, length-append}
 use Rattle.std.specs.List.{list_any}
 use Rattle.std.proofs.lemmas.Bool.{false≢true, not-false, or_cases, or_parts}
 use Rattle.kfifo_model.specs.declared.calls.Answer.{Answer}
@@ -10,8 +10,8 @@ use Rattle.kfifo_model.specs.declared.calls.End.{End}
 use Rattle.kfifo_model.specs.declared.calls.Op.{Op}
 use Rattle.kfifo_model.specs.declared.calls.Op.TheVariants.{Enqueue, Dequeue}
 use Rattle.kfifo_import.specs.declared.log.Line.{Line}
-use Rattle.kfifo_import.specs.Foreign.{answer_with, end_with, is_foreign, is_foreign_answer, is_puttable, items_asked, items_put}
-use Rattle.kfifo_import.specs.Foreign.{line_with}
+use Rattle.kfifo_import.specs.Foreign.{answer_with, end_with, is_foreign, is_foreign_answer, is_puttable, items_asked}
+use Rattle.kfifo_import.specs.Foreign.{items_put, line_with}
 
 same_answer : (free : ℕ) (op : Op) (a : Answer) → is_foreign_answer op a ≡ false → answer_with free op a ≡ a
 same_answer free (Enqueue y) a e = refl
@@ -22,9 +22,13 @@ same_answer free Dequeue Empty e = refl
 same_answer free Dequeue Busy e = refl
 same_answer free Dequeue Worn e = refl
 
-same_end : (free : ℕ) (op : Op) (o : Option End) → unwrap_or (option_map (λ end. is_foreign_answer op end.answer) o) false ≡ false
+same_end : (free : ℕ) (op : Op) (o : Option End)
+    → unwrap_or (option_map (λ end. is_foreign_answer op end.answer) o) false ≡ false
     → option_map (end_with free op) o ≡ o
-same_end free op (Some end) e = ap (λ a. Some (record { last = end.last; answer = a })) (same_answer free op end.answer e)
+same_end free op (Some end) e = ap (λ a. Some (record {
+  last = end.last;
+  answer = a;
+})) (same_answer free op end.answer e)
 same_end free op None e = refl
 
 same_line : (free : ℕ) (line : Line) → is_foreign line ≡ false → line_with free line ≡ line
@@ -39,7 +43,8 @@ pub same_lines : (free : ℕ) (lines : List Line) → list_any is_foreign lines 
 same_lines free [] e = refl
 same_lines free (line ∷ lines) e =
     let parts = or_parts (is_foreign line) (list_any is_foreign lines) e in
-    ap (λ x. x ∷ map (line_with free) lines) (same_line free line parts.0) ∙ ap (λ xs. line ∷ xs) (same_lines free lines parts.1)
+    ap (λ x. x ∷ map (line_with free) lines) (same_line free line parts.0)
+    ∙ ap (λ xs. line ∷ xs) (same_lines free lines parts.1)
 
 asked_few : (op : Op) → length (items_asked op) ≤ 1
 asked_few (Enqueue x) = omega arith

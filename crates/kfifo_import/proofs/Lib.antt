@@ -1,4 +1,4 @@
-pub mod Sinking
+pub mod InsertionSort
 pub mod Ending
 pub mod Points
 pub mod Steps

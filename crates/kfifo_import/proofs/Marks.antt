@@ -1,5 +1,6 @@
 -- The byte order mark in front of a text.
-use Rattle.std.proofs.Common.{ℕ, ◌∷◌, ◌≡◌, ◌∙◌, ◌-◌, ◌<◌, ◌≤◌, true, false, List, [], get_or, take, drop, length, refl, arith}
+use Rattle.std.proofs.Common.{ℕ, ◌∷◌, ◌≡◌, ◌∙◌, ◌-◌, ◌<◌, ◌≤◌, true, false, List, [], get_or, take, drop, length, refl}
+use Rattle.std.proofs.Common.{arith}
 use Rattle.std.proofs.lemmas.List.{length-drop, take_all}
 use Rattle.csv.specs.Reading.{is_bom, strip_bom}
 
@@ -15,7 +16,8 @@ pub marked : (text : List ℕ) → 3 ≤ length text → is_bom (get_or text 0 0
     → take (length text - 3) (drop 3 text) ≡ strip_bom text
 marked text l e = take_all (length text - 3) (drop 3 text) (omega (arith, length-drop 3 text)) ∙ strip_marked text l e
 
-pub unmarked : (text : List ℕ) → is_bom (get_or text 0 0) (get_or text 1 0) (get_or text 2 0) ≡ false → text ≡ strip_bom text
+pub unmarked : (text : List ℕ) → is_bom (get_or text 0 0) (get_or text 1 0) (get_or text 2 0) ≡ false
+    → text ≡ strip_bom text
 unfolding strip_bom
 unmarked (a ∷ b ∷ c ∷ rest) e = rw e refl
 unmarked [] e = refl

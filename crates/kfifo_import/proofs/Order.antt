@@ -1,5 +1,6 @@
 -- The lines of a log in the order of their calls' beginnings.
-use Rattle.std.proofs.Common.{ℕ, zero, suc, [], ◌∷◌, ◌≡◌, ◌∙◌, ◌+◌, ◌<◌, Bool, true, false, cond, List, length, map, get_or, refl, sym, ap, subst, arith}
+use Rattle.std.proofs.Common.{ℕ, zero, suc, [], ◌∷◌, ◌≡◌, ◌∙◌, ◌+◌, ◌<◌, Bool, true, false, cond, List, length, map}
+use Rattle.std.proofs.Common.{get_or, refl, sym, ap, subst, arith}
 use Rattle.std.specs.List.{All, enumerate_from, filter}
 use Rattle.std.specs.List.Sorted.{IsNonDecreasingBy, IsPermutation, IsStableByKey, ties}
 use Rattle.std.specs.Ordering.{is_lt, nat_cmp}
@@ -29,9 +30,13 @@ lead lines [] a same = (refl, All-nil (IsBegin lines))
 lead lines (x ∷ xs) a same =
     let e : a + 0 ≡ a = omega arith in
     let head : line_at lines a ≡ x = subst (λ n. get_or lines n no_line ≡ x) e (same 0 (omega arith)) in
-    let rest = lead lines xs (a + 1) (λ i lt. let e : (a + 1) + i ≡ a + suc i = omega arith in rw e (same (suc i) (omega arith))) in (
+    let rest = lead lines xs (a + 1) (λ i lt. let e : (a + 1) + i ≡ a + suc i =
+    omega arith in rw e (same (suc i) (omega arith))) in (
       ap (λ y. y ∷ lines_by lines (begins_from (a + 1) xs)) head ∙ ap (λ ys. x ∷ ys) rest.0,
-      All-cons (IsBegin lines) (record { time = x.call.first; number = a }) (begins_from (a + 1) xs) (ap first_time (sym head)) rest.1,
+      All-cons (IsBegin lines) (record {
+        time = x.call.first;
+        number = a;
+      }) (begins_from (a + 1) xs) (ap first_time (sym head)) rest.1,
     )
 
 -- what passes a test of lines is what passes a test of their beginnings
@@ -80,7 +85,8 @@ module _ (lines : List Line) (order : List Moment) (moved : IsPermutation (begin
       ∙ (sym (kept at p q (beginnings lines) (same (beginnings lines) begins.1)) ∙ ap (filter p) begins.0))
 
   pub by_first : IsNonDecreasingBy (λ (begin : Moment). begin.time) order
-      → IsStableByKey (λ (begin : Moment). begin.time) nat_cmp (beginnings lines) order → AreByFirst lines (lines_by lines order)
+      → IsStableByKey (λ (begin : Moment). begin.time) nat_cmp (beginnings lines) order
+      → AreByFirst lines (lines_by lines order)
   by_first up fixed = record {
     moved = subst (λ xs. IsPermutation xs (lines_by lines order)) begins.0
         (IsPermutation-map (λ begin. line_at lines begin.number) (beginnings lines) order moved);
@@ -105,7 +111,8 @@ same_line [] n = refl
 same_line (line ∷ sorted) zero = refl
 same_line (line ∷ sorted) (suc n) = same_line sorted n
 
-pub same_fault : (sorted : List Line) (fault : RecordFault) → fault_among (map logged_call sorted) fault ≡ import_fault sorted fault
+pub same_fault : (sorted : List Line) (fault : RecordFault) → fault_among (map logged_call sorted) fault
+    ≡ import_fault sorted fault
 same_fault sorted (records.NumberOutOfRange n) = ap NumberOutOfRange (same_line sorted n)
 same_fault sorted (records.WrongAnswer n) = ap WrongAnswer (same_line sorted n)
 same_fault sorted (records.EndsEarly n) = ap EndsEarly (same_line sorted n)

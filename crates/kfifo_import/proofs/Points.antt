@@ -3,7 +3,8 @@ use Rattle.std.proofs.Common.{ℕ, ◌<◌, ◌≤◌, List, length, get_or, ari
 use Rattle.std.specs.List.{AllWithin}
 use Rattle.std.specs.List.Sorted.{IsNonDecreasingBy, IsPartitionPoint}
 
-pub up_to_here : {X : Type 0} (n : X → ℕ) (xs : List X) (t i : ℕ) → IsNonDecreasingBy n xs → AllWithin (λ y. n y ≤ t) xs 0 i
+pub up_to_here : {X : Type 0} (n : X → ℕ) (xs : List X) (t i : ℕ) → IsNonDecreasingBy n xs
+    → AllWithin (λ y. n y ≤ t) xs 0 i
     → ((d : X) → i < length xs → t < n (get_or xs i d)) → IsPartitionPoint (λ y. n y ≤ t) (λ y. t < n y) xs i
 up_to_here n xs t i rise passed stops = (
   passed,
@@ -13,7 +14,8 @@ up_to_here n xs t i rise passed stops = (
       omega (arith, a, b),
 )
 
-pub below_here : {X : Type 0} (n : X → ℕ) (xs : List X) (t i : ℕ) → IsNonDecreasingBy n xs → AllWithin (λ y. n y < t) xs 0 i
+pub below_here : {X : Type 0} (n : X → ℕ) (xs : List X) (t i : ℕ) → IsNonDecreasingBy n xs
+    → AllWithin (λ y. n y < t) xs 0 i
     → ((d : X) → i < length xs → t ≤ n (get_or xs i d)) → IsPartitionPoint (λ y. n y < t) (λ y. t ≤ n y) xs i
 below_here n xs t i rise passed stops = (
   passed,

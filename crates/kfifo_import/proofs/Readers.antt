@@ -29,31 +29,36 @@ module _ (r : LogReader) (text left : List ℕ) (over : r.row.spot ≡ spots.Ove
   row_next = next_row _ _ _ _ _ text is.rest left (moved _ _ _ _ _ _ _ text is.rest left over is.row)
 
   -- it has another width than the header
-  pub refused_width : (wide : ℕ) → r.width ≡ Some wide → length (fields_of r.row.row) ≢ wide → IsTextFault r.most text (faults.Csv r.row.front)
+  pub refused_width : (wide : ℕ) → r.width ≡ Some wide → length (fields_of r.row.row) ≢ wide
+      → IsTextFault r.most text (faults.Csv r.row.front)
   refused_width wide width other =
-      too_wide r.most text is.rest r.table.columns r.table.lines.items r.width r.row.front wide (fields_of r.row.row) row_next.0 width other is.holds
+      too_wide r.most text is.rest r.table.columns r.table.lines.items r.width r.row.front wide (fields_of r.row.row)
+      row_next.0 width other is.holds
 
   -- it is taken
-  pub closed : (columns : Option Columns) (lines : List Line) → ((wide : ℕ) → r.width ≡ Some wide → length (fields_of r.row.row) ≡ wide)
+  pub closed : (columns : Option Columns) (lines : List Line)
+      → ((wide : ℕ) → r.width ≡ Some wide → length (fields_of r.row.row) ≡ wide)
       → Takes r.most r.table.columns r.table.lines.items r.row.front (fields_of r.row.row) columns lines
       → Holds text columns lines (Some (length (fields_of r.row.row))) left × (length lines ≤ r.most)
   closed columns lines width takes = (
     subst (λ rest. Holds text columns lines (Some (length (fields_of r.row.row))) rest) row_next.1
-        (takes_row r.most text is.rest r.table.columns columns r.table.lines.items lines r.width r.row.front (fields_of r.row.row) row_next.0
+        (takes_row r.most text is.rest r.table.columns columns r.table.lines.items lines r.width r.row.front
+        (fields_of r.row.row) row_next.0
         width is.holds takes),
     takes_few r.most r.table.columns columns r.table.lines.items lines r.row.front (fields_of r.row.row) takes is.few,
   )
 
   -- it is not taken
-  pub refused : (fault : ImportFault) (wrong : Option WrongField) → ((wide : ℕ) → r.width ≡ Some wide → length (fields_of r.row.row) ≡ wide)
+  pub refused : (fault : ImportFault) (wrong : Option WrongField)
+      → ((wide : ℕ) → r.width ≡ Some wide → length (fields_of r.row.row) ≡ wide)
       → IsNotTaken r.most r.table.columns r.table.lines.items r.row.front (fields_of r.row.row) fault
       → IsWrongIn r.table.columns r.row.front (fields_of r.row.row) wrong fault
       → IsTextFault r.most text fault × TellsWrong text wrong fault
   refused fault wrong width not tells = (
-    not_taken r.most text is.rest r.table.columns r.table.lines.items r.width r.row.front (fields_of r.row.row) fault row_next.0 width is.few
-        is.holds not,
-    wrong_told r.most text is.rest r.table.columns r.table.lines.items r.width r.row.front (fields_of r.row.row) wrong fault row_next.0 width
-        is.holds not tells,
+    not_taken r.most text is.rest r.table.columns r.table.lines.items r.width r.row.front (fields_of r.row.row) fault
+        row_next.0 width is.few is.holds not,
+    wrong_told r.most text is.rest r.table.columns r.table.lines.items r.width r.row.front (fields_of r.row.row) wrong
+        fault row_next.0 width is.holds not tells,
   )
 
 -- where no row has begun at the end of the text, none comes
@@ -66,7 +71,8 @@ read_all r text between is = record {
 }
 
 -- the lines of a text that was read, or that it has no header
-pub lines_read : (text : List ℕ) (columns : Option Columns) (lines : List Line) (wide : Option ℕ) (rest : List ℕ) → IsSome columns
+pub lines_read : (text : List ℕ) (columns : Option Columns) (lines : List Line) (wide : Option ℕ) (rest : List ℕ)
+    → IsSome columns
     → Holds (strip_bom text) columns lines wide rest → first_row rest ≡ None → ReadsLog text lines
 lines_read text None lines wide rest some h none = absurd (cc)
 lines_read text (Some columns) lines wide rest some h none =
@@ -87,21 +93,25 @@ behind_mark (a ∷ []) left l = absurd (omega arith)
 behind_mark (a ∷ b ∷ []) left l = absurd (omega arith)
 
 -- a refusal is handed on as it is
-pub handed : {A : Type 0} (result : Result A Refusal) (given : Refusal) (Says : Refusal → Type 0) → IsErrAnd result (λ refusal. refusal ≡ given)
+pub handed : {A : Type 0} (result : Result A Refusal) (given : Refusal) (Says : Refusal → Type 0)
+    → IsErrAnd result (λ refusal. refusal ≡ given)
     → Says given → IfErr result Says
 handed (Ok x) given Says is says = absurd is
 handed (Err refusal) given Says is says = subst Says (sym is) says
 
 -- what is held back is no matter of the rows
-pub aside : (r : LogReader) (head : Option (Vec ℕ Global)) (text left : List ℕ) → Reads r text left → Reads (record r { head = head }) text left
+pub aside : (r : LogReader) (head : Option (Vec ℕ Global)) (text left : List ℕ) → Reads r text left
+    → Reads (record r { head = head }) text left
 aside r head text left is = record { rest = is.rest; row = is.row; holds = is.holds; few = is.few }
 
 -- nothing is held back
-pub reading_plain : {H : Type 0} (bytes : H → List ℕ) (head : Option H) (r : LogReader) (text left : List ℕ) → head ≡ None
+pub reading_plain : {H : Type 0} (bytes : H → List ℕ) (head : Option H) (r : LogReader) (text left : List ℕ)
+    → head ≡ None
     → ReadsBehind (option_map bytes head) r text left → Reads r (strip_bom text) left
 reading_plain bytes head r text left none is = subst (λ h. ReadsBehind (option_map bytes h) r text left) none is
 
-pub plain_reading : {H : Type 0} (bytes : H → List ℕ) (head : Option H) (r : LogReader) (text left : List ℕ) → head ≡ None
+pub plain_reading : {H : Type 0} (bytes : H → List ℕ) (head : Option H) (r : LogReader) (text left : List ℕ)
+    → head ≡ None
     → Reads r (strip_bom text) left → ReadsBehind (option_map bytes head) r text left
 plain_reading bytes head r text left none is = subst (λ h. ReadsBehind (option_map bytes h) r text left) (sym none) is
 
@@ -110,11 +120,13 @@ pub then_ok : {A : Type 0} (result : Result A Refusal) (P Q : Type 0) → OnOk r
 then_ok (Ok x) P Q says f = f says
 then_ok (Err e) P Q says f = tt
 
-pub then_both : {A : Type 0} (result : Result A Refusal) (P R Q : Type 0) → OnOk result P → OnOk result R → (P → R → Q) → OnOk result Q
+pub then_both : {A : Type 0} (result : Result A Refusal) (P R Q : Type 0) → OnOk result P → OnOk result R → (P → R → Q)
+    → OnOk result Q
 then_both (Ok x) P R Q says more f = f says more
 then_both (Err e) P R Q says more f = tt
 
-pub then_err : {A : Type 0} (result : Result A Refusal) (P Q : Refusal → Type 0) → IfErr result P → ((refusal : Refusal) → P refusal → Q refusal)
+pub then_err : {A : Type 0} (result : Result A Refusal) (P Q : Refusal → Type 0) → IfErr result P
+    → ((refusal : Refusal) → P refusal → Q refusal)
     → IfErr result Q
 then_err (Ok x) P Q says f = tt
 then_err (Err e) P Q says f = f e says
@@ -126,16 +138,19 @@ short_text text head is short =
     sym (unmarked_short text (subst (λ t. length t < 3) (sym same) short)) ∙ is
 
 -- some bytes are held back
-pub reading_head : {H : Type 0} (bytes : H → List ℕ) (given : Option H) (head : H) (r : LogReader) (text left : List ℕ) → given ≡ Some head
+pub reading_head : {H : Type 0} (bytes : H → List ℕ) (given : Option H) (head : H) (r : LogReader) (text left : List ℕ)
+    → given ≡ Some head
     → ReadsBehind (option_map bytes given) r text left
     → (text ≡ bytes head ++ left) × (length (bytes head) < 3) × ((any : List ℕ) → Reads r any any)
 reading_head bytes given head r text left some is = subst (λ h. ReadsBehind (option_map bytes h) r text left) some is
 
 -- they are long enough to have a mark in front of them, or none
-pub marked_text : (r : LogReader) (text head left : List ℕ) → text ≡ head ++ left → 3 ≤ length head → ((any : List ℕ) → Reads r any any)
+pub marked_text : (r : LogReader) (text head left : List ℕ) → text ≡ head ++ left → 3 ≤ length head
+    → ((any : List ℕ) → Reads r any any)
     → Reads r (strip_bom text) (strip_bom head ++ left)
 marked_text r text head left is long fresh =
-    subst (λ t. Reads r t (strip_bom head ++ left)) (sym (ap strip_bom is ∙ behind_mark head left long)) (fresh (strip_bom head ++ left))
+    subst (λ t. Reads r t (strip_bom head ++ left)) (sym (ap strip_bom is ∙ behind_mark head left long))
+    (fresh (strip_bom head ++ left))
 
 -- they are all of the text
 pub all_held : (r : LogReader) (other : Option (Vec ℕ Global)) (text head : List ℕ)
@@ -146,10 +161,12 @@ all_held r other text head held =
     (subst (λ t. Reads r t (head ++ [])) (sym (short_text text head held.0 held.1)) (held.2 (head ++ [])))
 
 -- a text behind its mark, at its beginning
-pub begun : (r : LogReader) (text given : List ℕ) → given ≡ text → ((any : List ℕ) → Reads r any any) → Reads r text (given ++ [])
+pub begun : (r : LogReader) (text given : List ℕ) → given ≡ text → ((any : List ℕ) → Reads r any any)
+    → Reads r text (given ++ [])
 begun r text given is fresh = subst (λ left. Reads r text left) (sym (append-nil given ∙ is)) (fresh text)
 
 -- a result that holds of what was read
-pub then_lines : {A : Type 0} (result : Result A Refusal) (P Q : A → Type 0) → IfOk result P → ((x : A) → P x → Q x) → IfOk result Q
+pub then_lines : {A : Type 0} (result : Result A Refusal) (P Q : A → Type 0) → IfOk result P → ((x : A) → P x → Q x)
+    → IfOk result Q
 then_lines (Ok x) P Q says f = f x says
 then_lines (Err e) P Q says f = tt

@@ -23,9 +23,10 @@ next_row fields some bytes line front text rest left s =
     (((fields, s.goes.0, left), s.goes.1, number, refl), refl)
 
 -- a row that is not as wide as the header is the first with a fault
-pub too_wide : (most : ℕ) (text rest : List ℕ) (columns : Option Columns) (lines : List Line) (wide : Option ℕ) (number width : ℕ)
-    (fields : List (List ℕ))
-    → IsNextRow text rest (row_at number fields) → wide ≡ Some width → length fields ≢ width → Holds text columns lines wide rest
+pub too_wide : (most : ℕ) (text rest : List ℕ) (columns : Option Columns) (lines : List Line) (wide : Option ℕ)
+    (number width : ℕ) (fields : List (List ℕ))
+    → IsNextRow text rest (row_at number fields) → wide ≡ Some width → length fields ≢ width
+    → Holds text columns lines wide rest
     → IsTextFault most text (faults.Csv number)
 too_wide most text rest None lines wide number width fields next is other h = absurd (cc (is, h.2))
 too_wide most text rest (Some columns) lines wide number width fields next is other h =
@@ -42,20 +43,28 @@ too_wide most text rest (Some columns) lines wide number width fields next is ot
     })
 
 -- a text whose first row never begins has no header
-pub no_header : (most : ℕ) (text rest : List ℕ) (lines : List Line) (wide : Option ℕ) → first_row rest ≡ None → Holds text None lines wide rest
+pub no_header : (most : ℕ) (text rest : List ℕ) (lines : List Line) (wide : Option ℕ) → first_row rest ≡ None
+    → Holds text None lines wide rest
     → IsTextFault most text (faults.Csv 1)
 no_header most text rest lines wide none h = inl (inr (ap first_row (sym h.0) ∙ none, refl))
 
 -- ---- one row
 
 -- a row that is not taken is the first with a fault
-pub not_taken : (most : ℕ) (text rest : List ℕ) (columns : Option Columns) (lines : List Line) (wide : Option ℕ) (number : ℕ) (fields : List (List ℕ))
-    (fault : ImportFault)
-    → IsNextRow text rest (row_at number fields) → ((width : ℕ) → wide ≡ Some width → length fields ≡ width) → length lines ≤ most
-    → Holds text columns lines wide rest → IsNotTaken most columns lines number fields fault → IsTextFault most text fault
+pub not_taken : (most : ℕ) (text rest : List ℕ) (columns : Option Columns) (lines : List Line) (wide : Option ℕ)
+    (number : ℕ) (fields : List (List ℕ)) (fault : ImportFault)
+    → IsNextRow text rest (row_at number fields) → ((width : ℕ) → wide ≡ Some width → length fields ≡ width)
+    → length lines ≤ most
+    → Holds text columns lines wide rest → IsNotTaken most columns lines number fields fault
+    → IsTextFault most text fault
 not_taken most text rest columns lines wide number fields faults.Memory next same few h f = tt
 not_taken most text rest None lines wide number fields (faults.Csv n) next same few h f =
-    inl (inl (row_at number fields, (next.0, ap first_row (sym h.0) ∙ next.1, next.2 ∙ ap (line_of text) h.0, next.3), f.0, f.1))
+    inl (inl (
+      row_at number fields,
+      (next.0, ap first_row (sym h.0) ∙ next.1, next.2 ∙ ap (line_of text) h.0, next.3),
+      f.0,
+      f.1,
+    ))
 not_taken most text rest (Some columns) lines wide number fields faults.TooMany next same few h f = record {
   columns = columns;
   width = h.0;
@@ -83,16 +92,18 @@ not_taken most text rest None lines wide number fields (faults.WrongAnswer n) ne
 not_taken most text rest None lines wide number fields (faults.EndsEarly n) next same few h f = absurd f
 not_taken most text rest None lines wide number fields (faults.Overlap n) next same few h f = absurd f
 not_taken most text rest (Some columns) lines wide number fields (faults.Csv n) next same few h f = absurd f
-not_taken most text rest (Some columns) lines wide number fields (faults.NumberOutOfRange n) next same few h f = absurd f
+not_taken most text rest (Some columns) lines wide number fields (faults.NumberOutOfRange n) next same few h f =
+    absurd f
 not_taken most text rest (Some columns) lines wide number fields (faults.WrongAnswer n) next same few h f = absurd f
 not_taken most text rest (Some columns) lines wide number fields (faults.EndsEarly n) next same few h f = absurd f
 not_taken most text rest (Some columns) lines wide number fields (faults.Overlap n) next same few h f = absurd f
 
 -- what is told of a row that is not taken is told of the text
-pub wrong_told : (most : ℕ) (text rest : List ℕ) (columns : Option Columns) (lines : List Line) (wide : Option ℕ) (number : ℕ) (fields : List (List ℕ))
-    (wrong : Option WrongField) (fault : ImportFault)
+pub wrong_told : (most : ℕ) (text rest : List ℕ) (columns : Option Columns) (lines : List Line) (wide : Option ℕ)
+    (number : ℕ) (fields : List (List ℕ)) (wrong : Option WrongField) (fault : ImportFault)
     → IsNextRow text rest (row_at number fields) → ((width : ℕ) → wide ≡ Some width → length fields ≡ width)
-    → Holds text columns lines wide rest → IsNotTaken most columns lines number fields fault → IsWrongIn columns number fields wrong fault
+    → Holds text columns lines wide rest → IsNotTaken most columns lines number fields fault
+    → IsWrongIn columns number fields wrong fault
     → TellsWrong text wrong fault
 wrong_told most text rest columns lines wide number fields None fault next same h t w = tt
 wrong_told most text rest (Some columns) lines wide number fields (Some wrong) (faults.NotACall n) next same h t w = (
@@ -108,16 +119,22 @@ wrong_told most text rest (Some columns) lines wide number fields (Some wrong) (
 wrong_told most text rest (Some columns) lines wide number fields (Some wrong) faults.Memory next same h t w = absurd w
 wrong_told most text rest (Some columns) lines wide number fields (Some wrong) (faults.Csv n) next same h t w = absurd w
 wrong_told most text rest (Some columns) lines wide number fields (Some wrong) faults.TooMany next same h t w = absurd w
-wrong_told most text rest (Some columns) lines wide number fields (Some wrong) (faults.NumberOutOfRange n) next same h t w = absurd w
-wrong_told most text rest (Some columns) lines wide number fields (Some wrong) (faults.WrongAnswer n) next same h t w = absurd w
-wrong_told most text rest (Some columns) lines wide number fields (Some wrong) (faults.EndsEarly n) next same h t w = absurd w
-wrong_told most text rest (Some columns) lines wide number fields (Some wrong) (faults.Overlap n) next same h t w = absurd w
+wrong_told most text rest (Some columns) lines wide number fields (Some wrong) (faults.NumberOutOfRange n) next same h t
+    w = absurd w
+wrong_told most text rest (Some columns) lines wide number fields (Some wrong) (faults.WrongAnswer n) next same h t w =
+    absurd w
+wrong_told most text rest (Some columns) lines wide number fields (Some wrong) (faults.EndsEarly n) next same h t w =
+    absurd w
+wrong_told most text rest (Some columns) lines wide number fields (Some wrong) (faults.Overlap n) next same h t w =
+    absurd w
 wrong_told most text rest None lines wide number fields (Some wrong) fault next same h t w = absurd w
 
 -- a row more is none too many
-pub takes_few : (most : ℕ) (columns after : Option Columns) (lines more : List Line) (number : ℕ) (fields : List (List ℕ))
+pub takes_few : (most : ℕ) (columns after : Option Columns) (lines more : List Line) (number : ℕ)
+    (fields : List (List ℕ))
     → Takes most columns lines number fields after more → length lines ≤ most → length more ≤ most
 takes_few most None None lines more number fields t few = absurd t
 takes_few most None (Some columns) lines more number fields t few = rw t.1 few
-takes_few most (Some columns) after lines more number fields t few = let k = length-append lines (t.2 ∷ []) in let less = t.1 in
+takes_few most (Some columns) after lines more number fields t few = let k = length-append lines (t.2 ∷ []) in
+    let less = t.1 in
     rw t.4 (omega (arith, k, less))

@@ -8,7 +8,8 @@ use Rattle.kfifo_import.specs.Tables.{AreLines, HasRead, Holds, IsLineOf}
 use Rattle.kfifo_import.specs.Taking.{Takes, row_at}
 
 -- one more row
-rows_more : (text from rest : List ℕ) (rows : List Row) (row : Row) (next : IsNextRow text rest row) → AreRows text from rows rest
+rows_more : (text from rest : List ℕ) (rows : List Row) (row : Row) (next : IsNextRow text rest row)
+    → AreRows text from rows rest
     → AreRows text from (rows ++ row ∷ []) next.0.2
 unfolding AreRows
 rows_more text from rest [] row next a = rw a (next, refl)
@@ -24,7 +25,8 @@ line_more columns width (r ∷ rows) [] row line a c = absurd a
 line_more columns width (r ∷ rows) (l ∷ lines) row line a c = (a.0, line_more columns width rows lines row line a.1 c)
 
 -- the header
-takes_header : (text : List ℕ) (columns : Columns) (row : Row) (next : IsNextRow text text row) → HasColumns row.fields columns
+takes_header : (text : List ℕ) (columns : Columns) (row : Row) (next : IsNextRow text text row)
+    → HasColumns row.fields columns
     → HasRead text columns (length row.fields) [] next.0.2
 unfolding AreRows
 takes_header text columns row next has = record {
@@ -50,8 +52,8 @@ takes_line text rest columns width lines row line next h c = record {
 }
 
 -- a row that is taken, as wide as a row must be
-pub takes_row : (most : ℕ) (text rest : List ℕ) (columns after : Option Columns) (lines more : List Line) (wide : Option ℕ) (number : ℕ)
-    (fields : List (List ℕ))
+pub takes_row : (most : ℕ) (text rest : List ℕ) (columns after : Option Columns) (lines more : List Line)
+    (wide : Option ℕ) (number : ℕ) (fields : List (List ℕ))
     (next : IsNextRow text rest (row_at number fields)) → ((width : ℕ) → wide ≡ Some width → length fields ≡ width)
     → Holds text columns lines wide rest
     → Takes most columns lines number fields after more → Holds text after more (Some (length fields)) next.0.2
@@ -66,5 +68,6 @@ takes_row most text rest None (Some columns) lines more wide number fields next 
     )
 takes_row most text rest (Some columns) after lines more wide number fields next same h t =
     let w : length fields ≡ h.0 = same h.0 h.1 in
-    let line : IsLineOf columns h.0 (row_at number fields) t.2 = subst (λ (n : ℕ). IsLineOf columns n (row_at number fields) t.2) w t.3 in
+    let line : IsLineOf columns h.0 (row_at number fields) t.2 =
+    subst (λ (n : ℕ). IsLineOf columns n (row_at number fields) t.2) w t.3 in
     rw (t.0, t.4) (h.0, ap Some w, takes_line text rest columns h.0 lines (row_at number fields) t.2 next h.2 line)

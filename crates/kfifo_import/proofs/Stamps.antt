@@ -1,6 +1,6 @@
 -- Stamps stand as the times do.
-use Rattle.std.proofs.Common.{ℕ, zero, suc, [], ◌∷◌, ◌≡◌, ◌≢◌, ◌+◌, ◌<◌, ◌≤◌, List, Option, Some, None, length, get_or, sym, ◌∙◌, ap, subst}
-use Rattle.std.proofs.Common.{refl, inl, inr, arith}
+use Rattle.std.proofs.Common.{ℕ, zero, suc, [], ◌∷◌, ◌≡◌, ◌≢◌, ◌+◌, ◌<◌, ◌≤◌, List, Option, Some, None, length, get_or}
+use Rattle.std.proofs.Common.{sym, ◌∙◌, ap, subst, refl, inl, inr, arith}
 use Rattle.std.specs.Prelude.{option_map}
 use Rattle.std.specs.List.Sorted.{IsNonDecreasingBy}
 use Rattle.std.proofs.lemmas.Bool.{cases_lt}
@@ -10,8 +10,9 @@ use Rattle.kfifo_model.specs.declared.calls.Call.{Call}
 use Rattle.kfifo_model.specs.Histories.{call, no_call, HasEnd, EndsBelow}
 use Rattle.kfifo_model.specs.Validity.{EndsFrom}
 use Rattle.kfifo_import.specs.declared.moments.Moment.{Moment}
-use Rattle.kfifo_import.specs.Stamping.{AnswersAlike, AreEndStamps, AreSortedEnds, AreStamped, AreStampedTo, HaveBegun, HaveEnded, IsEndStamp}
-use Rattle.kfifo_import.specs.Stamping.{IsStampOf, end_at, end_of, ending_at, first_at, last_in, last_of, last_time, no_moment}
+use Rattle.kfifo_import.specs.Stamping.{AnswersAlike, AreEndStamps, AreSortedEnds, AreStamped, AreStampedTo, HaveBegun}
+use Rattle.kfifo_import.specs.Stamping.{HaveEnded, IsEndStamp, IsStampOf, end_at, end_of, ending_at, first_at, last_in}
+use Rattle.kfifo_import.specs.Stamping.{last_of, last_time, no_moment}
 
 -- ---- ends as numbers
 
@@ -81,7 +82,8 @@ begun_more l s t b d le p q = elim (cases_lt d b) [
 -- more have ended before a later time
 ended_more : (ends : List Moment) (s t b d : ℕ) → s ≤ t → HaveEnded ends s b → HaveEnded ends t d → b ≤ d
 ended_more ends s t b d le p q = elim (cases_lt d b) [
-  | inl lt ↦ (let x = p.1.0 d no_moment (omega arith) lt in let y = q.1.1 d no_moment (omega arith) (omega (arith, p.0)) in
+  | inl lt ↦ (let x = p.1.0 d no_moment (omega arith) lt in let y =
+      q.1.1 d no_moment (omega arith) (omega (arith, p.0)) in
       absurd (omega (arith, x, y)))
   | inr ge ↦ ge
 ]
@@ -99,7 +101,8 @@ record IsPlaced (l h : List Call) (ends : List Moment) (c : ℕ) : Type 0 where
   last : last_of h c ≡ rank + begun
 
 module _ (l h : List Call) (ends : List Moment) (stamps : List ℕ) (sorted : AreSortedEnds l ends)
-    (stamped : AreEndStamps l ends (length ends) stamps) (sized : length h ≡ length l) (by_first : IsNonDecreasingBy (λ c. c.first) l)
+    (stamped : AreEndStamps l ends (length ends) stamps) (sized : length h ≡ length l)
+    (by_first : IsNonDecreasingBy (λ c. c.first) l)
     (are : (n : ℕ) → n < length l → IsStampOf l ends stamps n (call h n)) where
   inside : (c : ℕ) → HasEnd (end_at l c) → c < length l
   inside c has = within l c has
@@ -118,7 +121,8 @@ module _ (l h : List Call) (ends : List Moment) (stamps : List ℕ) (sorted : Ar
       let here : get_or ends in_ends.0 no_moment ≡ end_of l c =
       sym (get_or_default ends in_ends.0 (end_of l c) no_moment in_ends.1) ∙ in_ends.2 in
       let s : IsEndStamp l ends c (get_or stamps c 0) =
-      subst (λ (m : Moment). IsEndStamp l ends m.number (get_or stamps m.number 0)) here (stamped.each in_ends.0 in_ends.1) in
+      subst (λ (m : Moment). IsEndStamp l ends m.number (get_or stamps m.number 0)) here
+      (stamped.each in_ends.0 in_ends.1) in
       let is = (are c (inside c has)).is in
       record {
         rank = s.rank;
@@ -141,7 +145,8 @@ module _ (l h : List Call) (ends : List Moment) (stamps : List ℕ) (sorted : Ar
       (λ db. p.have_begun.1.0 d no_call (omega arith) db) lt in
       omega (arith, r, p.last, f)
 
-  begins_first : (c d : ℕ) → HasEnd (end_at l c) → d < length l → first_at l d ≤ last_of l c → first_at h d < last_of h c
+  begins_first : (c d : ℕ) → HasEnd (end_at l c) → d < length l → first_at l d ≤ last_of l c
+      → first_at h d < last_of h c
   begins_first c d has small le =
       let p = placed c has in
       let s = are d small in
@@ -153,10 +158,12 @@ module _ (l h : List Call) (ends : List Moment) (stamps : List ℕ) (sorted : Ar
 
   same : (c : ℕ) → c < length l → AnswersAlike (end_at l c) (end_at h c)
   same c small =
-      subst (λ (s : Call). AnswersAlike (end_at l c) s.end) (sym (are c small).is) (alike (end_at l c) (get_or stamps c 0))
+      subst (λ (s : Call). AnswersAlike (end_at l c) s.end) (sym (are c small).is)
+      (alike (end_at l c) (get_or stamps c 0))
 
   -- an end before another
-  ends_sooner : (c d : ℕ) → HasEnd (end_at l c) → HasEnd (end_at l d) → last_of l c < last_of l d → last_of h c < last_of h d
+  ends_sooner : (c d : ℕ) → HasEnd (end_at l c) → HasEnd (end_at l d) → last_of l c < last_of l d
+      → last_of h c < last_of h d
   ends_sooner c d has had lt =
       let p = placed c has in
       let q = placed d had in
@@ -195,14 +202,16 @@ module _ (l h : List Call) (ends : List Moment) (stamps : List ℕ) (sorted : Ar
         let low : c < length l = omega arith in
         let s = are c low in
         let t = are d small in
-        let e = ended_more ends (first_at l c) (first_at l d) s.ended t.ended (by_first c d no_call (omega arith) small) s.have_ended
+        let e = ended_more ends (first_at l c) (first_at l d) s.ended t.ended (by_first c d no_call (omega arith) small)
+        s.have_ended
         t.have_ended in
         let f = first_is c low in
         let g = first_is d small in
         omega (arith, e, f, g);
     before = λ c d small low. (
       λ p. let x = below_is (end_at l c) (first_at l d) p in
-          is_below (end_at h c) (first_at h d) (has_then (end_at l c) (end_at h c) (same c small) x.0) (ends_first c d x.0 low x.1),
+          is_below (end_at h c) (first_at h d) (has_then (end_at l c) (end_at h c) (same c small) x.0)
+          (ends_first c d x.0 low x.1),
       λ p. let x = below_is (end_at h c) (first_at h d) p in
           let has = had_then (end_at l c) (end_at h c) (same c small) x.0 in
           is_below (end_at l c) (first_at l d) has (elim (cases_lt (last_of l c) (first_at l d)) [
@@ -216,15 +225,18 @@ module _ (l h : List Call) (ends : List Moment) (stamps : List ℕ) (sorted : Ar
         omega (arith, y));
     end = ends_sooner;
     apart = ends_apart;
-    begin_below = λ n lt. (let s = are n lt in let f = first_is n lt in omega (arith, f, s.have_ended.0, sorted.are.count));
+    begin_below =
+        λ n lt. (let s = are n lt in let f = first_is n lt in omega (arith, f, s.have_ended.0, sorted.are.count));
     end_below = λ n has.
         let p = placed n has in
         omega (arith, p.inside, p.last, p.have_begun.0, sorted.are.count);
   }
 
 -- all calls with their stamps
-pub all_stamped : (l found : List Call) (ends : List Moment) (stamps : List ℕ) (n : ℕ) → length l ≡ n → AreSortedEnds l ends
+pub all_stamped : (l found : List Call) (ends : List Moment) (stamps : List ℕ) (n : ℕ) → length l ≡ n
+    → AreSortedEnds l ends
     → AreEndStamps l ends (length ends) stamps → IsNonDecreasingBy (λ c. c.first) l → AreStampedTo l ends stamps n found
     → AreStamped l found
 all_stamped l found ends stamps n same sorted stamped by_first to =
-    are_stamped l found ends stamps sorted stamped (to.sized ∙ sym same) by_first (λ m lt. to.each m (omega (arith, same)))
+    are_stamped l found ends stamps sorted stamped (to.sized ∙ sym same) by_first
+    (λ m lt. to.each m (omega (arith, same)))

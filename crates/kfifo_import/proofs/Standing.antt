@@ -1,7 +1,7 @@
 -- A reader of rows takes a byte more, or a run of bytes.
-use Rattle.std.proofs.Common.{ℕ, ◌∷◌, ◌++◌, ◌≡◌, ◌≢◌, ◌∙◌, ◌+◌, ◌-◌, ◌<◌, ◌≤◌, ◌==◌, ◌||◌, true, false, Bool, List, [], None}
-use Rattle.std.proofs.Common.{Some, drop, take, length, refl, sym, ap, subst, arith, add-one, append_assoc, append-nil, get_or}
-use Rattle.std.proofs.Common.{cond, drop-cons, get_or-drop, inl, inr, length-drop}
+use Rattle.std.proofs.Common.{ℕ, ◌∷◌, ◌++◌, ◌≡◌, ◌≢◌, ◌∙◌, ◌+◌, ◌-◌, ◌<◌, ◌≤◌, ◌==◌, ◌||◌, true, false, Bool, List, []}
+use Rattle.std.proofs.Common.{None, Some, drop, take, length, refl, sym, ap, subst, arith, add-one, append_assoc}
+use Rattle.std.proofs.Common.{append-nil, get_or, cond, drop-cons, get_or-drop, inl, inr, length-drop}
 use Rattle.std.specs.Prelude.{◌⊎◌}
 use Rattle.std.proofs.lemmas.Bool.{eqb-true}
 use Rattle.std.proofs.lemmas.List.{drop-drop, take-append-drop, take_more}
@@ -20,25 +20,29 @@ use Rattle.kfifo_import.specs.declared.walk.Spot.TheVariants as spots
 
 -- between rows, the end of a line
 skips : (fields : List (List ℕ)) (bytes : List ℕ) (c : ℕ) (left : List ℕ) → ends_line c ≡ true
-    → next_record default_config st.StartRecord fields bytes (c ∷ left) ≡ next_record default_config st.StartRecord fields bytes left
+    → next_record default_config st.StartRecord fields bytes (c ∷ left)
+    ≡ next_record default_config st.StartRecord fields bytes left
 unfolding next_record
 skips fields bytes c left e = rw e refl
 
 -- the first byte of a row is that of its first field
 begins_field : (fields : List (List ℕ)) (bytes : List ℕ) (c : ℕ) (left : List ℕ) → ends_line c ≡ false
-    → next_record default_config st.StartRecord fields bytes (c ∷ left) ≡ next_record default_config st.StartField fields bytes (c ∷ left)
+    → next_record default_config st.StartRecord fields bytes (c ∷ left)
+    ≡ next_record default_config st.StartField fields bytes (c ∷ left)
 unfolding next_record
 begins_field fields bytes c left e = rw e refl
 
 -- a first byte that is no quotation mark is as one further on
 first_plain : (fields : List (List ℕ)) (bytes : List ℕ) (c : ℕ) (left : List ℕ) → (c == 34) ≡ false
-    → next_record default_config st.StartField fields bytes (c ∷ left) ≡ next_record default_config st.InField fields bytes (c ∷ left)
+    → next_record default_config st.StartField fields bytes (c ∷ left)
+    ≡ next_record default_config st.InField fields bytes (c ∷ left)
 unfolding next_record
 first_plain fields bytes c left e = rw e refl
 
 -- so is one behind a quotation mark
 quote_plain : (fields : List (List ℕ)) (bytes : List ℕ) (c : ℕ) (left : List ℕ) → (c == 34) ≡ false
-    → next_record default_config st.AfterQuote fields bytes (c ∷ left) ≡ next_record default_config st.InField fields bytes (c ∷ left)
+    → next_record default_config st.AfterQuote fields bytes (c ∷ left)
+    ≡ next_record default_config st.InField fields bytes (c ∷ left)
 unfolding next_record
 quote_plain fields bytes c left e = rw e refl
 
@@ -60,7 +64,8 @@ run_plain : (fields : List (List ℕ)) (bytes run left : List ℕ) → ArePlain 
     → next_record default_config st.InField fields bytes (run ++ left)
     ≡ next_record default_config st.InField fields (bytes ++ run) left
 unfolding ArePlain
-run_plain fields bytes [] left a = ap (λ b. next_record default_config st.InField fields b left) (sym (append-nil bytes))
+run_plain fields bytes [] left a = ap (λ b. next_record default_config st.InField fields b left)
+    (sym (append-nil bytes))
 run_plain fields bytes (c ∷ run) left a =
     one_plain fields bytes c (run ++ left) a.0
     ∙ run_plain fields (bytes ++ c ∷ []) run left a.1
@@ -78,7 +83,8 @@ unfolding next_record
 over fields bytes c left e line = by (c == 13) (c == 10) refl refl line
   where
     by : (y z : Bool) → (c == 13) ≡ y → (c == 10) ≡ z → (y || z) ≡ true
-        → (s : _) × (next_record default_config st.InField fields bytes (c ∷ left) ≡ Some (fields ++ bytes ∷ [], s, left))
+        → (s : _) × (next_record default_config st.InField fields bytes (c ∷ left)
+        ≡ Some (fields ++ bytes ∷ [], s, left))
     by true z p q l = (st.AfterCr, rw (e, p) refl)
     by false true p q l = (st.StartRecord, rw (e, p, q) refl)
     by false false p q l = absurd (cc)
@@ -92,7 +98,8 @@ feeds_cons c left = sym (sum_by-take-drop (λ byte. cond (byte == 10) 1 0) (c �
 no_feed : (c : ℕ) → ends_field c ≡ false → line_feeds (c ∷ []) ≡ 0
 no_feed c e = by (c == 44) (c == 13) (c == 10) refl refl refl e
   where
-    by : (x y z : Bool) → (c == 44) ≡ x → (c == 13) ≡ y → (c == 10) ≡ z → (x || (y || z)) ≡ false → line_feeds (c ∷ []) ≡ 0
+    by : (x y z : Bool) → (c == 44) ≡ x → (c == 13) ≡ y → (c == 10) ≡ z → (x || (y || z)) ≡ false
+        → line_feeds (c ∷ []) ≡ 0
     by true y z p q r e = absurd (cc)
     by false true z p q r e = absurd (cc)
     by false false true p q r e = absurd (cc)
@@ -131,7 +138,8 @@ fresh text = record { goes = refl; none = refl; first = omega arith; counts = om
 
 -- the row behind one that has ended
 pub goes_on : (fields : List (List ℕ)) (some bytes : List ℕ) (line front : ℕ) (text rest left : List ℕ)
-    → StandsAt spots.Over fields some bytes line front text rest left → StandsAt spots.Row [] [] bytes line front text left left
+    → StandsAt spots.Over fields some bytes line front text rest left
+    → StandsAt spots.Row [] [] bytes line front text left left
 goes_on fields some bytes line front text rest left s = record {
   goes = ap (λ b. next_record default_config st.StartRecord [] b left) (sym s.goes.2);
   none = refl;
@@ -141,12 +149,14 @@ goes_on fields some bytes line front text rest left s = record {
 }
 
 -- a row begins
-pub begins : (fields : List (List ℕ)) (some bytes : List ℕ) (line front c : ℕ) (text rest left : List ℕ) → ends_line c ≡ false
+pub begins : (fields : List (List ℕ)) (some bytes : List ℕ) (line front c : ℕ) (text rest left : List ℕ)
+    → ends_line c ≡ false
     → StandsAt spots.Row fields some bytes line front text rest (c ∷ left)
     → StandsAt spots.Field fields some bytes line line text rest (c ∷ left)
 begins fields some bytes line front c text rest left e s =
     let counts = s.counts in
-    let front : line_feeds (behind_ends rest) ≡ line_feeds (c ∷ left) = ap line_feeds (s.begins ∙ ends_front c left e) in
+    let front : line_feeds (behind_ends rest) ≡ line_feeds (c ∷ left) =
+    ap line_feeds (s.begins ∙ ends_front c left e) in
     record {
       goes = s.goes ∙ begins_field fields bytes c left e;
       none = s.none;
@@ -156,7 +166,8 @@ begins fields some bytes line front c text rest left e s =
     }
 
 -- the end of an empty line
-pub skipped : (fields : List (List ℕ)) (some bytes : List ℕ) (line front c : ℕ) (text rest left : List ℕ) → ends_line c ≡ true
+pub skipped : (fields : List (List ℕ)) (some bytes : List ℕ) (line front c : ℕ) (text rest left : List ℕ)
+    → ends_line c ≡ true
     → StandsAt spots.Row fields some bytes line front text rest (c ∷ left)
     → StandsAt spots.Row fields some bytes (line + line_feeds (c ∷ [])) front text rest left
 skipped fields some bytes line front c text rest left e s =
@@ -170,7 +181,8 @@ skipped fields some bytes line front c text rest left e s =
     }
 
 -- a quotation mark in front of a field
-pub opened : (fields : List (List ℕ)) (some bytes : List ℕ) (line front c : ℕ) (text rest left : List ℕ) → (c == 34) ≡ true
+pub opened : (fields : List (List ℕ)) (some bytes : List ℕ) (line front c : ℕ) (text rest left : List ℕ)
+    → (c == 34) ≡ true
     → StandsAt spots.Field fields some bytes line front text rest (c ∷ left)
     → StandsAt spots.Quoted fields some bytes line front text rest left
 unfolding next_record
@@ -185,7 +197,8 @@ opened fields some bytes line front c text rest left e s =
     }
 
 -- one that may be the last
-pub quoted : (fields : List (List ℕ)) (some bytes : List ℕ) (line front c : ℕ) (text rest left : List ℕ) → (c == 34) ≡ true
+pub quoted : (fields : List (List ℕ)) (some bytes : List ℕ) (line front c : ℕ) (text rest left : List ℕ)
+    → (c == 34) ≡ true
     → StandsAt spots.Quoted fields some bytes line front text rest (c ∷ left)
     → StandsAt spots.Quote fields some bytes line front text rest left
 unfolding next_record
@@ -200,7 +213,8 @@ quoted fields some bytes line front c text rest left e s =
     }
 
 -- a byte between quotation marks
-pub inside : (fields : List (List ℕ)) (some bytes : List ℕ) (line front c : ℕ) (text rest left : List ℕ) → (c == 34) ≡ false
+pub inside : (fields : List (List ℕ)) (some bytes : List ℕ) (line front c : ℕ) (text rest left : List ℕ)
+    → (c == 34) ≡ false
     → StandsAt spots.Quoted fields some bytes line front text rest (c ∷ left)
     → StandsAt spots.Quoted fields some (bytes ++ c ∷ []) (line + line_feeds (c ∷ [])) front text rest left
 unfolding next_record
@@ -215,7 +229,8 @@ inside fields some bytes line front c text rest left e s =
     }
 
 -- the second of two quotation marks
-pub doubled : (fields : List (List ℕ)) (some bytes : List ℕ) (line front c : ℕ) (text rest left : List ℕ) → (c == 34) ≡ true
+pub doubled : (fields : List (List ℕ)) (some bytes : List ℕ) (line front c : ℕ) (text rest left : List ℕ)
+    → (c == 34) ≡ true
     → StandsAt spots.Quote fields some bytes line front text rest (c ∷ left)
     → StandsAt spots.Quoted fields some (bytes ++ c ∷ []) line front text rest left
 unfolding next_record
@@ -230,7 +245,8 @@ doubled fields some bytes line front c text rest left e s =
     }
 
 -- a byte of a field without quotation marks, or one that ends a field
-pub settles : (spot : Spot) (fields : List (List ℕ)) (some bytes : List ℕ) (line front c : ℕ) (text rest left : List ℕ) → MayBePlain spot c
+pub settles : (spot : Spot) (fields : List (List ℕ)) (some bytes : List ℕ) (line front c : ℕ) (text rest left : List ℕ)
+    → MayBePlain spot c
     → StandsAt spot fields some bytes line front text rest (c ∷ left)
     → StandsAt spots.Plain fields some bytes line front text rest (c ∷ left)
 settles spots.Field fields some bytes line front c text rest left may s = record {
@@ -264,7 +280,8 @@ runs fields some bytes line front text rest run left a s = record {
 }
 
 -- a comma
-pub parts : (fields : List (List ℕ)) (some bytes : List ℕ) (line front c : ℕ) (text rest left : List ℕ) → (c == 44) ≡ true
+pub parts : (fields : List (List ℕ)) (some bytes : List ℕ) (line front c : ℕ) (text rest left : List ℕ)
+    → (c == 44) ≡ true
     → StandsAt spots.Plain fields some bytes line front text rest (c ∷ left)
     → StandsAt spots.Field (fields ++ bytes ∷ []) [] [] line front text rest left
 parts fields some bytes line front c text rest left e s =
@@ -278,7 +295,8 @@ parts fields some bytes line front c text rest left e s =
     }
 
 -- the end of the row
-pub closes : (fields : List (List ℕ)) (some bytes : List ℕ) (line front c : ℕ) (text rest left : List ℕ) → (c == 44) ≡ false → ends_line c ≡ true
+pub closes : (fields : List (List ℕ)) (some bytes : List ℕ) (line front c : ℕ) (text rest left : List ℕ)
+    → (c == 44) ≡ false → ends_line c ≡ true
     → StandsAt spots.Plain fields some bytes line front text rest (c ∷ left)
     → StandsAt spots.Over (fields ++ bytes ∷ []) [] [] (line + line_feeds (c ∷ [])) front text rest left
 closes fields some bytes line front c text rest left e end s =
@@ -293,7 +311,8 @@ closes fields some bytes line front c text rest left e end s =
     }
 
 -- the end of the text
-pub ends : (spot : Spot) (fields : List (List ℕ)) (some bytes : List ℕ) (line front : ℕ) (text rest : List ℕ) → spot ≢ spots.Row → spot ≢ spots.Over
+pub ends : (spot : Spot) (fields : List (List ℕ)) (some bytes : List ℕ) (line front : ℕ) (text rest : List ℕ)
+    → spot ≢ spots.Row → spot ≢ spots.Over
     → StandsAt spot fields some bytes line front text rest []
     → StandsAt spots.Over (fields ++ bytes ∷ []) [] [] line front text rest []
 unfolding next_record
@@ -335,13 +354,16 @@ unfolding next_record
 no_row fields some bytes line front text rest s = s.goes
 
 -- the same spot by another name
-pub moved : (spot other : Spot) (fields : List (List ℕ)) (some bytes : List ℕ) (line front : ℕ) (text rest left : List ℕ) → spot ≡ other
-    → StandsAt spot fields some bytes line front text rest left → StandsAt other fields some bytes line front text rest left
+pub moved : (spot other : Spot) (fields : List (List ℕ)) (some bytes : List ℕ) (line front : ℕ)
+    (text rest left : List ℕ) → spot ≡ other
+    → StandsAt spot fields some bytes line front text rest left
+    → StandsAt other fields some bytes line front text rest left
 moved spot other fields some bytes line front text rest left is s =
     subst (λ x. StandsAt x fields some bytes line front text rest left) is s
 
 -- a quotation mark that comes first stands in front of a field
-pub first_marked : (spot : Spot) (c : ℕ) → IsMarked spot c → (spot ≡ spots.Field) ⊎ (spot ≡ spots.Plain) ⊎ (spot ≡ spots.Over)
+pub first_marked : (spot : Spot) (c : ℕ) → IsMarked spot c → (spot ≡ spots.Field) ⊎ (spot ≡ spots.Plain)
+    ⊎ (spot ≡ spots.Over)
     → (spot ≡ spots.Field) × ((c == 34) ≡ true)
 first_marked spot c m (inl e) = (e, subst (λ x. IsMarked x c) e m)
 first_marked spot c m (inr (inl e)) = absurd (subst (λ x. IsMarked x c) e m)
@@ -365,35 +387,41 @@ part_more text at end low high =
     let there : at + (end - at) ≡ end = omega arith in
     let less : end - at < length (drop at text) = omega (arith, length-drop at text) in
     ap (λ n. take n (drop at text)) one ∙ take_more (drop at text) (end - at) 0 less
-    ∙ ap (λ v. take (end - at) (drop at text) ++ v ∷ []) (get_or-drop at text (end - at) 0 ∙ ap (λ k. get_or text k 0) there)
+    ∙ ap (λ v. take (end - at) (drop at text) ++ v ∷ []) (get_or-drop at text (end - at) 0 ∙ ap (λ k. get_or text k 0)
+    there)
 
 pub longer_part : (text : List ℕ) (at end : ℕ) → at ≤ end → end < length text → ArePlain (part text at end)
     → ends_field (get_or text end 0) ≡ false → ArePlain (part text at (end + 1))
 longer_part text at end low high a e =
     subst ArePlain (sym (part_more text at end low high)) (plain_more (part text at end) (get_or text end 0) a e)
 
-part_split : (text more : List ℕ) (at end : ℕ) → at ≤ end → drop at text ++ more ≡ part text at end ++ (drop end text ++ more)
+part_split : (text more : List ℕ) (at end : ℕ) → at ≤ end → drop at text ++ more ≡ part text at end
+    ++ (drop end text ++ more)
 part_split text more at end low =
     let there : at + (end - at) ≡ end = omega arith in
     ap (λ t. t ++ more) (sym (take-append-drop (end - at) (drop at text)))
     ∙ append_assoc (part text at end) (drop (end - at) (drop at text)) more
     ∙ ap (λ t. part text at end ++ (t ++ more)) (drop-drop (end - at) at text ∙ ap (λ n. drop n text) there)
 
-pub next_byte : (text more : List ℕ) (at : ℕ) → at < length text → drop at text ++ more ≡ get_or text at 0 ∷ (drop (at + 1) text ++ more)
+pub next_byte : (text more : List ℕ) (at : ℕ) → at < length text → drop at text ++ more ≡ get_or text at 0
+    ∷ (drop (at + 1) text ++ more)
 next_byte text more at lt = rw (add-one, drop-cons text at 0 lt) refl
 
 -- a run of bytes without quotation marks
-pub run_at : (spot : Spot) (fields : List (List ℕ)) (some bytes : List ℕ) (line front : ℕ) (text more whole rest : List ℕ) (at end : ℕ)
+pub run_at : (spot : Spot) (fields : List (List ℕ)) (some bytes : List ℕ) (line front : ℕ)
+    (text more whole rest : List ℕ) (at end : ℕ)
     → at < length text → at ≤ end → MayBePlain spot (get_or text at 0) → ArePlain (part text at end)
     → StandsAt spot fields some bytes line front whole rest (drop at text ++ more)
     → StandsAt spots.Plain fields some (bytes ++ part text at end) line front whole rest (drop end text ++ more)
 run_at spot fields some bytes line front text more whole rest at end lt low may a s =
     let first = next_byte text more at lt in
-    let here : StandsAt spots.Plain fields some bytes line front whole rest (get_or text at 0 ∷ (drop (at + 1) text ++ more)) =
+    let here : StandsAt spots.Plain fields some bytes line front whole rest
+    (get_or text at 0 ∷ (drop (at + 1) text ++ more)) =
     settles spot fields some bytes line front (get_or text at 0) whole rest (drop (at + 1) text ++ more) may
     (subst (λ l. StandsAt spot fields some bytes line front whole rest l) first s) in
     runs fields some bytes line front whole rest (part text at end) (drop end text ++ more) a
-    (subst (λ l. StandsAt spots.Plain fields some bytes line front whole rest l) (sym first ∙ part_split text more at end low) here)
+    (subst (λ l. StandsAt spots.Plain fields some bytes line front whole rest l)
+    (sym first ∙ part_split text more at end low) here)
 
 -- one part and then the next
 pub takes_on : (first second third : RowReader) (text : List ℕ) (at here end : ℕ) → TakesTo first second text at here

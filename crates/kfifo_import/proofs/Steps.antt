@@ -1,6 +1,6 @@
 -- The walks over the ends and over the calls: a call's stamps come from how many have begun or ended by its times.
-use Rattle.std.proofs.Common.{ℕ, [], ◌∷◌, ◌++◌, ◌≡◌, ◌+◌, ◌<◌, List, length, get_or, set, sym, ◌∙◌, ap, subst, refl, inl, inr, arith}
-use Rattle.std.proofs.Common.{None, length-append, length-set, get_or-set_other, get_or-set_same}
+use Rattle.std.proofs.Common.{ℕ, [], ◌∷◌, ◌++◌, ◌≡◌, ◌+◌, ◌<◌, List, length, get_or, set, sym, ◌∙◌, ap, subst, refl}
+use Rattle.std.proofs.Common.{inl, inr, arith, None, length-append, length-set, get_or-set_other, get_or-set_same}
 use Rattle.std.specs.List.Sorted.{IsNonDecreasingBy}
 use Rattle.std.proofs.lemmas.Bool.{cases_eq}
 use Rattle.std.proofs.lemmas.List.{get_or_append_left}
@@ -9,8 +9,8 @@ use Rattle.kfifo_model.specs.declared.calls.Call.{Call}
 use Rattle.kfifo_model.specs.declared.calls.Op.TheVariants.{Enqueue}
 use Rattle.kfifo_model.specs.Histories.{call, no_call}
 use Rattle.kfifo_import.specs.declared.moments.Moment.{Moment}
-use Rattle.kfifo_import.specs.Stamping.{AreEndStamps, AreSortedEnds, AreStampedTo, BeginByEnds, EndBeforeBeginnings, HaveBegun, HaveEnded}
-use Rattle.kfifo_import.specs.Stamping.{IsEndStamp, IsStampOf, end_of, first_at, no_moment}
+use Rattle.kfifo_import.specs.Stamping.{AreEndStamps, AreSortedEnds, AreStampedTo, BeginByEnds, EndBeforeBeginnings}
+use Rattle.kfifo_import.specs.Stamping.{HaveBegun, HaveEnded, IsEndStamp, IsStampOf, end_of, first_at, no_moment}
 
 -- the call past the last one that the code's proofs speak of
 abbrev pub other_call : Call
@@ -18,7 +18,8 @@ other_call = record { thread = 0; op = Enqueue 0; first = 0; end = None }
 
 -- ---- the ends
 
-pub one_stamp : (l : List Call) (ends : List Moment) (stamps : List ℕ) (q begun : ℕ) → AreSortedEnds l ends → q < length ends
+pub one_stamp : (l : List Call) (ends : List Moment) (stamps : List ℕ) (q begun : ℕ) → AreSortedEnds l ends
+    → q < length ends
     → AreEndStamps l ends q stamps → HaveBegun l (get_or ends q no_moment).time begun
     → AreEndStamps l ends (q + 1) (set stamps (get_or ends q no_moment).number (q + begun))
 one_stamp l ends stamps q begun sorted lt was have =
@@ -74,13 +75,15 @@ end_more l ends n ended rise have = record {
 
 -- one call more with its stamps
 pub one_more : (l : List Call) (ends : List Moment) (stamps : List ℕ) (n : ℕ) (found : List Call) (s : Call)
-    → AreStampedTo l ends stamps n found → IsStampOf l ends stamps n s → AreStampedTo l ends stamps (n + 1) (found ++ s ∷ [])
+    → AreStampedTo l ends stamps n found → IsStampOf l ends stamps n s
+    → AreStampedTo l ends stamps (n + 1) (found ++ s ∷ [])
 one_more l ends stamps n found s was is = record {
   sized = (let a = length-append found (s ∷ []) in omega (arith, a, was.sized));
   each = λ m lt. elim (cases_eq m n) [
     | inl same ↦ subst (λ x. IsStampOf l ends stamps x (call (found ++ s ∷ []) x)) (sym same)
         (subst (λ (t : Call). IsStampOf l ends stamps n t)
-        (sym (subst (λ x. get_or (found ++ s ∷ []) x no_call ≡ s) was.sized (get_or-append_seam found s [] no_call))) is)
+        (sym (subst (λ x. get_or (found ++ s ∷ []) x no_call ≡ s) was.sized (get_or-append_seam found s [] no_call)))
+        is)
     | inr ne ↦
         let e : get_or (found ++ s ∷ []) m no_call ≡ get_or found m no_call =
         get_or_append_left found (s ∷ []) no_call m (omega (arith, was.sized)) in

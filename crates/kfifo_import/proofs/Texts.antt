@@ -1,6 +1,6 @@
 -- A field gives one number or one text at most, and a row that lacks one is no call.
-use Rattle.std.proofs.Common.{ℕ, zero, suc, ◌∷◌, ◌≡◌, ◌∙◌, ◌<◌, ◌≤◌, ◌^◌, List, [], Option, Some, None, get_or, length, ap, option_map}
-use Rattle.std.proofs.Common.{refl, sym, subst, arith, Result, Ok, Err, MatchOption}
+use Rattle.std.proofs.Common.{ℕ, zero, suc, ◌∷◌, ◌≡◌, ◌∙◌, ◌<◌, ◌≤◌, ◌^◌, List, [], Option, Some, None, get_or, length}
+use Rattle.std.proofs.Common.{ap, option_map, refl, sym, subst, arith, Result, Ok, Err, MatchOption}
 use Rattle.std.specs.Result.{OkIff, result_ok}
 use Rattle.std.specs.Str.Parse.{digits_value, ParsesUnsigned}
 use Rattle.std.specs.Str.{IsAscii, IsUtf8}
@@ -11,7 +11,8 @@ use Rattle.kfifo_model.specs.declared.calls.End.{End}
 use Rattle.kfifo_model.specs.declared.calls.Op.{Op}
 use Rattle.kfifo_model.specs.declared.calls.Op.TheVariants.{Enqueue, Dequeue}
 use Rattle.kfifo_import.specs.declared.table.Columns.{Columns}
-use Rattle.kfifo_import.specs.Fields.{DoesNotApply, Gives, GivesText, IsDigits, IsEnd, IsOp, WritesSmall, WritesWhole, small}
+use Rattle.kfifo_import.specs.Fields.{DoesNotApply, Gives, GivesText, IsDigits, IsEnd, IsOp, WritesSmall, WritesWhole}
+use Rattle.kfifo_import.specs.Fields.{small}
 use Rattle.kfifo_import.specs.Tables.{IsNoCall}
 
 own : IsNumeralModel IsDigits (digits_value 10)
@@ -22,9 +23,15 @@ pub parsed : {E : Type 0} (text : List ℕ) (r : Result ℕ E) → ParsesUnsigne
     → MatchOption (result_ok r) ((number : ℕ) → WritesWhole text number → ⊥) (WritesWhole text)
 parsed text r h digits = cases r (parse_digits own 64 text r h digits)
   where
-    cases : {E : Type 0} (r : Result ℕ E) → OkIff r ((0 < length text) × (digits_value 10 text < 2 ^ 64)) (digits_value 10 text)
+    cases : {E : Type 0} (r : Result ℕ E)
+        → OkIff r ((0 < length text) × (digits_value 10 text < 2 ^ 64)) (digits_value 10 text)
         → MatchOption (result_ok r) ((number : ℕ) → WritesWhole text number → ⊥) (WritesWhole text)
-    cases (Ok n) h = record { some = omega (arith, h.0.0); digits = digits; value = h.1; fits = omega (arith, h.0.1, h.1) }
+    cases (Ok n) h = record {
+      some = omega (arith, h.0.0);
+      digits = digits;
+      value = h.1;
+      fits = omega (arith, h.0.1, h.1);
+    }
     cases (Err e) h = λ number w. h (omega (arith, w.some), omega (arith, w.fits, w.value))
 
 -- digits are text
@@ -59,10 +66,12 @@ gives_same Writes same some given (Some a) (Some b) p q =
     let e : p.0 ≡ q.0 = cc (p.1, q.1) in
     ap Some (same q.0 a b (subst (λ t. Writes t a) e p.2) q.2)
 
-pub whole_once : (given : Option (List ℕ)) (a b : Option ℕ) → Gives WritesWhole given a → Gives WritesWhole given b → a ≡ b
+pub whole_once : (given : Option (List ℕ)) (a b : Option ℕ) → Gives WritesWhole given a → Gives WritesWhole given b
+    → a ≡ b
 whole_once = gives_same WritesWhole whole_same (λ text a w. w.some)
 
-pub small_once : (given : Option (List ℕ)) (a b : Option ℕ) → Gives WritesSmall given a → Gives WritesSmall given b → a ≡ b
+pub small_once : (given : Option (List ℕ)) (a b : Option ℕ) → Gives WritesSmall given a → Gives WritesSmall given b
+    → a ≡ b
 small_once = gives_same WritesSmall small_same (λ text a w. w.1.some)
 
 pub text_once : (given : Option (List ℕ)) (a b : Option (List ℕ)) → GivesText given a → GivesText given b → a ≡ b
@@ -72,7 +81,8 @@ text_once given (Some a) None p q = absurd (not_empty given a p.0 p.1 q)
 text_once given (Some a) (Some b) p q = sym p.0 ∙ q.0
 
 -- a text that writes no number gives none
-pub gives_nothing : (Writes : List ℕ → ℕ → Type 0) (given : Option (List ℕ)) (text : List ℕ) → GivesText given (Some text)
+pub gives_nothing : (Writes : List ℕ → ℕ → Type 0) (given : Option (List ℕ)) (text : List ℕ)
+    → GivesText given (Some text)
     → ((a : ℕ) → Writes text a → ⊥)
     → (a : Option ℕ) → Gives Writes given a → ⊥
 gives_nothing Writes given text t none None d = not_empty given text t.0 t.1 d
@@ -87,7 +97,8 @@ op_once text item Dequeue (Enqueue y) p q = let e = ap (λ t. get_or t 0 0) (sym
 op_once text item Dequeue Dequeue p q = refl
 
 -- a field that gives a number gives it as one of 32 bits
-pub small_given : (given : Option (List ℕ)) (item : Option ℕ) → Gives WritesWhole given item → Gives WritesSmall given (option_map small item)
+pub small_given : (given : Option (List ℕ)) (item : Option ℕ) → Gives WritesWhole given item
+    → Gives WritesSmall given (option_map small item)
 small_given given None d = d
 small_given given (Some number) d = (d.0, d.1, (number, d.2, refl))
 
@@ -102,14 +113,16 @@ no_item columns fields none = λ call is. without is.item is.item_given
 
 -- a row whose operation, or whose end, is none
 module _ (columns : Columns) (fields : List (List ℕ)) (item last : Option ℕ) (text : List ℕ)
-    (item_given : Gives WritesSmall (field_at fields columns.item) item) (op_given : field_at fields columns.op ≡ Some text) where
+    (item_given : Gives WritesSmall (field_at fields columns.item) item) (op_given : field_at fields columns.op
+    ≡ Some text) where
   pub no_op : ((op : Op) → IsOp text item op → ⊥) → IsNoCall columns fields
   no_op none = λ call is.
       let i = small_once (field_at fields columns.item) is.item item is.item_given item_given in
       let t : is.op_text ≡ text = cc (is.op_given, op_given) in
       none call.op (rw (t, i) at is.op)
 
-  pub no_end : (op : Op) (answer : Option (List ℕ)) → Gives WritesWhole (field_at fields columns.last) last → IsOp text item op
+  pub no_end : (op : Op) (answer : Option (List ℕ)) → Gives WritesWhole (field_at fields columns.last) last
+      → IsOp text item op
       → GivesText (field_at fields columns.answer) answer → ((end : Option End) → IsEnd op last answer item end → ⊥)
       → IsNoCall columns fields
   no_end op answer last_given is_op answer_given none = λ call is.

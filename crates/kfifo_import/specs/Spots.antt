@@ -1,7 +1,7 @@
 -- How a reader of rows goes over a text, as the state machine of `csv` does. Whatever comes after the bytes that it has
 -- taken is left: a clause holds for any text that goes on behind them.
-use Rattle.std.specs.Prelude.{◌≡◌, ◌≢◌, ◌≤◌, ◌<◌, ◌+◌, ◌-◌, ◌==◌, ◌||◌, ⊤, true, false, ℕ, Bool, List, [], ◌∷◌, ◌++◌, None, Some}
-use Rattle.std.specs.Prelude.{drop, length, take}
+use Rattle.std.specs.Prelude.{◌≡◌, ◌≢◌, ◌≤◌, ◌<◌, ◌+◌, ◌-◌, ◌==◌, ◌||◌, ⊤, true, false, ℕ, Bool, List, [], ◌∷◌, ◌++◌}
+use Rattle.std.specs.Prelude.{None, Some, drop, length, take}
 use Rattle.csv.specs.Machine.{next_record}
 use Rattle.csv.specs.Reading.{default_config}
 use Rattle.csv.specs.Records.{fields_of, partial_of}
@@ -50,7 +50,8 @@ BeginsIn spots.Row front text rest left = behind_ends rest ≡ behind_ends left
 BeginsIn _ front text rest left = (1 ≤ front) × (front + line_feeds (behind_ends rest) ≡ line_feeds text + 1)
 
 -- Of a text, the row that begins with the rest was taken up to what is left.
-pub record StandsAt (spot : Spot) (fields : List (List ℕ)) (some bytes : List ℕ) (line front : ℕ) (text rest left : List ℕ) : Type 0 where
+pub record StandsAt (spot : Spot) (fields : List (List ℕ)) (some bytes : List ℕ) (line front : ℕ)
+    (text rest left : List ℕ) : Type 0 where
   pub goes : Goes spot fields bytes rest left
   pub none : some ≡ []
   pub first : 1 ≤ line
@@ -97,7 +98,8 @@ pub record TakesTo (before after : RowReader) (bytes : List ℕ) (at end : ℕ) 
 abbrev pub Parts : RowReader → RowReader → ℕ → Type 0
 Parts before after byte = (fields : List (List ℕ)) (bytes text rest left : List ℕ)
     → fields_of before.row ≡ fields ++ bytes ∷ [] → partial_of before.row ≡ [] → before.field.items ≡ []
-    → StandsAt spots.Plain fields [] bytes before.line before.front text rest (byte ∷ left) → Stands after text rest left
+    → StandsAt spots.Plain fields [] bytes before.line before.front text rest (byte ∷ left)
+    → Stands after text rest left
 
 -- the row has not ended
 abbrev pub IsOpen : RowReader → Type 0

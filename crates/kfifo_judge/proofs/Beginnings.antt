@@ -7,7 +7,8 @@ no_bracket : IsSpace 91 → ⊥
 no_bracket s = omega (arith, s)
 
 -- it is where all before it are white space, and it is none
-first_is : (bytes : List ℕ) (place : ℕ) → (IsSpace (get_or bytes place 0) → ⊥) → ((n : ℕ) → n < place → IsSpace (get_or bytes n 0))
+first_is : (bytes : List ℕ) (place : ℕ) → (IsSpace (get_or bytes place 0) → ⊥)
+    → ((n : ℕ) → n < place → IsSpace (get_or bytes n 0))
     → BeginsRecord bytes → get_or bytes place 0 ≡ 91
 first_is bytes place other spaces r =
     let early : r.place < place → ⊥ = λ l. no_bracket (subst IsSpace r.bracket (spaces r.place l)) in
@@ -27,7 +28,8 @@ pub none : (bytes : List ℕ) → ((n : ℕ) → n < length bytes → IsSpace (g
 none bytes spaces r = no_bracket (subst IsSpace r.bracket (spaces r.place r.inside))
 
 -- a text whose first byte that is no white space is no bracket is none, whatever comes behind it
-pub no_record : (bytes : List ℕ) (place : ℕ) → EndsSpaces bytes place → place < length bytes → get_or bytes place 0 ≢ 91 → BeginsLog bytes
+pub no_record : (bytes : List ℕ) (place : ℕ) → EndsSpaces bytes place → place < length bytes → get_or bytes place 0 ≢ 91
+    → BeginsLog bytes
 no_record bytes place ends inside other = (
   (λ none. (let empty = ap length none in omega (arith, empty, inside))),
   (λ more r.

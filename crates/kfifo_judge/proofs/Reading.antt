@@ -1,5 +1,6 @@
 -- Records that are too long, of which a part has been read.
-use Rattle.std.proofs.Common.{◌∙◌, ◌<◌, ◌++◌, ℕ, IfSome, List, Option, None, Some, length, arith, subst, sym, length-append}
+use Rattle.std.proofs.Common.{◌∙◌, ◌<◌, ◌++◌, ℕ, IfSome, List, Option, None, Some, length, arith, subst, sym}
+use Rattle.std.proofs.Common.{length-append}
 use Rattle.std.proofs.lemmas.List.{get_or_append_left}
 use Rattle.std.specs.Io.KnownBytes.{Consumes}
 use Rattle.kfifo_judge.specs.Inputs.{IsLongRecord, IsSpace}

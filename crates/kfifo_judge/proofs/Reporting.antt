@@ -45,13 +45,15 @@ moved Wrong item = refl
 named : (c : NamedCall) → IsPlain (specs.named_value c)
 named c = rw (answer c.call.end, moved (effect_of c.call) c.item, number c.last, number c.line) refl
 
-items : {A : Type 0} (f : A → Data) → ((a : A) → IsPlain (f a)) → (xs : List A) → items_have_float (items_of (map f xs)) ≡ false
+items : {A : Type 0} (f : A → Data) → ((a : A) → IsPlain (f a)) → (xs : List A) → items_have_float (items_of (map f xs))
+    ≡ false
 items f plain [] = refl
 items f plain (x ∷ xs) = rw (plain x) (items f plain xs)
 
 found_is : (logged : List LoggedCall) (h : List Call) (found : Evidence) → IsPlain (specs.evidence_value logged h found)
 found_is logged h found =
-    rw (items (λ n. specs.named_value (named_call logged h n)) (λ n. named (named_call logged h n)) (named_by h found)) refl
+    rw (items (λ n. specs.named_value (named_call logged h n)) (λ n. named (named_call logged h n))
+    (named_by h found)) refl
 
 evidence : (logged : List LoggedCall) (h : List Call) (j : Judgement) → IsPlain (specs.evidence_in logged h j)
 evidence logged h (Legal order) = refl

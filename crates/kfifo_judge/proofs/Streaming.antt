@@ -23,7 +23,8 @@ module _ (s : Streams) where
       (reads, whole s.given bytes (subst (λ b. IfSome s.given (λ xs. xs ≡ b)) (sym same) given) (rw same small))
 
   module _ (Answers : List ℕ → List ℕ → Outcome → Type 0) (IsFault : List ℕ → StreamFault → Type 0) where
-    pub refused : (bytes : List ℕ) → HasRead s bytes → (IsFault bytes faults.Input → ⊥) → (IsFault bytes faults.Output → ⊥)
+    pub refused : (bytes : List ℕ) → HasRead s bytes → (IsFault bytes faults.Input → ⊥)
+        → (IsFault bytes faults.Output → ⊥)
         → IsSilent s → (fault : StreamFault) → IsFault bytes fault → IsStreamAnswer Answers IsFault s (Err fault)
     refused bytes read no_input no_output silent faults.Input faulty = absurd (no_input faulty)
     refused bytes read no_input no_output silent faults.Output faulty = absurd (no_output faulty)
@@ -33,7 +34,8 @@ module _ (s : Streams) where
     refused bytes read no_input no_output silent (faults.Search f) faulty = (bytes, read, faulty, silent)
     refused bytes read no_input no_output silent faults.RepeatedItem faulty = (bytes, read, faulty, silent)
 
-    pub broken : (bytes text : List ℕ) (said : Outcome) → HasRead s bytes → Answers bytes text said → (fault : StreamFault)
+    pub broken : (bytes text : List ℕ) (said : Outcome) → HasRead s bytes → Answers bytes text said
+        → (fault : StreamFault)
         → (fault ≡ faults.Output) × AppendsPart s.held s.held_after text × CountsOne s.writes s.writes_after
         → IsStreamAnswer Answers IsFault s (Err fault)
     broken bytes text said read answers fault broke = rw broke.0 (bytes, text, said, read, answers, broke.1, broke.2)

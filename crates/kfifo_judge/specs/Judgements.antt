@@ -7,8 +7,8 @@ use Rattle.kfifo_verdict.specs.declared.verdicts.Bounds.{Bounds}
 use Rattle.kfifo_verdict.specs.declared.verdicts.Evidence.{Evidence}
 use Rattle.kfifo_verdict.specs.declared.verdicts.Judgement.{Judgement}
 use Rattle.kfifo_verdict.specs.declared.verdicts.Judgement.TheVariants.{Legal, NoOrder, Undecided}
-use Rattle.kfifo_verdict.specs.declared.verdicts.Stuck.{Stuck}
-use Rattle.kfifo_verdict.specs.declared.verdicts.Stuck.TheVariants.{TriesRanOut, NothingLeft}
+use Rattle.kfifo_verdict.specs.declared.verdicts.GivenUp.{GivenUp}
+use Rattle.kfifo_verdict.specs.declared.verdicts.GivenUp.TheVariants.{TriesRanOut, NothingLeft}
 use Rattle.kfifo_verdict.specs.Judging.{IsJudgement, tries_made}
 use Rattle.kfifo_verdict.specs.Remainder.{items_left}
 use Rattle.kfifo_model.specs.declared.logged.LoggedCall.{LoggedCall}
@@ -49,7 +49,7 @@ IsNoOrderText k logged h found text bounds =
     × (text ≡ about (codes "no order") k ++ reason_lines logged h found ++ counts_line h ++ rest)
 
 -- why the search stopped
-abbrev pub stuck_words : Stuck → List ℕ
+abbrev pub stuck_words : GivenUp → List ℕ
 stuck_words (TriesRanOut tries) = codes "the tries ran out"
 stuck_words (NothingLeft tries) = codes "nothing is left to try"
 
@@ -57,12 +57,12 @@ abbrev pub tries_words : ℕ → List ℕ
 tries_words count = cond (eqb count 1) (codes "try") (codes "tries")
 
 -- why the search stopped, and after how many tries
-abbrev pub stuck_text : Stuck → List ℕ
+abbrev pub stuck_text : GivenUp → List ℕ
 stuck_text stuck = stuck_words stuck
     ++ counted (codes " after ") (tries_made stuck) (codes " " ++ tries_words (tries_made stuck))
 
 -- why the search stopped, and whether items repeat
-abbrev pub IsUndecidedText : ℕ → List Call → Stuck → List ℕ → Type 0
+abbrev pub IsUndecidedText : ℕ → List Call → GivenUp → List ℕ → Type 0
 IsUndecidedText k h stuck text =
     (note : List ℕ) × IsRepeatNote h note × (text ≡ about (codes "undecided") k ++ line (stuck_text stuck ++ note))
 

@@ -16,7 +16,7 @@ use crate::numbers::{greatest_of, push_numbers};
 use crate::outcome::Outcome;
 use crate::reasons::push_reasons;
 use kfifo_model::{History, LoggedCall, RankFault, items_repeat, ranks};
-use kfifo_verdict::{Bounds, Evidence, Judgement, Stuck, judge_and_count};
+use kfifo_verdict::{Bounds, Evidence, GivenUp, Judgement, judge_and_count};
 use std::alloc::{AllocError, Global};
 use std::fmt::Write;
 
@@ -138,17 +138,17 @@ fn no_order(
 }
 
 /// Why the search stopped.
-fn reason_of(stuck: Stuck) -> &'static str
+fn reason_of(stuck: GivenUp) -> &'static str
     ensures { result.now ≡ stuck_words stuck }
 {
     match stuck {
-        Stuck::TriesRanOut(_) => "the tries ran out",
-        Stuck::NothingLeft(_) => "nothing is left to try",
+        GivenUp::TriesRanOut(_) => "the tries ran out",
+        GivenUp::NothingLeft(_) => "nothing is left to try",
     }
 }
 
 /// Adds why the search stopped, and after how many tries.
-pub(crate) fn push_stuck(text: &mut String, stuck: Stuck) -> Result<(), AllocError>
+pub(crate) fn push_stuck(text: &mut String, stuck: GivenUp) -> Result<(), AllocError>
     ensures { OnOk result (string_bytes text.new ≡ string_bytes text.old ++ stuck_text stuck) }
 {
     let (reason, tries) = (reason_of(stuck), stuck.tries());
@@ -169,7 +169,7 @@ fn push_repeat_note(alloc: Global, text: &mut String, history: &History) -> Resu
 }
 
 /// What is said where neither an order nor evidence was found.
-fn undecided(alloc: Global, history: &History, k: u32, stuck: Stuck) -> Result<String, AllocError>
+fn undecided(alloc: Global, history: &History, k: u32, stuck: GivenUp) -> Result<String, AllocError>
     ensures { IfOk result (λ text. IsUndecidedText k history.now stuck (string_bytes text)) }
 {
     let mut text = String::new(alloc);

@@ -227,8 +227,8 @@ fn report_value(
 /// an object with the verdict (`status`), the text of `judge_text`, how many calls were judged and items left, and of
 /// `no order` the evidence, with its kind by number and name, a headline and the calls that it names, and the bounds of
 /// the least k where the text says them, and of `undecided` after how many tries the search gave up. What does not
-/// apply is null. `file` is the name of the file that was judged, null where there is none; `order` is there where it is
-/// to be shown. An error means that an allocation failed.
+/// apply is null. `file` is the name of the file that was judged, null where there is none; `order` is there where it
+/// is to be shown. An error means that an allocation failed.
 pub fn judge_report(
     alloc: Global,
     file: Option<&str>,

@@ -18,7 +18,11 @@ pub pictured : {S E : Type 0} (k : ℕ) (evidence : Bool) (h : List Call) (logge
     → (r : Result Report E)
     → IfOk r (λ r. MatchResult drawn (λ _. HasStatus DRAWN r) (λ fault. (fault ≡ TooMany) × HasStatus FAULT r))
     → IfOk r (IsPictureOn k evidence h logged)
-pictured k evidence h logged part is (Ok text) few (Ok r) has = record { part = part; part_is = is; drawn = inl (has, few) }
+pictured k evidence h logged part is (Ok text) few (Ok r) has = record {
+  part = part;
+  part_is = is;
+  drawn = inl (has, few);
+}
 pictured k evidence h logged part is (Err fault) many (Ok r) has =
     record { part = part; part_is = is; drawn = inr (has.1, many has.0) }
 pictured k evidence h logged part is drawn number (Err e) has = tt

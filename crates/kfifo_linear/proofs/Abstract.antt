@@ -1,6 +1,6 @@
 -- The machine over words and places as functions, and inductions over its schedules.
-use Rattle.std.proofs.Common.{◌==◌, ltb, ◌≡◌, ℕ, ◌+◌, ◌*◌, ◌<◌, ◌⊎◌, ◌≤◌, inl, inr, true, cond, eqb, refl, sym, ◌∙◌, ap, subst, arith, List, []}
-use Rattle.std.proofs.Common.{◌∷◌, length, get_or, set, Option, Some, None, Result, Ok, Err}
+use Rattle.std.proofs.Common.{◌==◌, ltb, ◌≡◌, ℕ, ◌+◌, ◌*◌, ◌<◌, ◌⊎◌, ◌≤◌, inl, inr, true, cond, eqb, refl, sym, ◌∙◌, ap}
+use Rattle.std.proofs.Common.{subst, arith, List, [], ◌∷◌, length, get_or, set, Option, Some, None, Result, Ok, Err}
 use Rattle.std.proofs.lemmas.Bool.{cases_Bool, cond_both, ltb-true, cases_eq}
 use Rattle.std.proofs.lemmas.Grind.{get_or-set_at}
 use Rattle.std.proofs.lemmas.Bool.Decides.{nat_tests}
@@ -12,8 +12,8 @@ use Rattle.kfifo_machine.specs.declared.event.Begin.TheVariants as B
 use Rattle.std.proofs.lemmas.Option.{none-some, same_Some}
 use Rattle.std.proofs.Math.Path.{fun_ext}
 use Rattle.kfifo_linear.specs.Ledger.{Ledger, called, found_in, ledger_after, ledger_from, ledger_of, noted, stepped}
-use Rattle.kfifo_machine.specs.Machine.{World, begun, found, may_begin, may_seal, moved, place_after, place_of, run, sealed, step, step_from, ticked, word_at}
-use Rattle.kfifo_machine.specs.Machine.{words_after}
+use Rattle.kfifo_machine.specs.Machine.{World, begun, found, may_begin, may_seal, moved, place_after, place_of, run}
+use Rattle.kfifo_machine.specs.Machine.{sealed, step, step_from, ticked, word_at, words_after}
 use Rattle.kfifo_machine.specs.Program.{access, accessed, advance, sealed_word}
 use Rattle.kfifo_machine.proofs.Versions.{sealable, sealed-same, seal-above}
 use Rattle.kfifo_linear.proofs.Types.{Begin, Event, Outcome, Running, Shape}
@@ -34,8 +34,13 @@ noted-other notes i j x ne = grind (arith, nat_tests)
 -- for `grind`: what stands at j after a note at i
 pub noted_tells : {X : Type 0} (notes : ℕ → X) (i : ℕ) (x : X) (j : ℕ) → (noted notes i x j ≡ noted notes i x j)
     × (((j ≡ i) × (noted notes i x j ≡ x)) ⊎ ((j ≡ i → ⊥) × (noted notes i x j ≡ notes j)))
-noted_tells notes i x j =
-    (refl, elim (cases_eq j i) [ inl e ↦ inl (e, noted-same notes i j x e) | inr ne ↦ inr (ne, noted-other notes i j x ne) ])
+noted_tells notes i x j = (
+  refl,
+  elim (cases_eq j i) [
+    | inl e ↦ inl (e, noted-same notes i j x e)
+    | inr ne ↦ inr (ne, noted-other notes i j x ne)
+  ],
+)
 
 -- words after an access, as a function of the index
 abbrev pub words_by : Access → (ℕ → ℕ) → ℕ → ℕ
@@ -68,10 +73,12 @@ get_or-words_after (Exchange index from to) words i h = exchanged words index fr
 length-words_after : (a : Access) (words : List ℕ) → length (words_after a words) ≡ length words
 length-words_after (Load index) words = refl
 length-words_after (Exchange index from to) words =
-    cond_both (eqb (get_or words index 0) from) (set words index to) words (λ ws. length ws ≡ length words) (λ _. length-set words index to)
+    cond_both (eqb (get_or words index 0) from) (set words index to) words (λ ws. length ws ≡ length words)
+    (λ _. length-set words index to)
     (λ _. refl)
 
-pub word_at-moved : (shape : Shape) (world : World) (thread : ℕ) (running : Running) → accessed (access shape running) < length world.words
+pub word_at-moved : (shape : Shape) (world : World) (thread : ℕ) (running : Running)
+    → accessed (access shape running) < length world.words
     → word_at (moved shape world thread running) ≡ words_by (access shape running) (word_at world)
 unfolding word_at moved
 word_at-moved shape world thread running h = fun_ext (λ i. get_or-words_after (access shape running) world.words i h)
@@ -106,7 +113,8 @@ pub run-none : (shape : Shape) (events : List Event) → run shape None events �
 run-none shape [] = refl
 run-none shape (event ∷ events) = refl
 
-on_result : {P : Type 0} (r : Result (World × Outcome) NotEnabled) → ((next : World) (outcome : Outcome) → r ≡ Ok (next, outcome) → P)
+on_result : {P : Type 0} (r : Result (World × Outcome) NotEnabled)
+    → ((next : World) (outcome : Outcome) → r ≡ Ok (next, outcome) → P)
     → ((fault : NotEnabled) → r ≡ Err fault → P) → P
 on_result (Ok v) ok err = ok v.0 v.1 refl
 on_result (Err f) ok err = err f refl
@@ -120,7 +128,8 @@ pub record OutsideCalls (shape : Shape) (w v : ℕ → ℕ) : Type 0 where
 
 pub tick_outside : (shape : Shape) (w : ℕ → ℕ) (x : ℕ) → OutsideCalls shape w (noted w (clock_at shape.k shape.n) x)
 tick_outside shape w x =
-    let ends : noted w (clock_at shape.k shape.n) x 0 ≡ w 0 = noted-other w (clock_at shape.k shape.n) 0 x (λ z. omega (arith, z)) in
+    let ends : noted w (clock_at shape.k shape.n) x 0 ≡ w 0 =
+    noted-other w (clock_at shape.k shape.n) 0 x (λ z. omega (arith, z)) in
     record {
       slots = λ i above below. noted-other w (clock_at shape.k shape.n) i x (λ z. omega (arith, below, z));
       rise = omega arith;
@@ -128,9 +137,11 @@ tick_outside shape w x =
       tail = ap tail_of ends;
     }
 
-pub seal_outside : (shape : Shape) (w : ℕ → ℕ) → may_seal shape (w 0) ≡ true → OutsideCalls shape w (noted w 0 (sealed_word shape (w 0)))
+pub seal_outside : (shape : Shape) (w : ℕ → ℕ) → may_seal shape (w 0) ≡ true
+    → OutsideCalls shape w (noted w 0 (sealed_word shape (w 0)))
 seal_outside shape w may =
-    let ends : noted w 0 (sealed_word shape (w 0)) 0 ≡ sealed_word shape (w 0) = noted-same w 0 0 (sealed_word shape (w 0)) refl in
+    let ends : noted w 0 (sealed_word shape (w 0)) 0 ≡ sealed_word shape (w 0) =
+    noted-same w 0 0 (sealed_word shape (w 0)) refl in
     let same = sealed-same shape (w 0) in
     record {
       slots = λ i above below. noted-other w 0 i (sealed_word shape (w 0)) (λ z. absurd (omega (arith, above, z)));
@@ -139,15 +150,19 @@ seal_outside shape w may =
       tail = ap tail_of ends ∙ same.1;
     }
 
--- An induction over schedules: what a call's begin, a thread's step, and a tick or a seal keep holds after every schedule.
+-- An induction over schedules: what a call's begin, a thread's step, and a tick or a seal keep holds after every
+-- schedule.
 module _ (shape : Shape) (Inv : (ℕ → ℕ) → (ℕ → Option Running) → Ledger → Type 0)
     (in_table : (w : ℕ → ℕ) (p : ℕ → Option Running) (l : Ledger) (t : ℕ) (r : Running) → Inv w p l → p t ≡ Some r
     → accessed (access shape r) < table_size shape)
-    (begins : (w : ℕ → ℕ) (p : ℕ → Option Running) (l : Ledger) (t : ℕ) (b : Begin) (r : Running) → Inv w p l → p t ≡ None
+    (begins : (w : ℕ → ℕ) (p : ℕ → Option Running) (l : Ledger) (t : ℕ) (b : Begin) (r : Running) → Inv w p l → p t
+    ≡ None
     → may_begin shape b ≡ true → begun b ≡ Some r → Inv w (noted p t (Some r)) (called t b l))
     (steps : (w : ℕ → ℕ) (p : ℕ → Option Running) (l : Ledger) (t : ℕ) (r : Running) → Inv w p l → p t ≡ Some r
-    → Inv (words_by (access shape r) w) (noted p t (place_after (advance shape r (found_in shape w r)))) (stepped shape w t r l))
-    (outside : (w v : ℕ → ℕ) (p : ℕ → Option Running) (l : Ledger) → OutsideCalls shape w v → Inv w p l → Inv v p (record l { now = l.now + 1 }))
+    → Inv (words_by (access shape r) w) (noted p t (place_after (advance shape r (found_in shape w r))))
+    (stepped shape w t r l))
+    (outside : (w v : ℕ → ℕ) (p : ℕ → Option Running) (l : Ledger) → OutsideCalls shape w v → Inv w p l
+    → Inv v p (record l { now = l.now + 1 }))
   where
     -- a world and a ledger at which it holds
     pub record At (world : World) (l : Ledger) : Type 0 where
@@ -166,7 +181,8 @@ module _ (shape : Shape) (Inv : (ℕ → ℕ) → (ℕ → Option Running) → L
           size,
         ) in
         let s : Inv (words_by (access shape r) (word_at world))
-        (noted (noted (place_of world) thread (Some r)) thread (place_after (advance shape r (found_in shape (word_at world) r))))
+        (noted (noted (place_of world) thread (Some r)) thread
+        (place_after (advance shape r (found_in shape (word_at world) r))))
         (stepped shape (word_at world) thread r l)
         = steps (word_at world) (noted (place_of world) thread (Some r)) l thread r h
         (noted-same (place_of world) thread thread (Some r) refl) in
@@ -174,11 +190,13 @@ module _ (shape : Shape) (Inv : (ℕ → ℕ) → (ℕ → Option Running) → L
         (noted (place_of world) thread (place_after (advance shape r (found_in shape (word_at world) r))))
         (stepped shape (word_at world) thread r l)
         = subst (λ p. Inv (words_by (access shape r) (word_at world)) p (stepped shape (word_at world) thread r l))
-        (noted-noted (place_of world) thread (Some r) (place_after (advance shape r (found_in shape (word_at world) r)))) s in
+        (noted-noted (place_of world) thread (Some r)
+        (place_after (advance shape r (found_in shape (word_at world) r)))) s in
         let v : Inv (word_at (moved shape world thread r))
         (noted (place_of world) thread (place_after (advance shape r (found_in shape (word_at world) r))))
         (stepped shape (word_at world) thread r l)
-        = subst (λ w. Inv w (noted (place_of world) thread (place_after (advance shape r (found_in shape (word_at world) r))))
+        = subst (λ w. Inv w
+        (noted (place_of world) thread (place_after (advance shape r (found_in shape (word_at world) r))))
         (stepped shape (word_at world) thread r l)) (sym (word_at-moved shape world thread r within)) u in
         record {
           size = length-moved shape world thread r ∙ size;
@@ -199,7 +217,8 @@ module _ (shape : Shape) (Inv : (ℕ → ℕ) → (ℕ → Option Running) → L
     ticked_at world l h =
         let within : clock_at shape.k shape.n < length world.words = omega (arith, h.size) in
         record {
-          size = length-set world.words (clock_at shape.k shape.n) (get_or world.words (clock_at shape.k shape.n) 0 + 1) ∙ h.size;
+          size = length-set world.words (clock_at shape.k shape.n) (get_or world.words (clock_at shape.k shape.n) 0 + 1)
+              ∙ h.size;
           holds = subst (λ w. Inv w (place_of world) (record l { now = l.now + 1 }))
               (fun_ext (λ i. sym (get_or-set-noted world.words (clock_at shape.k shape.n) i
               (get_or world.words (clock_at shape.k shape.n) 0 + 1) 0 within)))
@@ -214,13 +233,16 @@ module _ (shape : Shape) (Inv : (ℕ → ℕ) → (ℕ → Option Running) → L
         record {
           size = length-set world.words 0 (sealed_word shape (get_or world.words 0 0)) ∙ h.size;
           holds = subst (λ w. Inv w (place_of world) (record l { now = l.now + 1 }))
-              (fun_ext (λ i. sym (get_or-set-noted world.words 0 i (sealed_word shape (get_or world.words 0 0)) 0 within)))
+              (fun_ext (λ i. sym (get_or-set-noted world.words 0 i (sealed_word shape (get_or world.words 0 0)) 0
+              within)))
               (outside (word_at world) _ (place_of world) l (seal_outside shape (word_at world) may) h.holds);
         }
 
-    step_at : (world next : World) (outcome : Outcome) (thread : ℕ) (place : Option Running) (begin : Option Begin) (l : Ledger)
+    step_at : (world next : World) (outcome : Outcome) (thread : ℕ) (place : Option Running) (begin : Option Begin)
+        (l : Ledger)
         → thread < length world.places → place_of world thread ≡ place → At world l
-        → step_from shape world thread place begin ≡ Ok (next, outcome) → At next (ledger_from shape (word_at world) thread place begin l)
+        → step_from shape world thread place begin ≡ Ok (next, outcome)
+        → At next (ledger_from shape (word_at world) thread place begin l)
     step_at world next outcome thread None None l t p h e = cc
     step_at world next outcome thread None (Some (B.Enqueue item start turns)) l t p h e =
         elim (cases_Bool (may_begin shape (B.Enqueue item start turns))) [
@@ -228,8 +250,10 @@ module _ (shape : Shape) (Inv : (ℕ → ℕ) → (ℕ → Option Running) → L
               let s : moved shape world thread (R.Enqueue item start turns E.LoadEnds) ≡ next = ok_world (rw m at e) in
               subst (λ w. At w (stepped shape (word_at world) thread (R.Enqueue item start turns E.LoadEnds)
               (called thread (B.Enqueue item start turns) l))) s
-              (moved_at world thread (R.Enqueue item start turns E.LoadEnds) (called thread (B.Enqueue item start turns) l) h.size t
-              (begins (word_at world) (place_of world) l thread (B.Enqueue item start turns) (R.Enqueue item start turns E.LoadEnds)
+              (moved_at world thread (R.Enqueue item start turns E.LoadEnds)
+              (called thread (B.Enqueue item start turns) l) h.size t
+              (begins (word_at world) (place_of world) l thread (B.Enqueue item start turns)
+              (R.Enqueue item start turns E.LoadEnds)
               h.holds p m refl))
           | inr m ↦ absurd (err_ok (rw m at e))
         ]
@@ -239,8 +263,10 @@ module _ (shape : Shape) (Inv : (ℕ → ℕ) → (ℕ → Option Running) → L
               let s : moved shape world thread (R.Dequeue start turns D.LoadEnds) ≡ next = ok_world (rw m at e) in
               subst (λ w. At w (stepped shape (word_at world) thread (R.Dequeue start turns D.LoadEnds)
               (called thread (B.Dequeue start turns) l))) s
-              (moved_at world thread (R.Dequeue start turns D.LoadEnds) (called thread (B.Dequeue start turns) l) h.size t
-              (begins (word_at world) (place_of world) l thread (B.Dequeue start turns) (R.Dequeue start turns D.LoadEnds) h.holds p m
+              (moved_at world thread (R.Dequeue start turns D.LoadEnds) (called thread (B.Dequeue start turns) l)
+              h.size t
+              (begins (word_at world) (place_of world) l thread (B.Dequeue start turns)
+              (R.Dequeue start turns D.LoadEnds) h.holds p m
               refl))
           | inr m ↦ absurd (err_ok (rw m at e))
         ]
@@ -260,7 +286,8 @@ module _ (shape : Shape) (Inv : (ℕ → ℕ) → (ℕ → Option Running) → L
         ]
     step_at world next outcome thread (Some r) None l t p h e =
         subst (λ w. At w (stepped shape (word_at world) thread r l)) (ok_world e)
-        (moved_at world thread r l h.size t (subst (λ q. Inv (word_at world) q l) (sym (noted-there world thread r p)) h.holds))
+        (moved_at world thread r l h.size t (subst (λ q. Inv (word_at world) q l) (sym (noted-there world thread r p))
+        h.holds))
     step_at world next outcome thread (Some r) (Some b) l t p h e = cc
 
     pub event_at : (world next : World) (outcome : Outcome) (event : Event) (l : Ledger) → At world l
@@ -268,16 +295,19 @@ module _ (shape : Shape) (Inv : (ℕ → ℕ) → (ℕ → Option Running) → L
     unfolding step ledger_after
     event_at world next outcome event l h e =
         elim (cases_Bool (ltb event.thread (length world.places))) [
-          | inl m ↦ step_at world next outcome event.thread (place_of world event.thread) event.begin l (ltb-true _ _ m) refl h (rw m at e)
+          | inl m ↦ step_at world next outcome event.thread (place_of world event.thread) event.begin l (ltb-true _ _ m)
+              refl h (rw m at e)
           | inr m ↦ absurd (err_ok (rw m at e))
         ]
 
     -- after every schedule
-    pub after_all : (events : List Event) (world final : World) (l : Ledger) → At world l → run shape (Some world) events ≡ Some final
+    pub after_all : (events : List Event) (world final : World) (l : Ledger) → At world l
+        → run shape (Some world) events ≡ Some final
         → At final (ledger_of shape (Some world) events l)
     after_all [] world final l h e = subst (λ w. At w l) (same_Some world final e) h
     after_all (event ∷ events) world final l h e =
         on_result (step shape world event)
-        (λ next outcome s. rw s (after_all events next final (ledger_after shape world event l) (event_at world next outcome event l h s)
+        (λ next outcome s. rw s (after_all events next final (ledger_after shape world event l)
+        (event_at world next outcome event l h s)
         (rw s at e)))
         (λ fault s. absurd (none-some final (sym (run-none shape events) ∙ (rw s at e))))

@@ -1,5 +1,6 @@
 -- A call's role in the order is what it does by the history.
-use Rattle.std.proofs.Common.{◌≡◌, ◌≢◌, ℕ, ◌<◌, ◌⊎◌, length, true, Option, Some, None, is_some, refl, sym, ap, ◌∙◌, subst, inl, inr, arith}
+use Rattle.std.proofs.Common.{◌≡◌, ◌≢◌, ℕ, ◌<◌, ◌⊎◌, length, true, Option, Some, None, is_some, refl, sym, ap, ◌∙◌}
+use Rattle.std.proofs.Common.{subst, inl, inr, arith}
 use Rattle.std.proofs.lemmas.Bool.{cases_lt, false≢true}
 use Rattle.std.proofs.lemmas.List.{get_or_past}
 use Rattle.std.proofs.lemmas.Option.{none-some, same_Some}
@@ -25,11 +26,13 @@ Acts items own (Gets call visit) e = e ≡ M.Takes (items call)
 Acts items own (FindsNone visit) e = e ≡ M.FindsNone
 Acts items own Refused e = e ≡ M.Refused
 
-finished_acts : (items : ℕ → ℕ) (b : Begin) (x : Answer) (role : Role) → (effect (op_of b) x ≡ M.Wrong → ⊥) → RoleAnswers items x role
+finished_acts : (items : ℕ → ℕ) (b : Begin) (x : Answer) (role : Role) → (effect (op_of b) x ≡ M.Wrong → ⊥)
+    → RoleAnswers items x role
     → Acts items (item_of b) role (effect (op_of b) x)
 finished_acts items b x role right fits = grind arith
 
-unfinished_acts : (items : ℕ → ℕ) (b : Begin) (v i : ℕ) → item_of b ≢ 0 → Acts items (item_of b) (Puts v i) (effect_unfinished (op_of b))
+unfinished_acts : (items : ℕ → ℕ) (b : Begin) (v i : ℕ) → item_of b ≢ 0
+    → Acts items (item_of b) (Puts v i) (effect_unfinished (op_of b))
 unfinished_acts items b v i some = grind arith
 
 can_stand : (b : Begin) → item_of b ≢ 0 → CanStand None (op_of b)
@@ -54,8 +57,8 @@ by_option : {X : Type 0} (o : Option X) → (o ≡ None) ⊎ ((x : X) × (o ≡ 
 by_option None = inl refl
 by_option (Some x) = inr (x, refl)
 
-module _ (shape : Shape) (w : ℕ → ℕ) (p : ℕ → Option Running) (log : Log) (l : Ledger) (place : ℕ) (inv : Inv shape w p l)
-    (facts : Facts shape l) (h : Agrees log l place) (good : IsHistory log.calls) where
+module _ (shape : Shape) (w : ℕ → ℕ) (p : ℕ → Option Running) (log : Log) (l : Ledger) (place : ℕ)
+    (inv : Inv shape w p l) (facts : Facts shape l) (h : Agrees log l place) (good : IsHistory log.calls) where
   -- a call that stands is one of the history
   pub known : (c : ℕ) (s : Spot) → spot l c ≡ Some s → c < l.calls
   unfolding spot
@@ -94,7 +97,10 @@ module _ (shape : Shape) (w : ℕ → ℕ) (p : ℕ → Option Running) (log : L
   taken_item o d v q took z =
       let t = inv.calls.took d o v q took in
       let x = some_is (l.answer d) t.finished in
-      let less : d < l.calls = elim (cases_lt d l.calls) [ inl lt ↦ lt | inr ge ↦ absurd (none-some x.0 (sym (h.none d ge).1 ∙ x.1)) ] in
+      let less : d < l.calls = elim (cases_lt d l.calls) [
+        | inl lt ↦ lt
+        | inr ge ↦ absurd (none-some x.0 (sym (h.none d ge).1 ∙ x.1))
+      ] in
       let got : x.0 ≡ Got (item_of (l.begin o)) =
       got_item l.begin x.0 o v q (subst (Fits l.begin x.0) took (inv.calls.answered d x.0 x.1)) in
       let end = end_is d x.0 less x.1 in
@@ -122,7 +128,8 @@ module _ (shape : Shape) (w : ℕ → ℕ) (p : ℕ → Option Running) (log : L
       rw (end, (h.each c less).op) at answers wrong
 
   -- what a call that stands does is what its role says
-  pub acts : (c : ℕ) (s : Spot) → spot l c ≡ Some s → Acts (λ o. item_of (l.begin o)) (item_of (l.begin c)) s.role (does log.calls c)
+  pub acts : (c : ℕ) (s : Spot) → spot l c ≡ Some s
+      → Acts (λ o. item_of (l.begin o)) (item_of (l.begin c)) s.role (does log.calls c)
   acts c s e =
       let less = known c s e in
       elim (by_option (l.answer c)) [
@@ -130,15 +137,20 @@ module _ (shape : Shape) (w : ℕ → ℕ) (p : ℕ → Option Running) (log : L
             let put = facts.unfinished c s none e in
             let is : does log.calls c ≡ effect_unfinished (op_of (l.begin c)) =
             does_at c less ∙ ap (effect_at (op_of (l.begin c))) (unended_is c less none) in
-            let stands : Stands l c (Puts put.0 put.1.0) s.point = e ∙ ap (λ r. Some (record { role = r; point = s.point })) put.1.1 in
+            let stands : Stands l c (Puts put.0 put.1.0) s.point = e ∙ ap (λ r. Some (record {
+              role = r;
+              point = s.point;
+            })) put.1.1 in
             rw (is, put.1.1) (unfinished_acts (λ o. item_of (l.begin o)) (l.begin c) put.0 put.1.0
             (put_item c put.0 put.1.0 s.point stands))
         | inr x ↦
             let end = end_is c x.0 less x.1 in
             let f = facts.finished c x.0 x.1 in
             let same : f.0 ≡ s = same_Some f.0 s (sym f.1 ∙ e) in
-            let is : does log.calls c ≡ effect (op_of (l.begin c)) x.0 = does_at c less ∙ ap (effect_at (op_of (l.begin c))) end.1.1 in
-            rw (is, ← same) (finished_acts (λ o. item_of (l.begin o)) (l.begin c) x.0 f.0.role (right c end.0 x.0 less end.1.1) f.2)
+            let is : does log.calls c ≡ effect (op_of (l.begin c)) x.0 = does_at c less
+            ∙ ap (effect_at (op_of (l.begin c))) end.1.1 in
+            rw (is, ← same) (finished_acts (λ o. item_of (l.begin o)) (l.begin c) x.0 f.0.role
+            (right c end.0 x.0 less end.1.1) f.2)
       ]
 
   -- a finished call stands
@@ -149,7 +161,8 @@ module _ (shape : Shape) (w : ℕ → ℕ) (p : ℕ → Option Running) (log : L
           | inl none ↦ absurd (subst HasEnd (unended_is c less none) has)
           | inr x ↦ let f = facts.finished c x.0 x.1 in (f.0, f.1)
         ]
-        | inr ge ↦ absurd (subst (λ (x : Call). HasEnd x.end) (get_or_past log.calls c no_call (omega (arith, h.count))) has)
+        | inr ge ↦ absurd (subst (λ (x : Call). HasEnd x.end)
+            (get_or_past log.calls c no_call (omega (arith, h.count))) has)
       ]
 
   -- and what stands is finished or an enqueue
@@ -159,7 +172,11 @@ module _ (shape : Shape) (w : ℕ → ℕ) (p : ℕ → Option Running) (log : L
       elim (by_option (l.answer c)) [
         | inl none ↦
             let put = facts.unfinished c s none e in
-            let stands : Stands l c (Puts put.0 put.1.0) s.point = e ∙ ap (λ r. Some (record { role = r; point = s.point })) put.1.1 in
-            rw (unended_is c less none, (h.each c less).op) (can_stand (l.begin c) (put_item c put.0 put.1.0 s.point stands))
+            let stands : Stands l c (Puts put.0 put.1.0) s.point = e ∙ ap (λ r. Some (record {
+              role = r;
+              point = s.point;
+            })) put.1.1 in
+            rw (unended_is c less none, (h.each c less).op)
+            (can_stand (l.begin c) (put_item c put.0 put.1.0 s.point stands))
         | inr x ↦ rw (end_is c x.0 less x.1).1.1 tt
       ]

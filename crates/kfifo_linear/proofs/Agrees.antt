@@ -1,6 +1,6 @@
 -- The ledger and the log of a schedule tell the same of each call.
-use Rattle.std.proofs.Common.{◌≡◌, ◌≢◌, ℕ, ◌+◌, ◌<◌, ◌≤◌, List, [], ◌∷◌, ◌++◌, length, get_or, set, Option, Some, None, Ok, refl, sym, ap}
-use Rattle.std.proofs.Common.{◌∙◌, subst, inl, inr, arith, length-append}
+use Rattle.std.proofs.Common.{◌≡◌, ◌≢◌, ℕ, ◌+◌, ◌<◌, ◌≤◌, List, [], ◌∷◌, ◌++◌, length, get_or, set, Option, Some, None}
+use Rattle.std.proofs.Common.{Ok, refl, sym, ap, ◌∙◌, subst, inl, inr, arith, length-append}
 use Rattle.std.proofs.Math.ListN.{get_or-append}
 use Rattle.std.proofs.Math.Seq.{get_or-append_seam}
 use Rattle.std.proofs.lemmas.Bool.{cases_eq}
@@ -24,7 +24,7 @@ use Rattle.kfifo_linear.specs.Ledger.{Ledger, noted, found_in, called, ledger_fr
 use Rattle.kfifo_linear.specs.Ledger as ledger
 use Rattle.kfifo_linear.proofs.Abstract.{At, event_at, noted-same, noted-other}
 use Rattle.kfifo_linear.proofs.Invariant.{Inv}
-use Rattle.kfifo_linear.proofs.Whole.{inv_table, inv_begin, inv_step, inv_outside}
+use Rattle.kfifo_linear.proofs.Invariance.{inv_table, inv_begin, inv_step, inv_outside}
 
 -- what a begin asks for
 abbrev pub op_of : Begin → Op
@@ -84,11 +84,13 @@ agree_begins log l place thread b h within =
             }
         | inr ne ↦
             let was = h.each c (omega arith) in
-            let old : call (log.calls ++ opened ∷ []) c ≡ call log.calls c = call-before log.calls opened c (omega (arith, h.count)) in
+            let old : call (log.calls ++ opened ∷ []) c ≡ call log.calls c =
+            call-before log.calls opened c (omega (arith, h.count)) in
             record {
               op = ap (λ (x : Call). x.op) old ∙ was.op ∙ ap op_of (sym (noted-other l.begin l.calls c b ne));
               first = ap (λ (x : Call). x.first) old ∙ was.first ∙ sym (noted-other l.first l.calls c l.now ne);
-              end = ap (λ (x : Call). x.end) old ∙ was.end ∙ ap (λ x. end_of x (l.answer c)) (sym (noted-other l.last l.calls c None ne))
+              end = ap (λ (x : Call). x.end) old ∙ was.end
+                  ∙ ap (λ x. end_of x (l.answer c)) (sym (noted-other l.last l.calls c None ne))
                   ∙ ap (end_of (noted l.last l.calls None c)) (sym (noted-other l.answer l.calls c None ne));
             }
       ];
@@ -105,7 +107,8 @@ agree_begins log l place thread b h within =
     }
 
 -- a step after which the call goes on
-agree_goes : (shape : Shape) (w : ℕ → ℕ) (t : ℕ) (r q : Running) (log : Log) (l : Ledger) (place : ℕ) → Agrees log l place
+agree_goes : (shape : Shape) (w : ℕ → ℕ) (t : ℕ) (r q : Running) (log : Log) (l : Ledger) (place : ℕ)
+    → Agrees log l place
     → advance shape r (found_in shape w r) ≡ Goes q → Agrees log (ledger.stepped shape w t r l) (place + 1)
 unfolding ledger.stepped
 agree_goes shape w t r q log l place h goes =
@@ -119,7 +122,8 @@ agree_goes shape w t r q log l place h goes =
     })
 
 -- a step with which it ends
-agree_ends : (shape : Shape) (w : ℕ → ℕ) (t : ℕ) (r : Running) (x : Answer) (log : Log) (l : Ledger) (place : ℕ) → Agrees log l place
+agree_ends : (shape : Shape) (w : ℕ → ℕ) (t : ℕ) (r : Running) (x : Answer) (log : Log) (l : Ledger) (place : ℕ)
+    → Agrees log l place
     → advance shape r (found_in shape w r) ≡ Answers x → l.caller t < l.calls
     → Agrees (ends place t x log) (ledger.stepped shape w t r l) (place + 1)
 unfolding ledger.stepped
@@ -142,7 +146,8 @@ agree_ends shape w t r x log l place h answers known =
               first = ap (λ (y : Call). y.first) new ∙ ap (λ (y : Call). y.first) as_was ∙ was.first;
               end = ap (λ (y : Call). y.end) new ∙ ap (λ n. Some (record { last = n; answer = x })) (sym h.now)
                   ∙ ap (end_of (Some l.now)) (sym (noted-same l.answer (l.caller t) c (Some x) same))
-                  ∙ ap (λ y. end_of y (noted l.answer (l.caller t) (Some x) c)) (sym (noted-same l.last (l.caller t) c (Some l.now) same));
+                  ∙ ap (λ y. end_of y (noted l.answer (l.caller t) (Some x) c))
+                  (sym (noted-same l.last (l.caller t) c (Some l.now) same));
             }
         | inr ne ↦
             let apart : c ≢ get_or log.latest t 0 = λ e. ne (e ∙ mine) in
@@ -154,17 +159,22 @@ agree_ends shape w t r x log l place h answers known =
               first = ap (λ (y : Call). y.first) old ∙ was.first;
               end = ap (λ (y : Call). y.end) old ∙ was.end
                   ∙ ap (λ y. end_of y (l.answer c)) (sym (noted-other l.last (l.caller t) c (Some l.now) ne))
-                  ∙ ap (end_of (noted l.last (l.caller t) (Some l.now) c)) (sym (noted-other l.answer (l.caller t) c (Some x) ne));
+                  ∙ ap (end_of (noted l.last (l.caller t) (Some l.now) c))
+                  (sym (noted-other l.answer (l.caller t) c (Some x) ne));
             }
       ];
       none = λ c above.
           let ne : c ≢ l.caller t = λ e. absurd (omega arith) in
-          let was = h.none c above in
-          (noted-other l.last (l.caller t) c (Some l.now) ne ∙ was.0, noted-other l.answer (l.caller t) c (Some x) ne ∙ was.1);
+          let was = h.none c above in (
+            noted-other l.last (l.caller t) c (Some l.now) ne ∙ was.0,
+            noted-other l.answer (l.caller t) c (Some x) ne
+                ∙ was.1,
+          );
       latest = h.latest;
     })
 
-agree_outside : (log : Log) (l : Ledger) (place : ℕ) → Agrees log l place → Agrees log (record l { now = l.now + 1 }) (place + 1)
+agree_outside : (log : Log) (l : Ledger) (place : ℕ) → Agrees log l place
+    → Agrees log (record l { now = l.now + 1 }) (place + 1)
 agree_outside log l place h =
     record {
       count = h.count;
@@ -177,31 +187,38 @@ agree_outside log l place h =
 
 -- the invariant of a world and a ledger
 abbrev pub InvAt : Shape → World → Ledger → Type 0
-InvAt shape world l = At shape (Inv shape) (inv_table shape) (inv_begin shape) (inv_step shape) (inv_outside shape) world l
+InvAt shape world l = At shape (Inv shape) (inv_table shape) (inv_begin shape) (inv_step shape) (inv_outside shape)
+    world l
 
 module _ (shape : Shape) (world next : World) (outcome : Outcome) (e : Event) (log : Log) (l : Ledger) (place : ℕ)
     (inv : InvAt shape world l) (h : Agrees log l place) (known : length log.latest ≡ length world.places)
     (made : step shape world e ≡ Ok (next, outcome)) where
-  by_next : (r : Running) (n : Next) → place_of world e.thread ≡ Some r → advance shape r (found_in shape (word_at world) r) ≡ n
-      → Agrees (logged place e.thread None (outcome_of n) log) (ledger.stepped shape (word_at world) e.thread r l) (place + 1)
+  by_next : (r : Running) (n : Next) → place_of world e.thread ≡ Some r
+      → advance shape r (found_in shape (word_at world) r) ≡ n
+      → Agrees (logged place e.thread None (outcome_of n) log) (ledger.stepped shape (word_at world) e.thread r l)
+      (place + 1)
   by_next r (Goes q) was goes = agree_goes shape (word_at world) e.thread r q log l place h goes
   by_next r (Answers x) was answers = agree_ends shape (word_at world) e.thread r x log l place h answers
       (inv.holds.threads e.thread r was).known
 
   begins_so : (b : Begin) (r q : Running) → advance shape r (found_in shape (word_at world) r) ≡ Goes q
-      → Agrees (begins place e.thread (op_of b) log) (ledger.stepped shape (word_at world) e.thread r (called e.thread b l)) (place + 1)
+      → Agrees (begins place e.thread (op_of b) log)
+      (ledger.stepped shape (word_at world) e.thread r (called e.thread b l)) (place + 1)
   begins_so b r q goes =
       let within : e.thread < length world.places = made_within shape world e next outcome made in
       agree_goes shape (word_at world) e.thread r q (begins place e.thread (op_of b) log) (called e.thread b l) place
       (agree_begins log l place e.thread b h (omega arith)) goes
 
-  by_place : (at : Option Running) (begin : Option Begin) (r : Running) → place_of world e.thread ≡ at → going shape at begin ≡ Some r
+  by_place : (at : Option Running) (begin : Option Begin) (r : Running) → place_of world e.thread ≡ at
+      → going shape at begin ≡ Some r
       → outcome ≡ outcome_of (advance shape r (found_in shape (word_at world) r))
-      → Agrees (logged place e.thread begin outcome log) (ledger_from shape (word_at world) e.thread at begin l) (place + 1)
+      → Agrees (logged place e.thread begin outcome log) (ledger_from shape (word_at world) e.thread at begin l)
+      (place + 1)
   by_place None None r was goes comes = absurd (cc)
   by_place (Some q) None r was goes comes =
       let same : q ≡ r = Some-injective q r goes in
-      subst (λ (o : Outcome). Agrees (logged place e.thread None o log) (ledger.stepped shape (word_at world) e.thread q l) (place + 1))
+      subst (λ (o : Outcome). Agrees (logged place e.thread None o log)
+      (ledger.stepped shape (word_at world) e.thread q l) (place + 1))
       (sym (comes ∙ ap (λ (x : Running). outcome_of (advance shape x (found_in shape (word_at world) x))) (sym same)))
       (by_next q (advance shape q (found_in shape (word_at world) q)) was refl)
   by_place (Some q) (Some b) r was goes comes = absurd (cc)
@@ -220,11 +237,13 @@ module _ (shape : Shape) (world next : World) (outcome : Outcome) (e : Event) (l
         | inr o ↦ elim o.by [
           | inl t ↦
               let goal : Agrees (logged place e.thread (Some B.Tick) outcome log)
-              (ledger_from shape (word_at world) e.thread None (Some B.Tick) l) (place + 1) = agree_outside log l place h in
+              (ledger_from shape (word_at world) e.thread None (Some B.Tick) l) (place + 1) =
+              agree_outside log l place h in
               rw (t.begins, o.idle) goal
           | inr z ↦
               let goal : Agrees (logged place e.thread (Some B.Seal) outcome log)
-              (ledger_from shape (word_at world) e.thread None (Some B.Seal) l) (place + 1) = agree_outside log l place h in
+              (ledger_from shape (word_at world) e.thread None (Some B.Seal) l) (place + 1) =
+              agree_outside log l place h in
               rw (z.begins, o.idle) goal
         ]
       ]
@@ -233,19 +252,26 @@ module _ (shape : Shape) (world next : World) (outcome : Outcome) (e : Event) (l
   known_step : length (logged place e.thread e.begin outcome log).latest ≡ length next.places
   known_step = known_by e.begin outcome ∙ known ∙ sym (same_threads shape world e next outcome made)
     where
-      known_by : (begin : Option Begin) (o : Outcome) → length (logged place e.thread begin o log).latest ≡ length log.latest
+      known_by : (begin : Option Begin) (o : Outcome) → length (logged place e.thread begin o log).latest
+          ≡ length log.latest
       known_by begin o = grind (arith, length-set)
 
-pub agree_all : (shape : Shape) (world final : World) (events : List Event) (log : Log) (l : Ledger) (place : ℕ) → InvAt shape world l
+pub agree_all : (shape : Shape) (world final : World) (events : List Event) (log : Log) (l : Ledger) (place : ℕ)
+    → InvAt shape world l
     → Agrees log l place → length log.latest ≡ length world.places → run shape (Some world) events ≡ Some final
-    → Agrees (log_from shape (Some world) place events log) (ledger_of shape (Some world) events l) (place + length events)
-agree_all shape world final [] log l place inv h known is = let z : place ≡ place + 0 = omega arith in subst (λ n. Agrees log l n) z h
+    → Agrees (log_from shape (Some world) place events log) (ledger_of shape (Some world) events l)
+    (place + length events)
+agree_all shape world final [] log l place inv h known is = let z : place ≡ place + 0 = omega arith in
+    subst (λ n. Agrees log l n) z h
 agree_all shape world final (e ∷ es) log l place inv h known is =
     let m = first_made shape world e final es is in
     let at : InvAt shape m.0 (ledger_after shape world e l) =
-    event_at shape (Inv shape) (inv_table shape) (inv_begin shape) (inv_step shape) (inv_outside shape) world m.0 m.1.0 e l inv m.1.1.0 in
-    let all = agree_all shape m.0 final es (logged place e.thread e.begin m.1.0 log) (ledger_after shape world e l) (place + 1) at
+    event_at shape (Inv shape) (inv_table shape) (inv_begin shape) (inv_step shape) (inv_outside shape) world m.0 m.1.0
+    e l inv m.1.1.0 in
+    let all = agree_all shape m.0 final es (logged place e.thread e.begin m.1.0 log) (ledger_after shape world e l)
+    (place + 1) at
     (agree_step shape world m.0 m.1.0 e log l place inv h known m.1.1.0)
     (known_step shape world m.0 m.1.0 e log l place inv h known m.1.1.0) m.1.1.1 in
     let places : (place + 1) + length es ≡ place + length (e ∷ es) = omega arith in
-    subst (λ n. Agrees (log_from shape (Some world) place (e ∷ es) log) (ledger_of shape (Some world) (e ∷ es) l) n) places (rw m.1.1.0 all)
+    subst (λ n. Agrees (log_from shape (Some world) place (e ∷ es) log) (ledger_of shape (Some world) (e ∷ es) l) n)
+    places (rw m.1.1.0 all)

@@ -1,6 +1,6 @@
 -- Head and tail are where their numbers say, and the tail is never a whole round ahead.
-use Rattle.std.proofs.Common.{suc, ◌≡◌, ◌≢◌, ℕ, ◌+◌, ◌*◌, ◌%◌, ◌<◌, ◌≤◌, inl, inr, true, refl, sym, ◌∙◌, ap, subst, arith, Option, Some}
-use Rattle.std.proofs.Common.{None, List, replicate, length, get_or, zero}
+use Rattle.std.proofs.Common.{suc, ◌≡◌, ◌≢◌, ℕ, ◌+◌, ◌*◌, ◌%◌, ◌<◌, ◌≤◌, inl, inr, true, refl, sym, ◌∙◌, ap, subst}
+use Rattle.std.proofs.Common.{arith, Option, Some, None, List, replicate, length, get_or, zero}
 use Rattle.std.proofs.Math.Nat.{zero-mod, mod-lt, mul-le-mul_right}
 use Rattle.std.proofs.lemmas.Bool.{and_parts, cases_eq}
 use Rattle.std.proofs.lemmas.Bool.Decides.{nat_tests}
@@ -40,9 +40,11 @@ EnqueueSane shape (E.Recheck ends (Slot index seen)) = InRing shape ends × IsSl
 EnqueueSane shape (E.Put ends index empty) = InRing shape ends × IsSlotIndex shape index × (value_of empty ≡ 0)
 EnqueueSane shape (E.ReloadSlot ends index filled) = InRing shape ends × IsSlotIndex shape index × (value_of filled ≢ 0)
 EnqueueSane shape (E.ReloadEnds ends index filled) = InRing shape ends × IsSlotIndex shape index × (value_of filled ≢ 0)
-EnqueueSane shape (E.HoldHead ends index filled held) = InRing shape ends × IsSlotIndex shape index × (value_of filled ≢ 0)
+EnqueueSane shape (E.HoldHead ends index filled held) = InRing shape ends × IsSlotIndex shape index
+    × (value_of filled ≢ 0)
 EnqueueSane shape (E.Undo index filled worn) = IsSlotIndex shape index × (value_of filled ≢ 0)
-EnqueueSane shape (E.ScanHead ends offset) = InRing shape ends × (next_segment shape.n (tail_of ends) ≡ head_of ends) × (offset < shape.k)
+EnqueueSane shape (E.ScanHead ends offset) = InRing shape ends × (next_segment shape.n (tail_of ends) ≡ head_of ends)
+    × (offset < shape.k)
 EnqueueSane shape (E.ConfirmFull ends) = Unit {0}
 EnqueueSane shape (E.MoveHead ends) = next_segment shape.n (tail_of ends) ≡ head_of ends
 EnqueueSane shape (E.MoveTail ends) = next_segment shape.n (tail_of ends) ≢ head_of ends
@@ -52,12 +54,14 @@ DequeueSane shape D.LoadEnds = Unit {0}
 DequeueSane shape (D.ScanHead ends offset) = InRing shape ends × (offset < shape.k)
 DequeueSane shape (D.Recheck ends Nothing) = InRing shape ends
 DequeueSane shape (D.Recheck ends (Slot index seen)) = InRing shape ends × IsSlotIndex shape index × (value_of seen ≢ 0)
-DequeueSane shape (D.MoveTail ends index filled) = (tail_of ends ≡ head_of ends) × IsSlotIndex shape index × (value_of filled ≢ 0)
+DequeueSane shape (D.MoveTail ends index filled) = (tail_of ends ≡ head_of ends) × IsSlotIndex shape index
+    × (value_of filled ≢ 0)
 DequeueSane shape (D.Take ends index filled) = IsSlotIndex shape index × (value_of filled ≢ 0)
 DequeueSane shape (D.MoveHead ends) = tail_of ends ≢ head_of ends
 
 abbrev pub Sane : Shape → Running → Type 0
-Sane shape (R.Enqueue item start left phase) = (0 < item) × (item < 16777216) × (start < shape.k) × EnqueueSane shape phase
+Sane shape (R.Enqueue item start left phase) = (0 < item) × (item < 16777216) × (start < shape.k)
+    × EnqueueSane shape phase
 Sane shape (R.Dequeue start left phase) = (start < shape.k) × DequeueSane shape phase
 
 abbrev pub NextSane : Shape → Next → Type 0
@@ -74,13 +78,15 @@ scan_index-is_slot shape segment start offset h =
     record { above = omega arith; below = omega arith }
 
 pub filled_with-value : (item empty : ℕ) → 0 < item → item < 16777216 → value_of (filled_with item empty) ≢ 0
-filled_with-value item empty h f e = let v : value_of (filled_with item empty) ≡ item = value-slot_word item (version_of empty + 1) f in
+filled_with-value item empty h f e = let v : value_of (filled_with item empty) ≡ item =
+    value-slot_word item (version_of empty + 1) f in
     omega arith
 
 -- a thread's place stays sane. A load of the ends' word finds ends in the ring
 pub stays_sane : (shape : Shape) (running : Running) (word : ℕ) → Sane shape running
     → (accessed (access shape running) ≡ 0 → InRing shape word) → NextSane shape (advance shape running word)
-stays_sane shape running word s h = let k : 0 < shape.k = shape.some_slot in grind (arith, nat_tests, scan_index-is_slot, filled_with-value)
+stays_sane shape running word s h = let k : 0 < shape.k = shape.some_slot in
+    grind (arith, nat_tests, scan_index-is_slot, filled_with-value)
 
 module _ (shape : Shape) (ends a b : ℕ) (ok : EndsOk shape ends a b) where
   pub ends_in_ring : InRing shape ends
@@ -88,8 +94,10 @@ module _ (shape : Shape) (ends a b : ℕ) (ok : EndsOk shape ends a b) where
       record { head = head_below shape ends a b ok; tail = tail_below shape ends a b ok }
 
 -- after a step
-pub ends_stay : (shape : Shape) → (words : ℕ → ℕ) (thread : ℕ) (running : Running) (l : Ledger) → EndsOk shape (words 0) l.head l.tail
-    → Sane shape running → EndsOk shape (words_by (access shape running) words 0) (stepped shape words thread running l).head
+pub ends_stay : (shape : Shape) → (words : ℕ → ℕ) (thread : ℕ) (running : Running) (l : Ledger)
+    → EndsOk shape (words 0) l.head l.tail
+    → Sane shape running
+    → EndsOk shape (words_by (access shape running) words 0) (stepped shape words thread running l).head
     (stepped shape words thread running l).tail
 unfolding stepped
 ends_stay shape words thread running l ok s =
@@ -105,7 +113,8 @@ ends_stay shape words thread running l ok s =
     grind (arith, nat_tests, noted-same, noted-other, head-ends_word, tail-ends_word, next_segment-below)
 
 -- a word that a step finds is one of the table
-pub sane_in_table : (shape : Shape) (running : Running) → Sane shape running → accessed (access shape running) < table_size shape
+pub sane_in_table : (shape : Shape) (running : Running) → Sane shape running
+    → accessed (access shape running) < table_size shape
 sane_in_table shape running s = grind (arith, nat_tests, scan_index-is_slot)
 
 pub begun_sane : (shape : Shape) (b : Begin) (r : Running) → may_begin shape b ≡ true → begun b ≡ Some r → Sane shape r
@@ -117,7 +126,8 @@ pub record Base (shape : Shape) (w : ℕ → ℕ) (p : ℕ → Option Running) (
   pub sane : (t : ℕ) (r : Running) → p t ≡ Some r → Sane shape r
 
 -- the place that a step leads to is sane
-pub place_sane : (shape : Shape) (next : Next) (r : Running) → NextSane shape next → place_after next ≡ Some r → Sane shape r
+pub place_sane : (shape : Shape) (next : Next) (r : Running) → NextSane shape next → place_after next ≡ Some r
+    → Sane shape r
 place_sane shape next r s e = grind arith
 
 pub get_or_replicate : {X : Type 0} (n i : ℕ) (d : X) → get_or (replicate n d) i d ≡ d
@@ -130,8 +140,10 @@ unfolding opening
 opening_size shape threads = length-replicate (table_size shape) 0
 
 module _ (shape : Shape) where
-  pub base_step : (w : ℕ → ℕ) (p : ℕ → Option Running) (l : Ledger) (t : ℕ) (r : Running) → Base shape w p l → p t ≡ Some r
-      → Base shape (words_by (access shape r) w) (noted p t (place_after (advance shape r (found_in shape w r)))) (stepped shape w t r l)
+  pub base_step : (w : ℕ → ℕ) (p : ℕ → Option Running) (l : Ledger) (t : ℕ) (r : Running) → Base shape w p l
+      → p t ≡ Some r
+      → Base shape (words_by (access shape r) w) (noted p t (place_after (advance shape r (found_in shape w r))))
+      (stepped shape w t r l)
   base_step w p l t r h e =
       let s : Sane shape r = h.sane t r e in
       let look : accessed (access shape r) ≡ 0 → InRing shape (found_in shape w r) =
@@ -146,14 +158,16 @@ module _ (shape : Shape) where
         ];
       }
 
-  pub base_begin : (w : ℕ → ℕ) (p : ℕ → Option Running) (l : Ledger) (t : ℕ) (b : Begin) (r : Running) → Base shape w p l → p t ≡ None
+  pub base_begin : (w : ℕ → ℕ) (p : ℕ → Option Running) (l : Ledger) (t : ℕ) (b : Begin) (r : Running)
+      → Base shape w p l → p t ≡ None
       → may_begin shape b ≡ true → begun b ≡ Some r → Base shape w (noted p t (Some r)) (called t b l)
   unfolding called
   base_begin w p l t b r h e m g =
       record {
         ends = h.ends;
         sane = λ u q f. elim (cases_eq u t) [
-          | inl same ↦ subst (Sane shape) (same_Some r q (sym (noted-same p t u (Some r) same) ∙ f)) (begun_sane shape b r m g)
+          | inl same ↦ subst (Sane shape) (same_Some r q (sym (noted-same p t u (Some r) same) ∙ f))
+              (begun_sane shape b r m g)
           | inr ne ↦ h.sane u q (sym (noted-other p t u (Some r) ne) ∙ f)
         ];
       }
@@ -162,15 +176,22 @@ module _ (shape : Shape) where
       → Base shape v p (record l { now = l.now + 1 })
   base_outside w v p l o h =
       record {
-        ends = record { head = o.head ∙ h.ends.head; tail = o.tail ∙ h.ends.tail; ordered = h.ends.ordered; no_wrap = h.ends.no_wrap };
+        ends = record {
+          head = o.head ∙ h.ends.head;
+          tail = o.tail ∙ h.ends.tail;
+          ordered = h.ends.ordered;
+          no_wrap = h.ends.no_wrap;
+        };
         sane = h.sane;
       }
 
-  pub base_table : (w : ℕ → ℕ) (p : ℕ → Option Running) (l : Ledger) (t : ℕ) (r : Running) → Base shape w p l → p t ≡ Some r
+  pub base_table : (w : ℕ → ℕ) (p : ℕ → Option Running) (l : Ledger) (t : ℕ) (r : Running) → Base shape w p l
+      → p t ≡ Some r
       → accessed (access shape r) < table_size shape
   base_table w p l t r h e = sane_in_table shape r (h.sane t r e)
 
-  pub base_opening : (threads : ℕ) → Base shape (word_at (opening shape threads)) (place_of (opening shape threads)) blank
+  pub base_opening : (threads : ℕ)
+      → Base shape (word_at (opening shape threads)) (place_of (opening shape threads)) blank
   unfolding opening word_at place_of blank head_of tail_of
   base_opening threads =
       let z = get_or_replicate {X = ℕ} (table_size shape) 0 0 in
@@ -185,10 +206,12 @@ module _ (shape : Shape) where
       }
 
   -- after every schedule the tail is less than a round ahead of the head, and both are where their numbers say
-  pub no_wrap : (threads : ℕ) (events : List Event) (final : World) → run shape (Some (opening shape threads)) events ≡ Some final
+  pub no_wrap : (threads : ℕ) (events : List Event) (final : World) → run shape (Some (opening shape threads)) events
+      ≡ Some final
       → EndsOk shape (word_at final 0) (ledger_of shape (Some (opening shape threads)) events blank).head
       (ledger_of shape (Some (opening shape threads)) events blank).tail
   no_wrap threads events final e =
-      (after_all shape (Base shape) base_table base_begin base_step base_outside events (opening shape threads) final blank
+      (after_all shape (Base shape) base_table base_begin base_step base_outside events (opening shape threads) final
+      blank
       (record { size = opening_size shape threads; holds = base_opening threads })
       e).holds.ends

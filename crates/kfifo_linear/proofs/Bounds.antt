@@ -1,9 +1,9 @@
 -- How often an item is overtaken.
-use Rattle.std.proofs.Common.{ℕ, ◌≡◌, ◌≢◌, ◌+◌, ◌<◌, ◌≤◌, Bool, true, false, not, ◌&&◌, eqb, List, [], ◌∷◌, length, map, refl, sym, ◌∙◌, ap}
-use Rattle.std.proofs.Common.{subst, inl, inr, arith, Option, Some, None}
+use Rattle.std.proofs.Common.{ℕ, ◌≡◌, ◌≢◌, ◌+◌, ◌<◌, ◌≤◌, Bool, true, false, not, ◌&&◌, eqb, List, [], ◌∷◌, length, map}
+use Rattle.std.proofs.Common.{refl, sym, ◌∙◌, ap, subst, inl, inr, arith, Option, Some, None}
 use Rattle.std.specs.List.{filter}
-use Rattle.std.proofs.lemmas.Bool.{cases_eq, cond-true, cond-false, and_parts, and_from, eqb-true, eq-eqb, ne_eqb, ltb-true, not-true}
-use Rattle.std.proofs.lemmas.Bool.{not_from_false, true_from_ne_false, false≢true}
+use Rattle.std.proofs.lemmas.Bool.{cases_eq, cond-true, cond-false, and_parts, and_from, eqb-true, eq-eqb, ne_eqb}
+use Rattle.std.proofs.lemmas.Bool.{ltb-true, not-true, not_from_false, true_from_ne_false, false≢true}
 use Rattle.std.proofs.lemmas.List.{length-map}
 use Rattle.kfifo_linear.proofs.Types.{Call, Effect, End}
 use Rattle.kfifo_model.specs.declared.calls.Op.{Op}
@@ -11,8 +11,9 @@ use Rattle.kfifo_model.specs.declared.calls.Op.TheVariants.{Enqueue, Dequeue}
 use Rattle.kfifo_model.specs.Lists.{IsIn, EachPair, place}
 use Rattle.kfifo_model.specs.declared.effects.Effect.TheVariants.{Adds, Takes, FindsNone, Refused, Wrong}
 use Rattle.kfifo_model.specs.Histories.{call, does, effect_at, IsFinished, HasEnd, EndsBelow}
-use Rattle.kfifo_model.specs.Overtaking.{some, adds, takes, overtakes_at, overtakes, overtaken_count, stands_before, ends_below, precedes}
-use Rattle.kfifo_model.specs.Overtaking.{numbers_of, overtaken_in, certainly_overtaken, AddsAreDistinct}
+use Rattle.kfifo_model.specs.Overtaking.{some, adds, takes, overtakes_at, overtakes, overtaken_count, stands_before}
+use Rattle.kfifo_model.specs.Overtaking.{ends_below, precedes, numbers_of, overtaken_in, certainly_overtaken}
+use Rattle.kfifo_model.specs.Overtaking.{AddsAreDistinct}
 use Rattle.kfifo_linear.specs.Points.{Marks, IsAdd, IsTakeOf, PointsFit, IsEarlier, IsByPoint, StandsFit}
 use Rattle.kfifo_model.proofs.Lists.{each_at, each_from, each_map, pairs_weaker, pairs_map, in_map, Differ}
 use Rattle.kfifo_linear.proofs.Run.{one_visit, earlier_differ, visits_rise, le_from_not}
@@ -28,7 +29,8 @@ pub record Overtakes (act : ℕ → Effect) (m : Marks) (c g : ℕ) : Type 0 whe
   pub added : m.point c ≤ m.point (m.source g)
   pub taken : (t : ℕ) → IsTakeOf act m c t → m.point g ≤ m.point t
 
-source_add : (k : ℕ) (act : ℕ → Effect) (m : Marks) (c g : ℕ) → PointsFit k act m → Overtakes act m c g → IsAdd act m (m.source g)
+source_add : (k : ℕ) (act : ℕ → Effect) (m : Marks) (c g : ℕ) → PointsFit k act m → Overtakes act m c g
+    → IsAdd act m (m.source g)
 source_add k act m c g f o = (f.source_stands g o.value o.stands o.got, o.value, f.source_adds g o.value o.stands o.got)
 
 -- the head has left the visit of c's item, which was taken sooner
@@ -43,12 +45,15 @@ too_late k act m c g f a o lt =
     let up = f.head_rises (m.point g) (m.point t.0) le in
     omega arith
 
-same_source : (k : ℕ) (act : ℕ → Effect) (m : Marks) (c x y : ℕ) → PointsFit k act m → Overtakes act m c x → Overtakes act m c y
+same_source : (k : ℕ) (act : ℕ → Effect) (m : Marks) (c x y : ℕ) → PointsFit k act m → Overtakes act m c x
+    → Overtakes act m c y
     → m.source x ≡ m.source y → x ≡ y
-same_source k act m c x y f o p e = f.taken_once (m.source x) x y (o.stands, o.value, o.got, refl) (p.stands, p.value, p.got, sym e)
+same_source k act m c x y f o p e = f.taken_once (m.source x) x y (o.stands, o.value, o.got, refl)
+    (p.stands, p.value, p.got, sym e)
 
 -- what overtakes c is of its visit
-overtakes_in_visit : (k : ℕ) (act : ℕ → Effect) (m : Marks) (c g : ℕ) → PointsFit k act m → IsAdd act m c → Overtakes act m c g
+overtakes_in_visit : (k : ℕ) (act : ℕ → Effect) (m : Marks) (c g : ℕ) → PointsFit k act m → IsAdd act m c
+    → Overtakes act m c g
     → m.visit (m.source g) ≡ m.visit c
 overtakes_in_visit k act m c g f a o =
     let up = visits_rise k act m c (m.source g) f a (source_add k act m c g f o) o.added in
@@ -57,14 +62,16 @@ overtakes_in_visit k act m c g f a o =
     omega arith
 
 -- the calls that overtake c are fewer than k
-pub few_overtake : (k : ℕ) (act : ℕ → Effect) (m : Marks) (c : ℕ) (gs : List ℕ) → PointsFit k act m → IsAdd act m c → EachPair Differ gs
+pub few_overtake : (k : ℕ) (act : ℕ → Effect) (m : Marks) (c : ℕ) (gs : List ℕ) → PointsFit k act m → IsAdd act m c
+    → EachPair Differ gs
     → ((g : ℕ) → IsIn g gs → Overtakes act m c g) → length gs < k
 few_overtake k act m c gs f a d o =
     let S : ℕ → ℕ → Type 0 = λ x y. m.source x ≢ m.source y in
     let sources = pairs_map Differ m.source gs
     (pairs_weaker Differ S gs (λ x y i j ne e. ne (same_source k act m c x y f (o x i) (o y j) e)) d) in
     let others = each_map (Differ c) m.source gs (each_from (λ x. Differ c (m.source x)) gs (λ x i. (o x i).other)) in
-    let short : length (c ∷ map m.source gs) ≤ k = one_visit k act m (c ∷ map m.source gs) (m.visit c) f (others, sources)
+    let short : length (c ∷ map m.source gs) ≤ k = one_visit k act m (c ∷ map m.source gs) (m.visit c) f
+    (others, sources)
     (λ x i. elim i [
       | inl e ↦ (let P : ℕ → Type 0 = λ w. IsAdd act m w in subst P (sym e) a)
       | inr j ↦ (let p = in_map m.source x gs j in let P : ℕ
@@ -107,7 +114,8 @@ pub record Passes (act : ℕ → Effect) (before : ℕ → ℕ → Bool) (number
   pub taken : (t : ℕ) → IsIn t numbers → act t ≡ Takes x → before d t ≡ true
 
 before_takes : (act : ℕ → Effect) (before : ℕ → ℕ → Bool) (numbers : List ℕ) (d x : ℕ)
-    → not (some (λ t. takes x (act t) && not (before d t)) numbers) ≡ true → (t : ℕ) → IsIn t numbers → act t ≡ Takes x → before d t ≡ true
+    → not (some (λ t. takes x (act t) && not (before d t)) numbers) ≡ true → (t : ℕ) → IsIn t numbers → act t ≡ Takes x
+    → before d t ≡ true
 before_takes act before numbers d x h t i e =
     true_from_ne_false (before d t) (λ u.
     let none : some (λ t. takes x (act t) && not (before d t)) numbers ≡ false =
@@ -120,7 +128,8 @@ before_takes act before numbers d x h t i e =
 passes_at : (act : ℕ → Effect) (before : ℕ → ℕ → Bool) (numbers : List ℕ) (c d x : ℕ) (e : Effect) → act d ≡ e
     → overtakes_at act before numbers c d (Adds x) e ≡ true → Passes act before numbers c d x
 passes_at act before numbers c d x (Takes y) q h =
-    let p = and_parts (some (λ e. adds y (act e) && before c e) numbers) (not (some (λ t. takes x (act t) && not (before d t)) numbers))
+    let p = and_parts (some (λ e. adds y (act e) && before c e) numbers)
+    (not (some (λ t. takes x (act t) && not (before d t)) numbers))
     h in
     let s = some_at (λ e. adds y (act e) && before c e) numbers p.0 in
     let b = and_parts (adds y (act s.0)) (before c s.0) s.2 in
@@ -141,19 +150,22 @@ passes_at act before numbers c d x Wrong q h = absurd (false≢true h)
 same_value : (act : ℕ → Effect) (c x y : ℕ) → act c ≡ Adds x → act c ≡ Adds y → y ≡ x
 same_value act c x y p q = cc
 
-takes_value : (k : ℕ) (act : ℕ → Effect) (m : Marks) (c x t : ℕ) → PointsFit k act m → act c ≡ Adds x → IsTakeOf act m c t → act t ≡ Takes x
+takes_value : (k : ℕ) (act : ℕ → Effect) (m : Marks) (c x t : ℕ) → PointsFit k act m → act c ≡ Adds x
+    → IsTakeOf act m c t → act t ≡ Takes x
 takes_value k act m c x t f q i =
     let s : act (m.source t) ≡ Adds i.1 = f.source_adds t i.1 i.0 i.2 in
     let e : i.1 ≡ x = same_value act c x i.1 q (ap act (sym i.3) ∙ s) in
     i.2 ∙ ap Takes e
 
-overtakes_from : (k : ℕ) (act : ℕ → Effect) (m : Marks) (before : ℕ → ℕ → Bool) (numbers : List ℕ) (c x g : ℕ) → PointsFit k act m
+overtakes_from : (k : ℕ) (act : ℕ → Effect) (m : Marks) (before : ℕ → ℕ → Bool) (numbers : List ℕ) (c x g : ℕ)
+    → PointsFit k act m
     → Counts act m before numbers → AddsAreDistinct act numbers → m.stands c ≡ true → act c ≡ Adds x → IsIn g numbers
     → Passes act before numbers c g x → Overtakes act m c g
 overtakes_from k act m before numbers c x g f n distinct sc q i p =
     let sg = n.takes_stand g p.value i p.got in
     let ss = f.source_stands g p.value sg p.got in
-    let same : p.enqueue ≡ m.source g = distinct p.value p.enqueue (m.source g) p.listed (n.listed (m.source g) ss) p.adds_it
+    let same : p.enqueue ≡ m.source g = distinct p.value p.enqueue (m.source g) p.listed (n.listed (m.source g) ss)
+    p.adds_it
     (f.source_adds g p.value sg p.got) in
     let b : before c (m.source g) ≡ true = ap (before c) (sym same) ∙ p.added in
     record {
@@ -170,7 +182,8 @@ overtakes_as : (act : ℕ → Effect) (before : ℕ → ℕ → Bool) (numbers :
 overtakes_as act before numbers c x g q h = ap (λ e. overtakes_at act before numbers c g e (act g)) (sym q) ∙ h
 
 -- the count is below k
-pub count_below : (k : ℕ) (act : ℕ → Effect) (m : Marks) (before : ℕ → ℕ → Bool) (numbers : List ℕ) (c x : ℕ) → PointsFit k act m
+pub count_below : (k : ℕ) (act : ℕ → Effect) (m : Marks) (before : ℕ → ℕ → Bool) (numbers : List ℕ) (c x : ℕ)
+    → PointsFit k act m
     → Counts act m before numbers → AddsAreDistinct act numbers → m.stands c ≡ true → act c ≡ Adds x
     → overtaken_count act before numbers c < k
 count_below k act m before numbers c x f n distinct sc q =
@@ -207,7 +220,8 @@ from_places R (n ∷ ns) c d p i j lt =
 irreflexive : (order : List ℕ) (c : ℕ) → stands_before order c c ≡ true → ⊥
 irreflexive order c h = let lt = ltb-true (place order c) (place order c) h in omega arith
 
-counts_order : (act : ℕ → Effect) (m : Marks) (order : List ℕ) → IsByPoint m order → Counts act m (stands_before order) order
+counts_order : (act : ℕ → Effect) (m : Marks) (order : List ℕ) → IsByPoint m order
+    → Counts act m (stands_before order) order
 counts_order act m order p = record {
   differ = earlier_differ m.point order p.sorted;
   listed = p.every;
@@ -218,7 +232,8 @@ counts_order act m order p = record {
 }
 
 -- In the order by point an item is overtaken fewer than k times.
-pub overtaken_in_order : (k : ℕ) (h : List Call) (m : Marks) (order : List ℕ) (c x : ℕ) → PointsFit k (does h) m → IsByPoint m order
+pub overtaken_in_order : (k : ℕ) (h : List Call) (m : Marks) (order : List ℕ) (c x : ℕ) → PointsFit k (does h) m
+    → IsByPoint m order
     → AddsAreDistinct (does h) order → IsIn c order → does h c ≡ Adds x → overtaken_in h order c < k
 overtaken_in_order k h m order c x f p distinct i q =
     count_below k (does h) m (stands_before order) order c x f (counts_order (does h) m order p) distinct (p.only c i) q
@@ -235,7 +250,8 @@ takes_ended Dequeue None y e = cc
 takes_finished : (h : List Call) (g y : ℕ) → does h g ≡ Takes y → IsFinished h g
 takes_finished h g y e = takes_ended (call h g).op (call h g).end y e
 
-precedes_from : (h : List Call) (m : Marks) (c d : ℕ) → StandsFit h m → m.stands c ≡ true → m.stands d ≡ true → precedes h c d ≡ true
+precedes_from : (h : List Call) (m : Marks) (c d : ℕ) → StandsFit h m → m.stands c ≡ true → m.stands d ≡ true
+    → precedes h c d ≡ true
     → m.point c < m.point d
 precedes_from h m c d s sc sd b = points_part h m c d s sc sd (ends_from (call h c).end (call h d).first b)
 

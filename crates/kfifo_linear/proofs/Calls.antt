@@ -1,247 +1,62 @@
 -- A step keeps what the ledger says of calls.
-use Rattle.std.proofs.Common.{ltb, ◌≡◌, ◌≢◌, ℕ, ◌+◌, ◌-◌, ◌*◌, ◌%◌, ◌<◌, ◌≤◌, ◌⊎◌, inl, inr, true, false, refl, sym, ◌∙◌, ap, arith, Some}
-use Rattle.std.proofs.Common.{min}
-use Rattle.std.proofs.lemmas.Bool.{false≢true, ltb-true, ltb-false, cases_eq, cases_lt, cases_Bool}
+use Rattle.std.proofs.Common.{◌≡◌, ◌≢◌, ℕ, ◌+◌, ◌-◌, ◌*◌, ◌%◌, ◌<◌, ◌≤◌, ◌⊎◌, inl, inr, true, false, refl, sym, ◌∙◌, ap}
+use Rattle.std.proofs.Common.{arith, Some, min}
+use Rattle.std.proofs.lemmas.Bool.{false≢true, cases_eq, cases_lt, cases_Bool}
 use Rattle.std.proofs.lemmas.Bool.Decides.{nat_tests}
-use Rattle.kfifo_machine.specs.declared.place.DequeuePhase.TheVariants as D
-use Rattle.kfifo_machine.specs.declared.place.Running.TheVariants as R
 use Rattle.std.proofs.lemmas.Option.{none-some, same_Some}
 use Rattle.std.proofs.Common.{is_some}
 use Rattle.kfifo_linear.proofs.Abstract.{noted_tells, words_by}
-use Rattle.kfifo_linear.proofs.Base.{DequeueSane, Sane, filled_with-value}
-use Rattle.kfifo_linear.proofs.Claims.{EndsChange, Round, at_load, ends_change, segment_of}
-use Rattle.kfifo_linear.proofs.Invariant.{AtHead, AtTail, Calls, Fits, FullOk, GoneOk, HasClear, HasOwn, InsideOk, SettledOk, SlotOk}
-use Rattle.kfifo_linear.proofs.Invariant.{StoodOk, ThreadOk, Times, TookOk, is_gone, is_putting}
-use Rattle.kfifo_linear.proofs.Slots.{at_head_stays, at_tail_stays, clear_slot, settled_old}
+use Rattle.kfifo_linear.proofs.Base.{Sane, filled_with-value}
+use Rattle.kfifo_linear.proofs.Claims.{EndsChange, at_load, ends_change}
+use Rattle.kfifo_linear.proofs.Invariant.{AtTail, Calls, Fits, FullOk, GoneOk, InsideOk, SlotOk}
+use Rattle.kfifo_linear.proofs.Invariant.{StoodOk, ThreadOk, Times, TookOk, is_gone}
+use Rattle.kfifo_linear.proofs.Slots.{at_head_stays, at_tail_stays, settled_old}
 use Rattle.kfifo_linear.proofs.Threads.{Slots}
-use Rattle.kfifo_linear.specs.Ledger.{Gone, Inside, Ledger, Outside, Standing, Stood, Took, found_in, gone_point, item_of, settle_point}
+use Rattle.kfifo_linear.specs.Ledger.{Gone, Inside, Ledger, Outside, Stood, Took, found_in, gone_point, item_of}
 use Rattle.kfifo_linear.specs.Ledger.{stepped, took_point}
 use Rattle.kfifo_machine.proofs.NoWrap.{EndsOk, same_end}
 use Rattle.kfifo_machine.specs.Places.{IsSlotIndex}
 use Rattle.kfifo_machine.specs.Program.{access, advance}
-use Rattle.kfifo_machine.specs.declared.place.DequeuePhase.{DequeuePhase}
-use Rattle.kfifo_machine.specs.declared.place.EnqueuePhase.{EnqueuePhase}
-use Rattle.kfifo_machine.specs.declared.place.Found.TheVariants.{Nothing}
 use Rattle.kfifo_machine.specs.declared.place.Next.TheVariants.{Answers}
 use Rattle.kfifo_linear.proofs.Types.{Answer, Running, Shape}
 use Rattle.kfifo_words.specs.Words.{head_of, tail_of, value_of}
+use Rattle.kfifo_linear.proofs.Standings.{Stands, Takes, above, ended_fits, gone_at_tail, gone_ended, gone_started}
+use Rattle.kfifo_linear.proofs.Standings.{inside_gone, inside_outside, none_settled_now, settle_point_late}
+use Rattle.kfifo_linear.proofs.Standings.{took_at_head, took_started}
 
--- a step that takes the item of slot i
-pub record Takes (shape : Shape) (w : ℕ → ℕ) (l l' : Ledger) (t i : ℕ) : Type 0 where
-  pub full : value_of (w i) ≢ 0
-  pub fresh : l.standing (l.caller t) ≡ Outside
-  pub inside : l.standing (l.owner i) ≡ Inside i
-  pub loaded : l.tail_at_load i ≤ l.head_seen t
-  pub past : l.head_seen t < l.tail
-  pub reached : l.head_seen t ≤ l.head
-  pub place : l.head_seen t % shape.n ≡ segment_of shape i
-  pub head_same : l'.head ≡ l.head
-  pub tail_same : l'.tail ≡ l.tail
-  pub untaken : l'.untaken_from i ≡ l.head_seen t + 1
-  pub last : l'.last (l.caller t) ≡ Some l.now
-  pub answer : is_some (l'.answer (l.caller t)) ≡ true
-  pub gone : l'.standing (l.owner i) ≡ Gone i (l.head_seen t) (gone_point l i (l.head_seen t))
-  pub took : l'.standing (l.caller t) ≡ Took (l.owner i) (l.head_seen t) (took_point l (l.head_seen t))
-
--- the place of an enqueue whose item is taken now
-gone_at_tail : (shape : Shape) (w w' : ℕ → ℕ) (l l' : Ledger) (t i : ℕ) → 0 < shape.n → EndsChange w w' l l' → l'.now ≡ l.now + 1 → Times l
-    → Takes shape w l l' t i → SlotOk shape w l i → AtTail l' (l.head_seen t) (gone_point l i (l.head_seen t))
-unfolding gone_point
-gone_at_tail shape w w' l l' t i n c now times k here =
-    let v = l.head_seen t in
-    let tails_v : l.tails (l.head_seen t) < l.now = times.tails_past (l.head_seen t) k.past in
-    let kept : l'.tails (l.head_seen t) ≡ l.tails (l.head_seen t) = c.tails_kept (l.head_seen t) k.past in
-    let below : 0 < l.head_seen t → l'.tails (l.head_seen t - 1) ≡ l.tails (l.head_seen t - 1) =
-    λ z. c.tails_kept (l.head_seen t - 1) (omega (arith, k.past)) in
-    let rise : 0 < l.head_seen t → l.tails (l.head_seen t - 1) < l.tails (l.head_seen t) =
-    λ z. times.tails_rise (l.head_seen t - 1) (l.head_seen t) (omega arith) k.past in
-    let at : AtTail l' (l.head_seen t) (l.tails (l.head_seen t)) =
-    record {
-      reached = omega (arith, k.past, k.tail_same);
-      after = λ z. omega (arith, below z, rise z);
-      before = λ z. omega (arith, kept);
-      past = omega (arith, now);
-    } in
-    elim (cases_Bool (l.settled i)) [
-      | inr e ↦ rw e at
-      | inl e ↦
-          let st : SettledOk shape l i = here.settled e in
-          elim (cases_lt (l.head_seen t) (l.visit i)) [
-            | inl lt ↦
-                let far : l.tails (l.head_seen t) < l.point i = elim (cases_eq (l.head_seen t) (l.visit i - 1)) [
-                  | inl q ↦ omega (arith, st.at_tail.after (omega arith), ap l.tails q)
-                  | inr q ↦ omega (
-                    arith,
-                    st.at_tail.after (omega arith),
-                    times.tails_rise (l.head_seen t) (l.visit i - 1) (omega arith) (omega (arith, st.at_tail.reached)),
-                  )
-                ] in
-                let m : min (l.point i) (l.tails (l.head_seen t)) ≡ l.tails (l.head_seen t) = omega arith in
-                rw (e, m) at
-            | inr ge ↦
-                let q : l.visit i ≡ l.head_seen t = omega (arith, k.reached, st.from_head) in
-                let near : l.point i ≤ l.tails (l.visit i) = st.at_tail.before (omega (arith, q, k.past)) in
-                let m : min (l.point i) (l.tails (l.head_seen t)) ≡ l.point i = omega (arith, ap l.tails q) in
-                rw (e, m, ← q) (at_tail_stays w w' l l' (l.visit i) (l.point i) c now st.at_tail)
-          ]
-    ]
-
--- the place of a dequeue that takes an item now
-took_at_head : (shape : Shape) (w w' : ℕ → ℕ) (l l' : Ledger) (t i : ℕ) → EndsChange w w' l l' → l'.now ≡ l.now + 1 → Times l
-    → Takes shape w l l' t i → AtHead l' (l.head_seen t) (took_point l (l.head_seen t))
-unfolding took_point
-took_at_head shape w w' l l' t i c now times k =
-    let kept : l'.tails (l.head_seen t) ≡ l.tails (l.head_seen t) = c.tails_kept (l.head_seen t) k.past in
-    let tails_v : l.tails (l.head_seen t) < l.now = times.tails_past (l.head_seen t) k.past in
-    let below : 0 < l.head_seen t → l'.heads (l.head_seen t - 1) ≡ l.heads (l.head_seen t - 1) =
-    λ z. c.heads_kept (l.head_seen t - 1) (omega (arith, k.reached)) in
-    let past : 0 < l.head_seen t → l.heads (l.head_seen t - 1) < l.now =
-    λ z. times.heads_past (l.head_seen t - 1) (omega (arith, k.reached)) in
-    elim (cases_Bool (ltb (l.head_seen t) l.head)) [
-      | inl e ↦
-          let lt : l.head_seen t < l.head = ltb-true _ _ e in
-          let same : l'.heads (l.head_seen t) ≡ l.heads (l.head_seen t) = c.heads_kept (l.head_seen t) lt in
-          let rise : 0 < l.head_seen t → l.heads (l.head_seen t - 1) < l.heads (l.head_seen t) =
-          λ z. times.heads_rise (l.head_seen t - 1) (l.head_seen t) (omega arith) lt in
-          rw e (record {
-            reached = omega (arith, k.head_same);
-            after = λ z. omega (arith, below z, rise z);
-            before = λ z. omega (arith, same);
-            past = omega (arith, now, times.heads_past (l.head_seen t) lt);
-            tail_past =
-                omega (arith, k.past, k.tail_same);
-            tail_before = omega (arith, kept, times.tail_first (l.head_seen t) lt);
-          })
-      | inr e ↦
-          let ge : l.head ≤ l.head_seen t = ltb-false _ _ e in
-          rw e (record {
-            reached = omega (arith, k.reached, k.head_same);
-            after = λ z. omega (arith, below z, past z);
-            before = λ z. absurd (omega (arith, k.head_same));
-            past = omega (arith, now);
-            tail_past = omega (arith, k.past, k.tail_same);
-            tail_before = omega (arith, kept);
-          })
-    ]
-
--- a dequeue that finds the queue empty now
-abbrev pub Stands : (ℕ → ℕ) → Running → Type 0
-Stands w (R.Dequeue start left (D.Recheck ends Nothing)) = w 0 ≡ ends
-Stands w other = ⊥
-
-stands_clear : (shape : Shape) (w : ℕ → ℕ) (l : Ledger) (i : ℕ) (r : Running) → 0 < shape.k → 0 < i → Sane shape r → HasClear shape w l r
-    → Stands w r → segment_of shape i ≡ head_of (w 0) → l.settled i ≡ false
-stands_clear shape w l i (R.Dequeue start left (D.Recheck ends Nothing)) k pos s c e g = clear_slot shape w l i ends start k pos s.0 c e g
-stands_clear shape w l i other k pos s c e g = absurd e
-
--- nothing in the table is settled then
-none_settled_now : (shape : Shape) (w : ℕ → ℕ) (l : Ledger) (i : ℕ) (r : Running) → 0 < shape.k → IsSlotIndex shape i
-    → EndsOk shape (w 0) l.head l.tail → l.tail ≡ l.head → Sane shape r → HasClear shape w l r → Stands w r → SlotOk shape w l i
-    → l.settled i ≡ false
-none_settled_now shape w l i r k is_slot ok same s c st here =
-    elim (cases_Bool (l.settled i)) [
-      | inl e ↦
-          let h : SettledOk shape l i = here.settled e in
-          let v : l.visit i ≡ l.head = omega (arith, h.from_head, h.to_tail) in
-          stands_clear shape w l i r k is_slot.above s c st (sym h.place ∙ ap (λ x. x % shape.n) v ∙ sym ok.head)
-      | inr e ↦ e
-    ]
-
-above : (x p : ℕ) → x ≢ p → p ≤ x → p < x
-above x p ne le = elim (cases_eq x p) [ inl e ↦ absurd (ne e) | inr n ↦ omega arith ]
-
-settle_point_late : (l : Ledger) (v p x : ℕ) → Times l → AtTail l v p → ((y : ℕ) → y < l.tail → l.tails y ≢ p) → v ≤ x
-    → p < settle_point l x
-unfolding settle_point
-settle_point_late l v p x times at apart h =
-    elim (cases_Bool (ltb x l.tail)) [
-      | inl e ↦
-          let lt : x < l.tail = ltb-true _ _ e in
-          rw e (elim (cases_eq v x) [
-            | inl q ↦ above (l.tails x) p (apart x lt) (omega (arith, ap l.tails q, at.before (omega (arith, q))))
-            | inr q ↦ omega (arith, at.before (omega arith), times.tails_rise v x (omega arith) lt)
-          ])
-      | inr e ↦ rw e (omega (arith, at.past))
-    ]
-
--- where an answer says that its call stands
-ended_fits_e : (shape : Shape) (w : ℕ → ℕ) (l : Ledger) (t item start left : ℕ) (phase : EnqueuePhase)
-    → HasOwn shape w l t (R.Enqueue item start left phase)
-    → (is_putting (R.Enqueue item start left phase) ≡ false → l.standing (l.caller t) ≡ Outside) → (x : Answer)
-    → advance shape (R.Enqueue item start left phase) (found_in shape w (R.Enqueue item start left phase)) ≡ Answers x
-    → Fits l.begin x ((stepped shape w t (R.Enqueue item start left phase) l).standing (l.caller t))
-unfolding stepped
-ended_fits_e shape w l t item start left phase own f x e = grind (arith, nat_tests, noted_tells)
-
-ended_fits_d : (shape : Shape) (w : ℕ → ℕ) (l : Ledger) (t start left : ℕ) (phase : DequeuePhase) → DequeueSane shape phase
-    → (l.standing (l.caller t) ≡ Outside) → ((i : ℕ) → 0 < i → i < 1 + shape.n * shape.k → value_of (w i) ≢ 0
-    → item_of (l.begin (l.owner i)) ≡ value_of (w i)) → (x : Answer)
-    → advance shape (R.Dequeue start left phase) (found_in shape w (R.Dequeue start left phase)) ≡ Answers x
-    → Fits l.begin x ((stepped shape w t (R.Dequeue start left phase) l).standing (l.caller t))
-unfolding stepped
-ended_fits_d shape w l t start left phase s f items x e = grind (arith, nat_tests, noted_tells)
-
-ended_fits : (shape : Shape) (w : ℕ → ℕ) (l : Ledger) (t : ℕ) (r : Running) → Sane shape r → HasOwn shape w l t r
-    → (is_putting r ≡ false → l.standing (l.caller t) ≡ Outside)
-    → ((i : ℕ) → 0 < i → i < 1 + shape.n * shape.k → value_of (w i) ≢ 0 → item_of (l.begin (l.owner i)) ≡ value_of (w i)) → (x : Answer)
-    → advance shape r (found_in shape w r) ≡ Answers x → Fits l.begin x ((stepped shape w t r l).standing (l.caller t))
-ended_fits shape w l t (R.Enqueue item start left phase) s own f items x e = ended_fits_e shape w l t item start left phase own f x e
-ended_fits shape w l t (R.Dequeue start left phase) s own f items x e = ended_fits_d shape w l t start left phase s.1 (f refl) items x e
-
-inside_gone : {s : Standing} (i : ℕ) → Inside i ≡ s → is_gone s ≡ true → ⊥
-inside_gone i e g = false≢true (ap is_gone e ∙ g)
-
-inside_outside : (i : ℕ) → Inside i ≡ Outside → ⊥
-inside_outside i e = cc
-
-gone_started : (shape : Shape) (w : ℕ → ℕ) (l : Ledger) (t : ℕ) (l' : Ledger) (i : ℕ) → Takes shape w l l' t i → SlotOk shape w l i
-    → l.first (l.owner i) ≤ gone_point l i (l.head_seen t)
-unfolding gone_point
-gone_started shape w l t l' i k here =
-    let tails : l.first (l.owner i) ≤ l.tails (l.head_seen t) = (here.full k.full).after (l.head_seen t) k.loaded k.past in
-    elim (cases_Bool (l.settled i)) [ inl e ↦ rw e (omega (arith, (here.settled e).started)) | inr e ↦ rw e tails ]
-
-gone_ended : (shape : Shape) (w : ℕ → ℕ) (l : Ledger) (t i e : ℕ) → SlotOk shape w l i → value_of (w i) ≢ 0 → l.last (l.owner i) ≡ Some e
-    → gone_point l i (l.head_seen t) ≤ e
-unfolding gone_point
-gone_ended shape w l t i e here full g =
-    elim (cases_Bool (l.settled i)) [
-      | inl s ↦ rw s (omega (arith, (here.settled s).ended e g))
-      | inr s ↦ absurd (none-some e (sym ((here.full full).unsettled s) ∙ g))
-    ]
-
-took_started : (l : Ledger) (t : ℕ) → l.first (l.caller t) ≤ l.now → Round l t → l.first (l.caller t) ≤ took_point l (l.head_seen t)
-unfolding took_point
-took_started l t n rd =
-    elim (cases_Bool (ltb (l.head_seen t) l.head)) [
-      | inl e ↦ rw e (rd.heads_after (l.head_seen t) (omega arith) (ltb-true _ _ e))
-      | inr e ↦ rw e n
-    ]
-
-module _ (shape : Shape) (w : ℕ → ℕ) (l : Ledger) (t : ℕ) (r : Running) (s : Sane shape r) (ok : EndsOk shape (w 0) l.head l.tail)
+module _ (shape : Shape) (w : ℕ → ℕ) (l : Ledger) (t : ℕ) (r : Running) (s : Sane shape r)
+    (ok : EndsOk shape (w 0) l.head l.tail)
     (me : ThreadOk shape w l t r) (times : Times l) (all : Slots shape w l) where
   -- whose item was taken before, or is now
   pub standing_gone : (c i v p : ℕ) → (stepped shape w t r l).standing c ≡ Gone i v p → (l.standing c ≡ Gone i v p)
-      ⊎ (Takes shape w l (stepped shape w t r l) t i × IsSlotIndex shape i × (c ≡ l.owner i) × (v ≡ l.head_seen t) × (p ≡ gone_point l i v))
+      ⊎ (Takes shape w l (stepped shape w t r l) t i × IsSlotIndex shape i × (c ≡ l.owner i) × (v ≡ l.head_seen t)
+      × (p ≡ gone_point l i v))
   unfolding stepped
-  standing_gone c i v p e = let f = me.fresh in let g = me.target in let rd = me.round in grind (arith, nat_tests, noted_tells)
+  standing_gone c i v p e = let f = me.fresh in let g = me.target in let rd = me.round in
+      grind (arith, nat_tests, noted_tells)
 
   standing_took : (c o v p : ℕ) → (stepped shape w t r l).standing c ≡ Took o v p → (l.standing c ≡ Took o v p)
-      ⊎ ((i : ℕ) × Takes shape w l (stepped shape w t r l) t i × (c ≡ l.caller t) × (o ≡ l.owner i) × (v ≡ l.head_seen t)
+      ⊎ ((i : ℕ) × Takes shape w l (stepped shape w t r l) t i × (c ≡ l.caller t) × (o ≡ l.owner i)
+      × (v ≡ l.head_seen t)
       × (p ≡ took_point l v) × (at_load r ≡ false))
   unfolding stepped
-  standing_took c o v p e = let f = me.fresh in let g = me.target in let rd = me.round in grind (arith, nat_tests, noted_tells)
+  standing_took c o v p e = let f = me.fresh in let g = me.target in let rd = me.round in
+      grind (arith, nat_tests, noted_tells)
 
   standing_stood : (c v p : ℕ) → (stepped shape w t r l).standing c ≡ Stood v p → (l.standing c ≡ Stood v p)
-      ⊎ (Stands w r × (c ≡ l.caller t) × (v ≡ l.head) × (p ≡ l.now) × (l.tail ≡ l.head) × ((stepped shape w t r l).head ≡ l.head)
+      ⊎ (Stands w r × (c ≡ l.caller t) × (v ≡ l.head) × (p ≡ l.now) × (l.tail ≡ l.head)
+      × ((stepped shape w t r l).head ≡ l.head)
       × ((stepped shape w t r l).tail ≡ l.tail))
   unfolding stepped
-  standing_stood c v p e = let f = me.fresh in let same = same_end shape (w 0) l.head l.tail ok in grind (arith, nat_tests, noted_tells)
+  standing_stood c v p e = let f = me.fresh in let same = same_end shape (w 0) l.head l.tail ok in
+      grind (arith, nat_tests, noted_tells)
 
-  standing_inside : (c i : ℕ) → (l.standing c ≡ Inside i → InsideOk shape w l c i) → (stepped shape w t r l).standing c ≡ Inside i
+  standing_inside : (c i : ℕ) → (l.standing c ≡ Inside i → InsideOk shape w l c i) → (stepped shape w t r l).standing c
+      ≡ Inside i
       → InsideOk shape (words_by (access shape r) w) (stepped shape w t r l) c i
   unfolding stepped
-  standing_inside c i old e = let own = me.own in let f = me.fresh in grind (arith, nat_tests, noted_tells, filled_with-value)
+  standing_inside c i old e = let own = me.own in let f = me.fresh in
+      grind (arith, nat_tests, noted_tells, filled_with-value)
 
   untaken_rises : (i : ℕ) → IsSlotIndex shape i → l.untaken_from i ≤ l.tail_at_load i ⊎ (value_of (w i) ≡ 0)
       → l.untaken_from i ≤ (stepped shape w t r l).untaken_from i
@@ -255,12 +70,14 @@ module _ (shape : Shape) (w : ℕ → ℕ) (l : Ledger) (t : ℕ) (r : Running) 
   unfolding stepped
   next_now = refl
 
-  old_last : (c : ℕ) → ((stepped shape w t r l).last c ≡ l.last c) ⊎ (((stepped shape w t r l).last c ≡ Some l.now) × (c ≡ l.caller t))
+  old_last : (c : ℕ) → ((stepped shape w t r l).last c ≡ l.last c)
+      ⊎ (((stepped shape w t r l).last c ≡ Some l.now) × (c ≡ l.caller t))
   unfolding stepped
   old_last c = grind (arith, nat_tests, noted_tells)
 
   -- a place that was in time stays so
-  ended_stays : (c p : ℕ) → p < l.now → ((e : ℕ) → l.last c ≡ Some e → p ≤ e) → (e : ℕ) → (stepped shape w t r l).last c ≡ Some e → p ≤ e
+  ended_stays : (c p : ℕ) → p < l.now → ((e : ℕ) → l.last c ≡ Some e → p ≤ e) → (e : ℕ) → (stepped shape w t r l).last c
+      ≡ Some e → p ≤ e
   ended_stays c p past h e f = elim (old_last c) [
     | inl k ↦ h e (sym k ∙ f)
     | inr k ↦ let z : l.now ≡ e = same_Some l.now e (sym k.0 ∙ f) in omega arith
@@ -271,9 +88,13 @@ module _ (shape : Shape) (w : ℕ → ℕ) (l : Ledger) (t : ℕ) (r : Running) 
   first_stays c p h = h
 
   untaken_or_empty : (i : ℕ) → SlotOk shape w l i → l.untaken_from i ≤ l.tail_at_load i ⊎ (value_of (w i) ≡ 0)
-  untaken_or_empty i here = elim (cases_eq (value_of (w i)) 0) [ inl e ↦ inr e | inr ne ↦ inl (here.full ne).untaken_to_load ]
+  untaken_or_empty i here = elim (cases_eq (value_of (w i)) 0) [
+    | inl e ↦ inr e
+    | inr ne ↦ inl (here.full ne).untaken_to_load
+  ]
 
-  gone_stays : (c i v p : ℕ) → GoneOk shape l c i v p → SlotOk shape w l i → GoneOk shape (stepped shape w t r l) c i v p
+  gone_stays : (c i v p : ℕ) → GoneOk shape l c i v p → SlotOk shape w l i
+      → GoneOk shape (stepped shape w t r l) c i v p
   gone_stays c i v p h here =
       record {
         is_slot = h.is_slot;
@@ -292,8 +113,8 @@ module _ (shape : Shape) (w : ℕ → ℕ) (l : Ledger) (t : ℕ) (r : Running) 
       record {
         is_slot = is_slot;
         place = k.place;
-        at_tail = gone_at_tail shape w (words_by (access shape r) w) l (stepped shape w t r l) t i (omega (arith, shape.some_segments)) ch
-            next_now times k here;
+        at_tail = gone_at_tail shape w (words_by (access shape r) w) l (stepped shape w t r l) t i
+            (omega (arith, shape.some_segments)) ch next_now times k here;
         started = gone_started shape w l t (stepped shape w t r l) i k here;
         ended = λ e g. elim (old_last (l.owner i)) [
           | inl z ↦ gone_ended shape w l t i e here k.full (sym z ∙ g)
@@ -335,7 +156,8 @@ module _ (shape : Shape) (w : ℕ → ℕ) (l : Ledger) (t : ℕ) (r : Running) 
         ended = λ e g. let z : l.now ≡ e = same_Some l.now e (sym k.last ∙ g) in
             omega (
               arith,
-              (took_at_head shape w (words_by (access shape r) w) l (stepped shape w t r l) t i ch next_now times k).past,
+              (took_at_head shape w (words_by (access shape r) w) l (stepped shape w t r l) t i ch next_now times
+                  k).past,
               next_now,
             );
         gone = rw k.gone refl;
@@ -343,8 +165,10 @@ module _ (shape : Shape) (w : ℕ → ℕ) (l : Ledger) (t : ℕ) (r : Running) 
         finished = k.answer;
       }
 
-  -- a taken item's place is not before a place at which the tail was in an earlier or the same visit, where its own is not
-  taken_later : (i v p : ℕ) → Takes shape w l (stepped shape w t r l) t i → AtTail l v p → (l.settled i ≡ true → p < l.point i)
+  -- a taken item's place is not before a place at which the tail was in an earlier or the same visit, where its own is
+  -- not
+  taken_later : (i v p : ℕ) → Takes shape w l (stepped shape w t r l) t i → AtTail l v p
+      → (l.settled i ≡ true → p < l.point i)
       → ((y : ℕ) → y < l.tail → l.tails y ≢ p) → gone_point l i (l.head_seen t) ≤ p → l.head_seen t < v
   unfolding gone_point
   taken_later i v p k at late apart before =
@@ -354,23 +178,32 @@ module _ (shape : Shape) (w : ℕ → ℕ) (l : Ledger) (t : ℕ) (r : Running) 
             let far : p < l.tails (l.head_seen t) =
             above (l.tails (l.head_seen t)) p (apart (l.head_seen t) k.past) (elim (cases_eq v (l.head_seen t)) [
               | inl q ↦ omega (arith, ap l.tails q, at.before (omega (arith, q, k.past)))
-              | inr q ↦ omega (arith, at.before (omega (arith, k.past)), times.tails_rise v (l.head_seen t) (omega arith) k.past)
+              | inr q ↦ omega (
+                arith,
+                at.before (omega (arith, k.past)),
+                times.tails_rise v (l.head_seen t)
+                    (omega arith) k.past,
+              )
             ]) in
             elim (cases_Bool (l.settled i)) [
-              | inl e ↦ let b : min (l.point i) (l.tails (l.head_seen t)) ≤ p = (rw e at before) in absurd (omega (arith, late e))
+              | inl e ↦ let b : min (l.point i) (l.tails (l.head_seen t)) ≤ p = (rw e at before) in
+                  absurd (omega (arith, late e))
               | inr e ↦ let b : l.tails (l.head_seen t) ≤ p = (rw e at before) in absurd (omega arith)
             ]
       ]
 
   -- an item that is settled now has a later place than one at which the head had not come further than its visit
-  settled_later : (i v p : ℕ) → v ≤ l.head → AtTail l v p → (l.settled i ≡ true → p < l.point i) → ((y : ℕ) → y < l.tail → l.tails y ≢ p)
-      → (here : SlotOk shape w l i) → IsSlotIndex shape i → SlotOk shape (words_by (access shape r) w) (stepped shape w t r l) i
+  settled_later : (i v p : ℕ) → v ≤ l.head → AtTail l v p → (l.settled i ≡ true → p < l.point i)
+      → ((y : ℕ) → y < l.tail → l.tails y ≢ p)
+      → (here : SlotOk shape w l i) → IsSlotIndex shape i
+      → SlotOk shape (words_by (access shape r) w) (stepped shape w t r l) i
       → (stepped shape w t r l).settled i ≡ true → p < (stepped shape w t r l).point i
   settled_later i v p va at late apart here is_slot after e =
       elim (settled_old shape w l t r s ok me times all i is_slot here e) [
         | inl k ↦ omega (arith, late k.0, k.2)
         | inr k ↦
-            let from : l.head ≤ (stepped shape w t r l).visit i = omega (arith, (after.settled e).from_head, ch.head_rise) in
+            let from : l.head ≤ (stepped shape w t r l).visit i =
+            omega (arith, (after.settled e).from_head, ch.head_rise) in
             rw k.1 (settle_point_late l v p ((stepped shape w t r l).visit i) times at apart (omega arith))
       ]
 
@@ -398,8 +231,8 @@ module _ (shape : Shape) (w : ℕ → ℕ) (l : Ledger) (t : ℕ) (r : Running) 
               let b : gone_point l i (l.head_seen t) ≤ p = omega (arith, z, k.4, ap (gone_point l i) k.3) in
               omega (arith, k.3, taken_later i v p k.0 h.at_tail (h.none_settled i k.1) h.no_tail b)
         ];
-        none_settled = λ i is_slot e. settled_later i v p h.head_reached h.at_tail (h.none_settled i is_slot) h.no_tail (here i is_slot)
-            is_slot (after i is_slot) e;
+        none_settled = λ i is_slot e. settled_later i v p h.head_reached h.at_tail (h.none_settled i is_slot) h.no_tail
+            (here i is_slot) is_slot (after i is_slot) e;
         no_tail = λ x z y. elim (cases_lt x l.tail) [
           | inl lt ↦ h.no_tail x lt (sym (ch.tails_kept x lt) ∙ y)
           | inr ge ↦ absurd (omega (arith, h.at_tail.past, ch.tails_new x ge z, y))
@@ -418,20 +251,28 @@ module _ (shape : Shape) (w : ℕ → ℕ) (l : Ledger) (t : ℕ) (r : Running) 
       let h : tail_of (w 0) ≡ head_of (w 0) = ok.tail ∙ ap (λ x. x % shape.n) same ∙ sym ok.head in
       grind (arith, nat_tests, noted_tells)
 
-  stood_begins : Stands w r → l.tail ≡ l.head → (stepped shape w t r l).head ≡ l.head → (stepped shape w t r l).tail ≡ l.tail
-      → ((i : ℕ) → IsSlotIndex shape i → SlotOk shape w l i) → ((c i v p : ℕ) → l.standing c ≡ Gone i v p → GoneOk shape l c i v p)
+  stood_begins : Stands w r → l.tail ≡ l.head → (stepped shape w t r l).head ≡ l.head
+      → (stepped shape w t r l).tail ≡ l.tail
+      → ((i : ℕ) → IsSlotIndex shape i → SlotOk shape w l i)
+      → ((c i v p : ℕ) → l.standing c ≡ Gone i v p → GoneOk shape l c i v p)
       → StoodOk shape (stepped shape w t r l) (l.caller t) l.head l.now
   stood_begins st same a b here gone =
       record {
         at_tail = record {
           reached = omega arith;
-          after = λ z. omega (arith, times.tails_past (l.head - 1) (omega arith), ch.tails_kept (l.head - 1) (omega arith));
+          after = λ z. omega (
+            arith,
+            times.tails_past (l.head - 1) (omega arith),
+            ch.tails_kept (l.head - 1)
+                (omega arith),
+          );
           before =
               λ z. absurd (omega arith);
           past = omega (arith, next_now);
         };
         head_reached = omega arith;
-        head_after = λ z. omega (arith, times.heads_past (l.head - 1) (omega arith), ch.heads_kept (l.head - 1) (omega arith));
+        head_after =
+            λ z. omega (arith, times.heads_past (l.head - 1) (omega arith), ch.heads_kept (l.head - 1) (omega arith));
         head_before = λ z. absurd (omega arith);
         started = first_stays (l.caller t) l.now me.started;
         ended = λ e g. elim (old_last (l.caller t)) [
@@ -445,7 +286,8 @@ module _ (shape : Shape) (w : ℕ → ℕ) (l : Ledger) (t : ℕ) (r : Running) 
         none_settled = λ i is_slot e. absurd (false≢true
             (sym (none_settled_now shape w l i r shape.some_slot is_slot ok same s me.clear st (here i is_slot))
             ∙ sym ((stands_alone st i).0) ∙ e));
-        no_tail = λ x z y. let lt : x < l.tail = omega arith in absurd (omega (arith, times.tails_past x lt, ch.tails_kept x lt, y));
+        no_tail = λ x z y. let lt : x < l.tail = omega arith in
+            absurd (omega (arith, times.tails_past x lt, ch.tails_kept x lt, y));
       }
 
   next_begin : (stepped shape w t r l).begin ≡ l.begin
@@ -460,13 +302,16 @@ module _ (shape : Shape) (w : ℕ → ℕ) (l : Ledger) (t : ℕ) (r : Running) 
   unfolding stepped
   standing_later c o z = let k = me.known in let own = me.own in grind (arith, nat_tests, noted_tells)
 
-  taken_apart : (i v p : ℕ) (c : ℕ) → Takes shape w l (stepped shape w t r l) t i → SlotOk shape w l i → GoneOk shape l c i v p
+  taken_apart : (i v p : ℕ) (c : ℕ) → Takes shape w l (stepped shape w t r l) t i → SlotOk shape w l i
+      → GoneOk shape l c i v p
       → v ≡ l.head_seen t → ⊥
   taken_apart i v p c k here h e = omega (arith, h.under, (here.full k.full).untaken_to_load, k.loaded)
 
   -- an answer says where its call stands
-  own_answered : ((i : ℕ) → 0 < i → i < 1 + shape.n * shape.k → value_of (w i) ≢ 0 → item_of (l.begin (l.owner i)) ≡ value_of (w i))
-      → (x : Answer) → advance shape r (found_in shape w r) ≡ Answers x → Fits l.begin x ((stepped shape w t r l).standing (l.caller t))
+  own_answered : ((i : ℕ) → 0 < i → i < 1 + shape.n * shape.k → value_of (w i) ≢ 0 → item_of (l.begin (l.owner i))
+      ≡ value_of (w i))
+      → (x : Answer) → advance shape r (found_in shape w r) ≡ Answers x
+      → Fits l.begin x ((stepped shape w t r l).standing (l.caller t))
   unfolding stepped
   own_answered items x e = ended_fits shape w l t r s me.own me.fresh items x e
 
@@ -477,24 +322,31 @@ module _ (shape : Shape) (w : ℕ → ℕ) (l : Ledger) (t : ℕ) (r : Running) 
   other_answered c x ne h = grind (arith, nat_tests, noted_tells)
 
   answer_old : (c : ℕ) → ((stepped shape w t r l).answer c ≡ l.answer c) × ((stepped shape w t r l).last c ≡ l.last c)
-      ⊎ ((c ≡ l.caller t) × ((x : Answer) × (advance shape r (found_in shape w r) ≡ Answers x) × ((stepped shape w t r l).answer c ≡ Some x)
+      ⊎ ((c ≡ l.caller t) × ((x : Answer) × (advance shape r (found_in shape w r) ≡ Answers x)
+      × ((stepped shape w t r l).answer c ≡ Some x)
       × ((stepped shape w t r l).last c ≡ Some l.now)))
   unfolding stepped
   answer_old c = grind (arith, nat_tests, noted_tells)
 
   calls_answered : ((i : ℕ) → IsSlotIndex shape i → SlotOk shape w l i) → Calls shape w l → (c : ℕ) (x : Answer)
-      → (stepped shape w t r l).answer c ≡ Some x → Fits (stepped shape w t r l).begin x ((stepped shape w t r l).standing c)
+      → (stepped shape w t r l).answer c ≡ Some x
+      → Fits (stepped shape w t r l).begin x ((stepped shape w t r l).standing c)
   calls_answered here h c x e = elim (answer_old c) [
     | inr k ↦
         let y : k.1.0 ≡ x = same_Some k.1.0 x (sym k.1.2 ∙ e) in
-        rw (k.0, next_begin, ← y) (own_answered (λ i a b v. (here i (record { above = a; below = b })).item v) k.1.0 k.1.1)
+        rw (k.0, next_begin, ← y) (own_answered (λ i a b v. (here i (record {
+          above = a;
+          below = b;
+        })).item v) k.1.0 k.1.1)
     | inl k ↦
         let g : l.answer c ≡ Some x = sym k.0 ∙ e in
-        rw next_begin (other_answered c x (λ z. none-some x (sym me.unanswered ∙ ap l.answer (sym z) ∙ g)) (h.answered c x g))
+        rw next_begin (other_answered c x (λ z. none-some x (sym me.unanswered ∙ ap l.answer (sym z) ∙ g))
+        (h.answered c x g))
   ]
 
   pub calls_stay : ((i : ℕ) → IsSlotIndex shape i → SlotOk shape w l i)
-      → ((i : ℕ) → IsSlotIndex shape i → SlotOk shape (words_by (access shape r) w) (stepped shape w t r l) i) → Calls shape w l
+      → ((i : ℕ) → IsSlotIndex shape i → SlotOk shape (words_by (access shape r) w) (stepped shape w t r l) i)
+      → Calls shape w l
       → Calls shape (words_by (access shape r) w) (stepped shape w t r l)
   calls_stay here after h =
       record {

@@ -23,12 +23,14 @@ use Rattle.kfifo_machine.specs.declared.place.Next.TheVariants.{Answers, Goes}
 unfoldable pub segment_of : Shape → ℕ → ℕ
 segment_of shape index = (index - 1) / shape.k
 
-pub segment_of-scan_index : (shape : Shape) (segment start offset : ℕ) → segment_of shape (scan_index shape segment start offset) ≡ segment
+pub segment_of-scan_index : (shape : Shape) (segment start offset : ℕ)
+    → segment_of shape (scan_index shape segment start offset) ≡ segment
 unfolding scan_index segment_of
 segment_of-scan_index shape segment start offset =
     let k : 0 < shape.k = shape.some_slot in
     let j : (start + offset) % shape.k < shape.k = mod-lt (start + offset) k in
-    let e : 1 + segment * shape.k + (start + offset) % shape.k - 1 ≡ segment * shape.k + (start + offset) % shape.k = omega arith in
+    let e : 1 + segment * shape.k + (start + offset) % shape.k - 1 ≡ segment * shape.k + (start + offset) % shape.k =
+    omega arith in
     rw e (div-mul-add segment shape.k ((start + offset) % shape.k) j)
 
 -- no word ever falls
@@ -111,7 +113,8 @@ pub record EndsChange (w w' : ℕ → ℕ) (l l' : Ledger) : Type 0 where
   pub heads_kept : (v : ℕ) → v < l.head → l'.heads v ≡ l.heads v
   pub heads_new : (v : ℕ) → l.head ≤ v → v < l'.head → l'.heads v ≡ l.now
 
-pub ends_change : (shape : Shape) → (w : ℕ → ℕ) (l : Ledger) (t : ℕ) (r : Running) → Sane shape r → EndsOk shape (w 0) l.head l.tail
+pub ends_change : (shape : Shape) → (w : ℕ → ℕ) (l : Ledger) (t : ℕ) (r : Running) → Sane shape r
+    → EndsOk shape (w 0) l.head l.tail
     → EndsChange w (words_by (access shape r) w) l (stepped shape w t r l)
 unfolding stepped
 ends_change shape w l t r s ok =
@@ -130,14 +133,17 @@ ends_change shape w l t r s ok =
     }
 
 -- the ends that a round loaded say what they said
-pub loaded_stays : (shape : Shape) (w w' : ℕ → ℕ) (l l' : Ledger) (u x : ℕ) → EndsChange w w' l l' → l'.head_seen u ≡ l.head_seen u
+pub loaded_stays : (shape : Shape) (w w' : ℕ → ℕ) (l l' : Ledger) (u x : ℕ) → EndsChange w w' l l'
+    → l'.head_seen u ≡ l.head_seen u
     → l'.tail_seen u ≡ l.tail_seen u → Loaded shape w l u x → Loaded shape w' l' u x
 loaded_stays shape w w' l l' u x c h t ld =
     record {
       ends = rw (h, t) ld.ends;
       below = omega (arith, ld.below, c.rise);
-      head_same = λ e. let z : w' 0 ≡ w 0 = omega (arith, ld.below, c.rise) in omega (arith, h, ld.head_same (sym z ∙ e), c.head_kept z);
-      tail_same = λ e. let z : w' 0 ≡ w 0 = omega (arith, ld.below, c.rise) in omega (arith, t, ld.tail_same (sym z ∙ e), c.tail_kept z);
+      head_same = λ e. let z : w' 0 ≡ w 0 = omega (arith, ld.below, c.rise) in
+          omega (arith, h, ld.head_same (sym z ∙ e), c.head_kept z);
+      tail_same = λ e. let z : w' 0 ≡ w 0 = omega (arith, ld.below, c.rise) in
+          omega (arith, t, ld.tail_same (sym z ∙ e), c.tail_kept z);
     }
 
 pub round_stays : (w w' : ℕ → ℕ) (l l' : Ledger) (u : ℕ) → EndsChange w w' l l' → l'.head_seen u ≡ l.head_seen u
@@ -167,6 +173,7 @@ pub HasLoaded-others : (shape : Shape) (w w' : ℕ → ℕ) (l l' : Ledger) (u :
 HasLoaded-others shape w w' l l' u q keep h = grind arith
 
 pub HasLoaded-own : (shape : Shape) (w w' : ℕ → ℕ) (l l' : Ledger) (t : ℕ) (r : Running) (word : ℕ)
-    → ((x : ℕ) → at_load r ≡ false → Loaded shape w l t x → Loaded shape w' l' t x) → (at_load r ≡ true → Loaded shape w' l' t word)
+    → ((x : ℕ) → at_load r ≡ false → Loaded shape w l t x → Loaded shape w' l' t x)
+    → (at_load r ≡ true → Loaded shape w' l' t word)
     → HasLoaded shape w l t r → IfGoes (HasLoaded shape w' l' t) (advance shape r word)
 HasLoaded-own shape w w' l l' t r word keep new h = grind (arith, nat_tests)

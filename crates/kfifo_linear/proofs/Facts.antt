@@ -1,14 +1,14 @@
 -- What the order of calls is made of: of each call's role and place, after every schedule.
-use Rattle.std.proofs.Common.{◌≡◌, ℕ, ◌+◌, ◌-◌, ◌%◌, ◌<◌, ◌≤◌, ◌⊎◌, inl, inr, Bool, true, false, refl, sym, ◌∙◌, ap, arith, Option, Some}
-use Rattle.std.proofs.Common.{None, is_some}
+use Rattle.std.proofs.Common.{◌≡◌, ℕ, ◌+◌, ◌-◌, ◌%◌, ◌<◌, ◌≤◌, ◌⊎◌, inl, inr, Bool, true, false, refl, sym, ◌∙◌, ap}
+use Rattle.std.proofs.Common.{arith, Option, Some, None, is_some}
 use Rattle.std.proofs.lemmas.Bool.{cases_Bool, false≢true}
 use Rattle.std.proofs.lemmas.Option.{none-some, same_Some}
 use Rattle.std.proofs.Common.{List}
 use Rattle.kfifo_linear.proofs.Claims.{segment_of}
-use Rattle.kfifo_linear.proofs.Invariant.{AtHead, AtTail, Fits, FullOk, GoneOk, InsideOk, Inv, SettledOk, StoodOk, TookOk, gone_visit}
-use Rattle.kfifo_linear.proofs.Invariant.{is_gone}
+use Rattle.kfifo_linear.proofs.Invariant.{AtHead, AtTail, Fits, FullOk, GoneOk, InsideOk, Inv, SettledOk, StoodOk}
+use Rattle.kfifo_linear.proofs.Invariant.{TookOk, gone_visit, is_gone}
 use Rattle.kfifo_linear.proofs.Ring.{place_below}
-use Rattle.kfifo_linear.proofs.Whole.{invariant}
+use Rattle.kfifo_linear.proofs.Invariance.{invariant}
 use Rattle.kfifo_linear.specs.Ledger.{Gone, Inside, Ledger, Outside, Standing, Stood, Took, blank, item_of, ledger_of}
 use Rattle.kfifo_linear.specs.Roles.{FindsNone, Gets, Puts, Refused, Role, Spot, refused_at, spot, spot_if, spot_of}
 use Rattle.kfifo_machine.specs.Machine.{World, opening, place_of, run, word_at}
@@ -47,20 +47,23 @@ pub record Facts (shape : Shape) (l : Ledger) : Type 0 where
   pub left : (c v i p : ℕ) → Stands l c (Puts v i) p → v < l.head → (d : ℕ) × ((q : ℕ) × Stands l d (Gets c v) q)
   -- two items of one visit are in different slots
   pub apart : (c d v i p q : ℕ) → Stands l c (Puts v i) p → Stands l d (Puts v i) q → c ≡ d
-  -- an Empty has its place where head and tail are in one visit, and each item whose place is not later is of an earlier visit
+  -- an Empty has its place where head and tail are in one visit, and each item whose place is not later is of an
+  -- earlier visit
   pub none_tail : (c v p : ℕ) → Stands l c (FindsNone v) p → AtTail l v p × HeadAt l v p
   pub none_before : (c v p d u i q : ℕ) → Stands l c (FindsNone v) p → Stands l d (Puts u i) q → q ≤ p → u < v
   -- and that place is its last step
   pub none_last : (c v p e : ℕ) → Stands l c (FindsNone v) p → l.last c ≡ Some e → p ≡ e
   -- each place is between its call's first and last step
-  pub within : (c : ℕ) (s : Spot) → spot l c ≡ Some s → (l.first c ≤ s.point) × ((e : ℕ) → l.last c ≡ Some e → s.point ≤ e)
+  pub within : (c : ℕ) (s : Spot) → spot l c ≡ Some s → (l.first c ≤ s.point)
+      × ((e : ℕ) → l.last c ≡ Some e → s.point ≤ e)
       × (s.point < l.now)
   -- no two dequeues get one item
   pub once : (c d o v p u q : ℕ) → Stands l c (Gets o v) p → Stands l d (Gets o u) q → c ≡ d
   -- a finished call stands in the order, in the role that its answer says; an unfinished one there is an enqueue
   pub finished : (c : ℕ) (x : Answer) → l.answer c ≡ Some x → (s : Spot) × (spot l c ≡ Some s)
       × RoleAnswers (λ o. item_of (l.begin o)) x s.role
-  pub unfinished : (c : ℕ) (s : Spot) → l.answer c ≡ None → spot l c ≡ Some s → (v : ℕ) × ((i : ℕ) × (s.role ≡ Puts v i))
+  pub unfinished : (c : ℕ) (s : Spot) → l.answer c ≡ None → spot l c ≡ Some s
+      → (v : ℕ) × ((i : ℕ) × (s.role ≡ Puts v i))
 
 -- what a role says of the standing
 pub puts_standing : (l : Ledger) (c v i p : ℕ) → Stands l c (Puts v i) p → (l.standing c ≡ Gone i v p)
@@ -105,7 +108,10 @@ within_refused l c (Some x) s f h e =
 within_inside : (l : Ledger) (c i : ℕ) (settled : Bool) (s : Spot)
     → (settled ≡ true → Within l c (record { role = Puts (l.visit i) i; point = l.point i }))
     → spot_if settled (record { role = Puts (l.visit i) i; point = l.point i }) ≡ Some s → Within l c s
-within_inside l c i true s h e = rw (← (same_Some (record { role = Puts (l.visit i) i; point = l.point i }) s e)) (h refl)
+within_inside l c i true s h e = rw (← (same_Some (record {
+  role = Puts (l.visit i) i;
+  point = l.point i;
+}) s e)) (h refl)
 within_inside l c i false s h e = absurd (none-some s e)
 
 some_of : (o : Option ℕ) → (o ≡ None → ⊥) → (e : ℕ) × (o ≡ Some e)
@@ -120,11 +126,13 @@ refused_ended : (l : Ledger) (c : ℕ) (last : Option ℕ) (s : Spot) → refuse
 refused_ended l c None s e = absurd (none-some s e)
 refused_ended l c (Some x) s e = (x, refl)
 
-inside_role : (v i p : ℕ) (settled : Bool) (s : Spot) → spot_if settled (record { role = Puts v i; point = p }) ≡ Some s → s.role ≡ Puts v i
+inside_role : (v i p : ℕ) (settled : Bool) (s : Spot) → spot_if settled (record { role = Puts v i; point = p }) ≡ Some s
+    → s.role ≡ Puts v i
 inside_role v i p true s e = ap (λ x. x.role) (sym (same_Some (record { role = Puts v i; point = p }) s e))
 inside_role v i p false s e = absurd (none-some s e)
 
-inside_stands : (l : Ledger) (c i : ℕ) → l.standing c ≡ Inside i → l.settled i ≡ true → Stands l c (Puts (l.visit i) i) (l.point i)
+inside_stands : (l : Ledger) (c i : ℕ) → l.standing c ≡ Inside i → l.settled i ≡ true
+    → Stands l c (Puts (l.visit i) i) (l.point i)
 unfolding spot
 inside_stands l c i e s = rw (e, s) refl
 
@@ -167,15 +175,20 @@ module _ (shape : Shape) (w : ℕ → ℕ) (p : ℕ → Option Running) (l : Led
       rw (← (same_Some (record { role = Gets o v; point = q }) s e)) (g.started, g.ended, g.at_head.past)
   within_of c (Stood v q) s k e =
       let g : StoodOk shape l c v q = inv.calls.stood c v q k in
-      rw (← (same_Some (record { role = FindsNone v; point = q }) s e)) (g.started, (λ y z. omega (arith, g.ended y z)), g.at_tail.past)
+      rw (← (same_Some (record {
+        role = FindsNone v;
+        point = q;
+      }) s e)) (g.started, (λ y z. omega (arith, g.ended y z)), g.at_tail.past)
 
-  refused : (c : ℕ) (x : Answer) → RoleAnswers (λ o. item_of (l.begin o)) x Refused → l.standing c ≡ Outside → l.answer c ≡ Some x
+  refused : (c : ℕ) (x : Answer) → RoleAnswers (λ o. item_of (l.begin o)) x Refused → l.standing c ≡ Outside
+      → l.answer c ≡ Some x
       → (s : Spot) × (spot l c ≡ Some s) × RoleAnswers (λ o. item_of (l.begin o)) x s.role
   refused c x h k e =
       let g = some_of (l.last c) (λ z. none-some x (sym (inv.calls.unended c z) ∙ e)) in
       (record { role = Refused; point = g.0 }, refused_stands l c g.0 k g.1, h)
 
-  finished_of : (c : ℕ) (x : Answer) (st : Standing) → l.standing c ≡ st → l.answer c ≡ Some x → Fits l.begin x st → (s : Spot)
+  finished_of : (c : ℕ) (x : Answer) (st : Standing) → l.standing c ≡ st → l.answer c ≡ Some x → Fits l.begin x st
+      → (s : Spot)
       × (spot l c ≡ Some s) × RoleAnswers (λ o. item_of (l.begin o)) x s.role
   finished_of c Done (Inside i) k e h =
       let g : InsideOk shape w l c i = slot_of c i k in
@@ -192,13 +205,23 @@ module _ (shape : Shape) (w : ℕ → ℕ) (p : ℕ → Option Running) (l : Led
   finished_of c Empty (Stood v q) k e h = (record { role = FindsNone v; point = q }, stood_stands l c v q k, tt)
   finished_of c x st k e h = absurd h
 
-  unfinished_of : (c : ℕ) (x : Standing) (s : Spot) → l.standing c ≡ x → l.answer c ≡ None → spot_of l c x ≡ Some s → (v : ℕ)
+  unfinished_of : (c : ℕ) (x : Standing) (s : Spot) → l.standing c ≡ x → l.answer c ≡ None → spot_of l c x ≡ Some s
+      → (v : ℕ)
       × ((i : ℕ) × (s.role ≡ Puts v i))
   unfinished_of c Outside s k n e =
       let g = refused_ended l c (l.last c) s e in
       absurd (false≢true (ap is_some (sym n) ∙ inv.calls.ended c g.0 g.1))
   unfinished_of c (Inside i) s k n e = (l.visit i, (i, inside_role (l.visit i) i (l.point i) (l.settled i) s e))
-  unfinished_of c (Gone i v q) s k n e = (v, (i, ap (λ x. x.role) (sym (same_Some (record { role = Puts v i; point = q }) s e))))
+  unfinished_of c (Gone i v q) s k n e = (
+    v,
+    (
+      i,
+      ap (λ x. x.role) (sym (same_Some (record {
+        role = Puts v i;
+        point = q;
+      }) s e)),
+    ),
+  )
   unfinished_of c (Took o v q) s k n e = absurd (false≢true (ap is_some (sym n) ∙ (inv.calls.took c o v q k).finished))
   unfinished_of c (Stood v q) s k n e = absurd (false≢true (ap is_some (sym n) ∙ (inv.calls.stood c v q k).finished))
 
@@ -244,7 +267,8 @@ module _ (shape : Shape) (w : ℕ → ℕ) (p : ℕ → Option Running) (l : Led
             ];
         none_last = λ c v q x e f. (inv.calls.stood c v q (none_standing l c v q e)).ended x f;
         within = λ c s e. within_of c (l.standing c) s refl e;
-        once = λ c d o v q u x e f. inv.calls.once c d o v q u x (gets_standing l c o v q e) (gets_standing l d o u x f);
+        once = λ c d o v q u x e f. inv.calls.once c d o v q u x (gets_standing l c o v q e)
+            (gets_standing l d o u x f);
         finished = λ c x e. finished_of c x (l.standing c) refl e (inv.calls.answered c x e);
         unfinished = λ c s e f. unfinished_of c (l.standing c) s refl e f;
       }

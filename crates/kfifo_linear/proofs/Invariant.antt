@@ -45,12 +45,14 @@ HasOwn shape w l t (R.Enqueue item start left (E.HoldHead ends index filled held
 HasOwn shape w l t (R.Enqueue item start left (E.Undo index filled worn)) = Own shape w l t index filled
 HasOwn shape w l t other = Unit {0}
 
--- an empty slot that an enqueue means to fill, and once the ends are looked at again that no visit from its own on was taken from it
+-- an empty slot that an enqueue means to fill, and once the ends are looked at again that no visit from its own on was
+-- taken from it
 pub record ToFill (shape : Shape) (w : ℕ → ℕ) (l : Ledger) (t index empty : ℕ) : Type 0 where
   pub place : segment_of shape index ≡ l.tail_seen t % shape.n
   pub below : empty ≤ w index
 
--- a filled slot that a dequeue means to take, and once the ends are looked at again that its item was not put for a later visit
+-- a filled slot that a dequeue means to take, and once the ends are looked at again that its item was not put for a
+-- later visit
 pub record ToTake (shape : Shape) (w : ℕ → ℕ) (l : Ledger) (t index filled : ℕ) : Type 0 where
   pub place : segment_of shape index ≡ l.head_seen t % shape.n
   pub below : filled ≤ w index
@@ -66,9 +68,11 @@ HasTarget shape w l t (R.Dequeue start left (D.Take ends index filled)) = ToTake
     × (w index ≡ filled → l.tail_at_load index ≤ l.head_seen t) × (l.head_seen t < l.tail)
 HasTarget shape w l t other = Unit {0}
 
--- the slots of the head's segment that a scan from start saw in its first offset looks have no settled item, as long as the ends stand
+-- the slots of the head's segment that a scan from start saw in its first offset looks have no settled item, as long as
+-- the ends stand
 abbrev pub Clear : Shape → (ℕ → ℕ) → Ledger → ℕ → ℕ → ℕ → Type 0
-Clear shape w l ends start offset = w 0 ≡ ends → (o : ℕ) → o < offset → l.settled (scan_index shape (head_of ends) start o) ≡ false
+Clear shape w l ends start offset = w 0 ≡ ends → (o : ℕ) → o < offset
+    → l.settled (scan_index shape (head_of ends) start o) ≡ false
 
 abbrev pub HasClear : Shape → (ℕ → ℕ) → Ledger → Running → Type 0
 HasClear shape w l (R.Enqueue item start left (E.ScanHead ends offset)) = Clear shape w l ends 0 offset
@@ -171,7 +175,8 @@ pub record TookOk (l : Ledger) (c o v p : ℕ) : Type 0 where
   pub same_visit : gone_visit (l.standing o) ≡ v
   pub finished : is_some (l.answer c) ≡ true
 
--- a call that found the queue empty in visit v, and its place: what does not have its place later was taken in an earlier visit
+-- a call that found the queue empty in visit v, and its place: what does not have its place later was taken in an
+-- earlier visit
 pub record StoodOk (shape : Shape) (l : Ledger) (c v p : ℕ) : Type 0 where
   pub at_tail : AtTail l v p
   pub head_reached : v ≤ l.head

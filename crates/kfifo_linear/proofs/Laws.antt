@@ -15,7 +15,8 @@ module _ (k : ℕ) (h : List Call) (m : Marks) (f : PointsFit k (does h) m) (s :
   in_time : (c : ℕ) (end : End) → (call h c).end ≡ Some end → m.point c ≤ end.last
   in_time c end is = subst (IsNoLater (m.point c)) is (s.point_to c (ended_stands c end is))
 
-  pub laws_from : ((e : ℕ) (end : End) → does h e ≡ FindsNone → (call h e).end ≡ Some end → m.point e ≡ end.last) → OrderLaws h m
+  pub laws_from : ((e : ℕ) (end : End) → does h e ≡ FindsNone → (call h e).end ≡ Some end → m.point e ≡ end.last)
+      → OrderLaws h m
   laws_from at_end =
       record {
         one_each = f.slots_differ;
@@ -43,6 +44,7 @@ module _ (k : ℕ) (h : List Call) (m : Marks) (f : PointsFit k (does h) m) (s :
             let p : m.point e ≡ end.last = at_end e end is at in
             elim (cases_lt end.last (m.point c)) [
               | inl lt ↦ lt
-              | inr le ↦ absurd (f.empty_visit e c (ended_stands e end at) is a (omega arith) (same ∙ ap m.head (sym p)))
+              | inr le ↦ absurd (f.empty_visit e c (ended_stands e end at) is a (omega arith)
+                  (same ∙ ap m.head (sym p)))
             ];
       }

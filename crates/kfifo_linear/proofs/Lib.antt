@@ -9,8 +9,9 @@ pub mod Claims
 pub mod Invariant
 pub mod Threads
 pub mod Slots
+pub mod Standings
 pub mod Calls
-pub mod Whole
+pub mod Invariance
 pub mod Facts
 pub mod Late
 pub mod Agrees

@@ -1,5 +1,6 @@
 -- The facts about points hold of what the ledger marks.
-use Rattle.std.proofs.Common.{◌≡◌, ℕ, ◌-◌, ◌*◌, ◌/◌, ◌%◌, ◌<◌, ◌≤◌, true, Option, Some, None, is_some, refl, sym, ap, ◌∙◌, subst, arith}
+use Rattle.std.proofs.Common.{◌≡◌, ℕ, ◌-◌, ◌*◌, ◌/◌, ◌%◌, ◌<◌, ◌≤◌, true, Option, Some, None, is_some, refl, sym, ap}
+use Rattle.std.proofs.Common.{◌∙◌, subst, arith}
 use Rattle.std.proofs.Math.Nat.{mod-lt}
 use Rattle.std.proofs.lemmas.Nat.{div-add-mod'}
 use Rattle.std.proofs.lemmas.Bool.{false≢true}
@@ -12,7 +13,8 @@ use Rattle.kfifo_machine.specs.Calls.{Log}
 use Rattle.kfifo_linear.specs.Ledger.{Ledger, item_of}
 use Rattle.kfifo_linear.specs.Roles.{Role, Puts, Gets, FindsNone, Refused, Spot, spot}
 use Rattle.kfifo_linear.specs.Points.{IsTakeOf, PointsFit, StandsFit, IsNoLater}
-use Rattle.kfifo_linear.specs.Order.{stands, point, point_of, role_of, visit_of, slot_of, source_of, number_at, marks_of}
+use Rattle.kfifo_linear.specs.Order.{stands, point, point_of, role_of, visit_of, slot_of, source_of, number_at}
+use Rattle.kfifo_linear.specs.Order.{marks_of}
 use Rattle.kfifo_linear.proofs.Claims.{segment_of}
 use Rattle.kfifo_linear.proofs.Invariant.{Inv, AtTail}
 use Rattle.kfifo_linear.proofs.Facts.{Facts, Stands, HeadAt}
@@ -21,7 +23,8 @@ use Rattle.kfifo_linear.proofs.Numbers.{number_is, number_rises, number_past, nu
 use Rattle.kfifo_linear.proofs.Acts.{Acts, acts, known, finished_stands, may_stand}
 
 -- what an effect says of the role
-adds_put : (items : ℕ → ℕ) (own : ℕ) (role : Role) (x : ℕ) → Acts items own role (M.Adds x) → (v : ℕ) × ((i : ℕ) × (role ≡ Puts v i))
+adds_put : (items : ℕ → ℕ) (own : ℕ) (role : Role) (x : ℕ) → Acts items own role (M.Adds x)
+    → (v : ℕ) × ((i : ℕ) × (role ≡ Puts v i))
 adds_put items own (Puts v i) x a = (v, (i, refl))
 adds_put items own (Gets o v) x a = absurd (cc)
 adds_put items own (FindsNone v) x a = absurd (cc)
@@ -76,7 +79,8 @@ pub record Found_none (l : Ledger) (e : ℕ) : Type 0 where
   pub stands : Stands l e (FindsNone visit) point
 
 -- two slots of one segment that have one place in it
-one_slot : (shape : Shape) (i j : ℕ) → 0 < i → 0 < j → segment_of shape i ≡ segment_of shape j → (i - 1) % shape.k ≡ (j - 1) % shape.k
+one_slot : (shape : Shape) (i j : ℕ) → 0 < i → 0 < j → segment_of shape i ≡ segment_of shape j
+    → (i - 1) % shape.k ≡ (j - 1) % shape.k
     → i ≡ j
 unfolding segment_of
 one_slot shape i j a b segment slot =
@@ -86,8 +90,8 @@ one_slot shape i j a b segment slot =
     let z : (i - 1) / shape.k * shape.k ≡ (j - 1) / shape.k * shape.k = ap (λ q. q * shape.k) segment in
     omega arith
 
-module _ (shape : Shape) (w : ℕ → ℕ) (p : ℕ → Option Running) (log : Log) (l : Ledger) (place : ℕ) (inv : Inv shape w p l)
-    (facts : Facts shape l) (h : Agrees log l place) (good : IsHistory log.calls) where
+module _ (shape : Shape) (w : ℕ → ℕ) (p : ℕ → Option Running) (log : Log) (l : Ledger) (place : ℕ)
+    (inv : Inv shape w p l) (facts : Facts shape l) (h : Agrees log l place) (good : IsHistory log.calls) where
   acts_of : (c : ℕ) (s : Spot) → spot l c ≡ Some s → (e : Effect) → does log.calls c ≡ e
       → Acts (λ o. item_of (l.begin o)) (item_of (l.begin c)) s.role e
   acts_of c s at e is = subst (Acts (λ o. item_of (l.begin o)) (item_of (l.begin c)) s.role) is
@@ -97,12 +101,21 @@ module _ (shape : Shape) (w : ℕ → ℕ) (p : ℕ → Option Running) (log : L
   put_of c x st is =
       let s = spot_is (spot l c) st in
       let r = adds_put (λ o. item_of (l.begin o)) (item_of (l.begin c)) s.0.role x (acts_of c s.0 s.1 (M.Adds x) is) in
-      record { visit = r.0; index = r.1.0; point = s.0.point; stands = s.1 ∙ ap (λ q. Some (record { role = q; point = s.0.point })) r.1.1 }
+      record {
+        visit = r.0;
+        index = r.1.0;
+        point = s.0.point;
+        stands = s.1 ∙ ap (λ q. Some (record {
+          role = q;
+          point = s.0.point;
+        })) r.1.1;
+      }
 
   get_of : (g x : ℕ) → stands l g ≡ true → does log.calls g ≡ M.Takes x → Get l g x
   get_of g x st is =
       let s = spot_is (spot l g) st in
-      let r = takes_get (λ o. item_of (l.begin o)) (item_of (l.begin g)) s.0.role x (acts_of g s.0 s.1 (M.Takes x) is) in
+      let r = takes_get (λ o. item_of (l.begin o)) (item_of (l.begin g)) s.0.role x
+      (acts_of g s.0 s.1 (M.Takes x) is) in
       record {
         source = r.0;
         visit = r.1.0;
@@ -115,7 +128,14 @@ module _ (shape : Shape) (w : ℕ → ℕ) (p : ℕ → Option Running) (log : L
   none_of e st is =
       let s = spot_is (spot l e) st in
       let r = none_stood (λ o. item_of (l.begin o)) (item_of (l.begin e)) s.0.role (acts_of e s.0 s.1 M.FindsNone is) in
-      record { visit = r.0; point = s.0.point; stands = s.1 ∙ ap (λ q. Some (record { role = q; point = s.0.point })) r.1 }
+      record {
+        visit = r.0;
+        point = s.0.point;
+        stands = s.1 ∙ ap (λ q. Some (record {
+          role = q;
+          point = s.0.point;
+        })) r.1;
+      }
 
   -- what is marked on a call that stands so
   at_point : (c q : ℕ) (r : Role) → Stands l c r q → point l c ≡ q
@@ -134,7 +154,8 @@ module _ (shape : Shape) (w : ℕ → ℕ) (p : ℕ → Option Running) (log : L
   head_is v q at = number_is l.heads l.head v q inv.times.heads_rise at.reached at.after at.before
 
   -- a call that took the item of another
-  taken_by : (c g v q x : ℕ) → Stands l g (Gets c v) q → does log.calls g ≡ M.Takes x → IsTakeOf (does log.calls) (marks_of shape l) c g
+  taken_by : (c g v q x : ℕ) → Stands l g (Gets c v) q → does log.calls g ≡ M.Takes x
+      → IsTakeOf (does log.calls) (marks_of shape l) c g
   taken_by c g v q x st is = (at_stands g q (Gets c v) st, x, is, ap source_of (at_role g q (Gets c v) st))
 
   takes_at : (c g v q : ℕ) → Stands l g (Gets c v) q → does log.calls g ≡ M.Takes (item_of (l.begin c))
@@ -158,15 +179,18 @@ module _ (shape : Shape) (w : ℕ → ℕ) (p : ℕ → Option Running) (log : L
       let put = facts.gets_item g got.source got.visit got.point got.stands in
       ap (marks_of shape l).visit (source_is g x got) ∙ visit_is got.source got.visit put.0 put.1.0 put.1.1
 
-  differ : (c d : ℕ) (x : Put l c) (y : Put l d) → x.visit ≡ y.visit → (x.index - 1) % shape.k ≡ (y.index - 1) % shape.k → c ≡ d
+  differ : (c d : ℕ) (x : Put l c) (y : Put l d) → x.visit ≡ y.visit → (x.index - 1) % shape.k ≡ (y.index - 1) % shape.k
+      → c ≡ d
   differ c d x y visit slot =
       let a = facts.puts_slot c x.visit x.index x.point x.stands in
       let b = facts.puts_slot d y.visit y.index y.point y.stands in
-      let i : x.index ≡ y.index = one_slot shape x.index y.index a.0.above b.0.above (sym a.1 ∙ ap (λ v. v % shape.n) visit ∙ b.1) slot in
+      let i : x.index ≡ y.index =
+      one_slot shape x.index y.index a.0.above b.0.above (sym a.1 ∙ ap (λ v. v % shape.n) visit ∙ b.1) slot in
       let st : Stands l d (Puts x.visit x.index) y.point = rw (visit, i) y.stands in
       facts.apart c d x.visit x.index x.point y.point x.stands st
 
-  once : (c g k x y : ℕ) (one : Get l g x) (two : Get l k y) → (marks_of shape l).source g ≡ c → (marks_of shape l).source k ≡ c → g ≡ k
+  once : (c g k x y : ℕ) (one : Get l g x) (two : Get l k y) → (marks_of shape l).source g ≡ c
+      → (marks_of shape l).source k ≡ c → g ≡ k
   once c g k x y one two a b =
       let same : two.source ≡ one.source = sym (source_is k y two) ∙ b ∙ sym a ∙ source_is g x one in
       let st : Stands l k (Gets one.source two.visit) two.point =
@@ -200,7 +224,8 @@ module _ (shape : Shape) (w : ℕ → ℕ) (p : ℕ → Option Running) (log : L
         source_adds = λ g x st is.
             let got = get_of g x st is in
             let put = facts.gets_item g got.source got.visit got.point got.stands in
-            ap (does log.calls) (source_is g x got) ∙ adds_at got.source got.visit put.0 put.1.0 put.1.1 ∙ ap M.Adds (sym got.item);
+            ap (does log.calls) (source_is g x got) ∙ adds_at got.source got.visit put.0 put.1.0 put.1.1
+            ∙ ap M.Adds (sym got.item);
         taken = λ g x st is.
             let got = get_of g x st is in
             let at = facts.gets_head g got.source got.visit got.point got.stands in
@@ -226,7 +251,8 @@ module _ (shape : Shape) (w : ℕ → ℕ) (p : ℕ → Option Running) (log : L
             let none = none_of e st is in
             let at = facts.none_tail e none.visit none.point none.stands in
             let q = at_point e none.point (FindsNone none.visit) none.stands in
-            ap (number_at l.heads l.head) q ∙ head_is none.visit none.point at.1 ∙ sym (tail_is none.visit none.point at.0)
+            ap (number_at l.heads l.head) q ∙ head_is none.visit none.point at.1
+            ∙ sym (tail_is none.visit none.point at.0)
             ∙ sym (ap (number_at l.tails l.tail) q);
         empty_visit = λ e c st is a le same.
             let none = none_of e st is in
@@ -234,7 +260,8 @@ module _ (shape : Shape) (w : ℕ → ℕ) (p : ℕ → Option Running) (log : L
             let at = facts.none_tail e none.visit none.point none.stands in
             let q = at_point e none.point (FindsNone none.visit) none.stands in
             let r = at_point c put.point (Puts put.visit put.index) put.stands in
-            let lt : put.visit < none.visit = facts.none_before e none.visit none.point c put.visit put.index put.point none.stands
+            let lt : put.visit < none.visit = facts.none_before e none.visit none.point c put.visit put.index put.point
+            none.stands
             put.stands (omega arith) in
             let head : number_at l.heads l.head (point l e) ≡ none.visit =
             ap (number_at l.heads l.head) q ∙ head_is none.visit none.point at.1 in
@@ -250,7 +277,8 @@ module _ (shape : Shape) (w : ℕ → ℕ) (p : ℕ → Option Running) (log : L
   pub stands_fit : StandsFit log.calls (marks_of shape l)
   stands_fit =
       record {
-        finished_stand = λ c has. let s = finished_stands shape w p log l place inv facts h good c has in ap is_some s.1;
+        finished_stand = λ c has. let s = finished_stands shape w p log l place inv facts h good c has in
+            ap is_some s.1;
         can_stand = λ c st. let s = spot_is (spot l c) st in may_stand shape w p log l place inv facts h good c s.0 s.1;
         point_from = λ c st.
             let s = spot_is (spot l c) st in
@@ -262,11 +290,14 @@ module _ (shape : Shape) (w : ℕ → ℕ) (p : ℕ → Option Running) (log : L
             let less = known shape w p log l place inv facts h good c s.0 s.1 in
             let q : point l c ≡ s.0.point = ap point_of s.1 in
             no_later (point l c) c (call log.calls c).end
-            (λ e is. rw q ((facts.within c s.0 s.1).1 e.last (end_last (l.last c) (l.answer c) e (sym (h.each c less).end ∙ is))));
+            (λ e is. rw q
+            ((facts.within c s.0 s.1).1 e.last
+            (end_last (l.last c) (l.answer c) e (sym (h.each c less).end ∙ is))));
       }
 
 -- a call that found none has its point at its last step
-pub none_at_end : (shape : Shape) (w : ℕ → ℕ) (p : ℕ → Option Running) (log : Log) (l : Ledger) (place : ℕ) → Inv shape w p l
+pub none_at_end : (shape : Shape) (w : ℕ → ℕ) (p : ℕ → Option Running) (log : Log) (l : Ledger) (place : ℕ)
+    → Inv shape w p l
     → Facts shape l → Agrees log l place → IsHistory log.calls
     → (c : ℕ) (end : End) → does log.calls c ≡ M.FindsNone → (call log.calls c).end ≡ Some end → point l c ≡ end.last
 none_at_end shape w p log l place inv facts h good c end is at =

@@ -45,7 +45,8 @@ number_is steps (suc n) v p rise most after before =
             | inl all ↦
                 let same : steps (v - 1) ≡ steps n = ap steps (omega arith) in
                 absurd (omega (arith, after (omega arith)))
-            | inr ne ↦ rw e (number_is steps n v p (fewer steps n rise) (omega arith) after (λ below. before (omega arith)))
+            | inr ne ↦ rw e (number_is steps n v p (fewer steps n rise) (omega arith) after
+                (λ below. before (omega arith)))
           ]
     ]
 
@@ -55,7 +56,8 @@ number_rises steps zero p q le = omega arith
 number_rises steps (suc n) p q le =
     elim (cases_Bool (ltb (steps n) p)) [
       | inl e ↦
-          let more : ltb (steps n) q ≡ true = lt-ltb (steps n) q (let lt : steps n < p = ltb-true (steps n) p e in omega arith) in
+          let more : ltb (steps n) q ≡ true =
+          lt-ltb (steps n) q (let lt : steps n < p = ltb-true (steps n) p e in omega arith) in
           rw (e, more) (omega arith)
       | inr e ↦
           let low = number_most steps n p in

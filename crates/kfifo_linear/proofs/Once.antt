@@ -18,7 +18,8 @@ in_rest c x xs (inl e) ne = absurd (ne e)
 in_rest c x xs (inr i) ne = i
 
 -- the first of both
-same_first : (point : ℕ → ℕ) (x y : ℕ) (xs ys : List ℕ) → EachPair (IsEarlier point) (x ∷ xs) → EachPair (IsEarlier point) (y ∷ ys)
+same_first : (point : ℕ → ℕ) (x y : ℕ) (xs ys : List ℕ) → EachPair (IsEarlier point) (x ∷ xs)
+    → EachPair (IsEarlier point) (y ∷ ys)
     → IsIn x (y ∷ ys) → IsIn y (x ∷ xs) → x ≡ y
 same_first point x y xs ys p q i j =
     elim (cases_eq x y) [
@@ -50,4 +51,5 @@ one_list point (x ∷ xs) (y ∷ ys) p q f g =
     ap (λ z. z ∷ xs) first ∙ ap (λ zs. y ∷ zs) rest
 
 pub one_by_point : (m : Marks) (xs ys : List ℕ) → IsByPoint m xs → IsByPoint m ys → xs ≡ ys
-one_by_point m xs ys p q = one_list m.point xs ys p.sorted q.sorted (λ c i. q.every c (p.only c i)) (λ c i. p.every c (q.only c i))
+one_by_point m xs ys p q = one_list m.point xs ys p.sorted q.sorted (λ c i. q.every c (p.only c i))
+    (λ c i. p.every c (q.only c i))

@@ -8,7 +8,10 @@ use Rattle.kfifo_machine.proofs.Ring.{ring_add, ring_window, same_place}
 
 -- a number of a's place that is less than a round above it is not above it
 pub place_below : (n a v : ℕ) → v < a + n → v % n ≡ a % n → v ≤ a
-place_below n a v h e = elim (cases_lt a v) [ inl lt ↦ let s : v ≡ a = same_place n a v (omega arith) h e in omega arith | inr ge ↦ ge ]
+place_below n a v h e = elim (cases_lt a v) [
+  | inl lt ↦ let s : v ≡ a = same_place n a v (omega arith) h e in omega arith
+  | inr ge ↦ ge
+]
 
 -- the distance from the window's begin
 pub distance-mod : (n a v : ℕ) → a ≤ v → v < a + n → distance n (a % n) (v % n) ≡ v - a
@@ -62,6 +65,7 @@ pub tail-ends_word : (head tail version : ℕ) → head < 4096 → tail < 4096 �
 unfolding tail_of ends_word
 tail-ends_word head tail version h t = omega arith
 
-pub ends_word-above : (word head tail : ℕ) → head < 4096 → tail < 4096 → word < ends_word head tail (version_of word + 1)
+pub ends_word-above : (word head tail : ℕ) → head < 4096 → tail < 4096
+    → word < ends_word head tail (version_of word + 1)
 unfolding version_of ends_word
 ends_word-above word head tail h t = omega arith

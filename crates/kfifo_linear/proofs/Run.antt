@@ -1,6 +1,6 @@
 -- The calls by rising point are a run of the k-relaxed queue.
-use Rattle.std.proofs.Common.{ℕ, ◌≡◌, ◌≢◌, ◌<◌, ◌≤◌, ◌⊎◌, true, List, [], ◌∷◌, ◌++◌, length, map, refl, sym, ◌∙◌, ap, subst, inl, inr}
-use Rattle.std.proofs.Common.{arith, length-append, append_assoc, Some, slice_get}
+use Rattle.std.proofs.Common.{ℕ, ◌≡◌, ◌≢◌, ◌<◌, ◌≤◌, ◌⊎◌, true, List, [], ◌∷◌, ◌++◌, length, map, refl, sym, ◌∙◌, ap}
+use Rattle.std.proofs.Common.{subst, inl, inr, arith, length-append, append_assoc, Some, slice_get}
 use Rattle.std.specs.List.{remove}
 use Rattle.std.proofs.lemmas.Bool.{cases_lt}
 use Rattle.std.proofs.lemmas.List.{map_push, map-append, length-map, get_or_at}
@@ -10,8 +10,9 @@ use Rattle.kfifo_linear.proofs.Types.{Effect}
 use Rattle.kfifo_model.specs.declared.effects.Effect.TheVariants.{Adds, Takes, FindsNone, Refused, Wrong}
 use Rattle.kfifo_model.specs.Relaxed.{Leaves, IsRun}
 use Rattle.kfifo_linear.specs.Points.{Marks, IsAdd, IsTakeOf, PointsFit, IsEarlier, IsByPoint}
-use Rattle.kfifo_model.proofs.Lists.{in_append, in_left, in_right, IsParted, parted, each_at, pairs_front, pairs_back, pairs_across}
-use Rattle.kfifo_model.proofs.Lists.{pairs_push, in_less, in_more, pairs_less, pairs_weaker, pairs_map, in_map, at_most, Differ}
+use Rattle.kfifo_model.proofs.Lists.{in_append, in_left, in_right, IsParted, parted, each_at, pairs_front, pairs_back}
+use Rattle.kfifo_model.proofs.Lists.{pairs_across, pairs_push, in_less, in_more, pairs_less, pairs_weaker, pairs_map}
+use Rattle.kfifo_model.proofs.Lists.{in_map, at_most, Differ}
 
 -- the item that an enqueue adds
 abbrev pub item_of : Effect → ℕ
@@ -35,11 +36,13 @@ pub record IsNext (m : Marks) (done : List ℕ) (c : ℕ) : Type 0 where
   pub later : (d : ℕ) → IsIn d done → IsEarlier m.point d c
   pub earlier : (d : ℕ) → m.stands d ≡ true → m.point d < m.point c → IsIn d done
 
-not_earlier : (m : Marks) (done rest : List ℕ) (c d : ℕ) → IsByPoint m (done ++ c ∷ rest) → m.point d < m.point c → (d ≡ c) ⊎ IsIn d rest
+not_earlier : (m : Marks) (done rest : List ℕ) (c d : ℕ) → IsByPoint m (done ++ c ∷ rest) → m.point d < m.point c
+    → (d ≡ c) ⊎ IsIn d rest
     → ⊥
 not_earlier m done rest c d p lt (inl e) = let q = ap m.point e in omega arith
 not_earlier m done rest c d p lt (inr i) =
-    let le : m.point c ≤ m.point d = (each_at (IsEarlier m.point c) d rest (pairs_back (IsEarlier m.point) done (c ∷ rest) p.sorted).0
+    let le : m.point c ≤ m.point d =
+    (each_at (IsEarlier m.point c) d rest (pairs_back (IsEarlier m.point) done (c ∷ rest) p.sorted).0
     i).0 in
     omega arith
 
@@ -47,7 +50,10 @@ is_next : (m : Marks) (done rest : List ℕ) (c : ℕ) → IsByPoint m (done ++ 
 is_next m done rest c p = record {
   stands = p.only c (in_right c done (c ∷ rest) (inl refl));
   later = λ d i. pairs_across (IsEarlier m.point) done (c ∷ rest) p.sorted d c i (inl refl);
-  earlier = λ d s lt. elim (in_append d done (c ∷ rest) (p.every d s)) [ inl i ↦ i | inr j ↦ absurd (not_earlier m done rest c d p lt j) ];
+  earlier = λ d s lt. elim (in_append d done (c ∷ rest) (p.every d s)) [
+    | inl i ↦ i
+    | inr j ↦ absurd (not_earlier m done rest c d p lt j)
+  ];
 }
 
 -- a call is not earlier than itself
@@ -58,7 +64,8 @@ pub not_before : (p q : ℕ) → (q ≤ p → ⊥) → p < q
 not_before p q h = elim (cases_lt p q) [ inl lt ↦ lt | inr le ↦ absurd (h le) ]
 
 -- a Got comes after the enqueue of its item
-source_first : (k : ℕ) (act : ℕ → Effect) (m : Marks) → PointsFit k act m → (c g : ℕ) → IsAdd act m c → IsTakeOf act m c g
+source_first : (k : ℕ) (act : ℕ → Effect) (m : Marks) → PointsFit k act m → (c g : ℕ) → IsAdd act m c
+    → IsTakeOf act m c g
     → m.point c < m.point g
 source_first k act m f c g a t =
     let at : m.tail (m.point c) ≡ m.visit c = f.added c a.1 a.0 a.2 in
@@ -67,7 +74,8 @@ source_first k act m f c g a t =
     not_before (m.point c) (m.point g) (λ h. let up = f.tail_rises (m.point g) (m.point c) h in omega arith)
 
 -- an item whose visit the head has left by now is out
-pub out_already : (k : ℕ) (act : ℕ → Effect) (m : Marks) (done queue : List ℕ) (c a : ℕ) → PointsFit k act m → IsNext m done c
+pub out_already : (k : ℕ) (act : ℕ → Effect) (m : Marks) (done queue : List ℕ) (c a : ℕ) → PointsFit k act m
+    → IsNext m done c
     → Holds act m done queue → IsIn a queue → m.visit a < m.head (m.point c) → ⊥
 out_already k act m done queue c a f n h i lt =
     let add : IsAdd act m a = h.is_add a i in
@@ -91,8 +99,10 @@ pub le_from_not : (a b : ℕ) → (a < b → ⊥) → b ≤ a
 le_from_not a b h = elim (cases_lt a b) [ inl lt ↦ absurd (h lt) | inr le ↦ le ]
 
 -- what stands in the queue before the item of a Got is of its visit
-same_visit : (k : ℕ) (act : ℕ → Effect) (m : Marks) (done queue : List ℕ) (g a e : ℕ) → PointsFit k act m → IsNext m done g
-    → Holds act m done queue → IsIn a queue → IsAdd act m e → m.point a ≤ m.point e → m.head (m.point g) ≡ m.visit e → m.visit a ≡ m.visit e
+same_visit : (k : ℕ) (act : ℕ → Effect) (m : Marks) (done queue : List ℕ) (g a e : ℕ) → PointsFit k act m
+    → IsNext m done g
+    → Holds act m done queue → IsIn a queue → IsAdd act m e → m.point a ≤ m.point e → m.head (m.point g) ≡ m.visit e
+    → m.visit a ≡ m.visit e
 same_visit k act m done queue g a e f n h i j le at =
     let up = visits_rise k act m a e f (h.is_add a i) j le in
     let down = le_from_not (m.visit a) (m.head (m.point g)) (out_already k act m done queue g a f n h i) in
@@ -104,7 +114,8 @@ found k act m done queue g c f n h a t =
     h.kept c (n.earlier c a.0 (source_first k act m f c g a t)) a
     (λ g2 i t2. not_self m.point g2 g (n.later g2 i) (f.taken_once c g2 g t2 t))
 
-slot_in : (k : ℕ) (act : ℕ → Effect) (m : Marks) (l : List ℕ) → PointsFit k act m → ((a : ℕ) → IsIn a l → IsAdd act m a) → (s : ℕ) → (x : ℕ)
+slot_in : (k : ℕ) (act : ℕ → Effect) (m : Marks) (l : List ℕ) → PointsFit k act m → ((a : ℕ) → IsIn a l → IsAdd act m a)
+    → (s : ℕ) → (x : ℕ)
     × IsIn x l × (s ≡ m.slot x) → s < k
 slot_in k act m l f add s p =
     let a = add p.0 p.1 in
@@ -119,7 +130,8 @@ one_visit k act m l v f d add same =
     let S : ℕ → ℕ → Type 0 = λ x y. m.slot x ≢ m.slot y in
     let pairs = pairs_map Differ m.slot l (pairs_weaker Differ S l
     (λ x y i j ne e. ne (f.slots_differ x y (add x i) (add y j) (same x i ∙ sym (same y j)) e)) d) in
-    let short : length (map m.slot l) ≤ k = at_most k (map m.slot l) pairs (λ s i. slot_in k act m l f add s (in_map m.slot s l i)) in
+    let short : length (map m.slot l) ≤ k =
+    at_most k (map m.slot l) pairs (λ s i. slot_in k act m l f add s (in_map m.slot s l i)) in
     let n = length-map l m.slot in
     omega arith
 
@@ -153,7 +165,13 @@ adds_not_takes act m c d a t = let p = a.2 in let q = t.2 in cc
 
 -- a member of a list with c at its end
 push_cases : (x c : ℕ) (l : List ℕ) → IsIn x (l ++ c ∷ []) → IsIn x l ⊎ (x ≡ c)
-push_cases x c l h = elim (in_append x l (c ∷ []) h) [ inl i ↦ inl i | inr j ↦ elim j [ inl e ↦ inr e | inr n ↦ absurd n ] ]
+push_cases x c l h = elim (in_append x l (c ∷ []) h) [
+  | inl i ↦ inl i
+  | inr j ↦ elim j [
+    | inl e ↦ inr e
+    | inr n ↦ absurd n
+  ]
+]
 
 take_along : (act : ℕ → Effect) (m : Marks) (d g c : ℕ) → g ≡ c → IsTakeOf act m d g → IsTakeOf act m d c
 take_along act m d g c e t = let P : ℕ → Type 0 = λ w. IsTakeOf act m d w in subst P e t
@@ -162,20 +180,25 @@ add_along : (act : ℕ → Effect) (m : Marks) (d c : ℕ) → d ≡ c → IsAdd
 add_along act m d c e t = let P : ℕ → Type 0 = λ w. IsAdd act m w in subst P e t
 
 -- a call that neither adds nor takes
-holds_same : (act : ℕ → Effect) (m : Marks) (done queue : List ℕ) (c : ℕ) → (IsAdd act m c → ⊥) → ((d : ℕ) → IsTakeOf act m d c → ⊥)
+holds_same : (act : ℕ → Effect) (m : Marks) (done queue : List ℕ) (c : ℕ) → (IsAdd act m c → ⊥)
+    → ((d : ℕ) → IsTakeOf act m d c → ⊥)
     → Holds act m done queue → Holds act m (done ++ c ∷ []) queue
 holds_same act m done queue c no_add no_take h = record {
   sorted = h.sorted;
   is_done = λ d i. in_left d done (c ∷ []) (h.is_done d i);
   is_add = h.is_add;
-  untaken = λ d g i j t. elim (push_cases g c done j) [ inl u ↦ h.untaken d g i u t | inr e ↦ no_take d (take_along act m d g c e t) ];
+  untaken = λ d g i j t. elim (push_cases g c done j) [
+    | inl u ↦ h.untaken d g i u t
+    | inr e ↦ no_take d (take_along act m d g c e t)
+  ];
   kept = λ d i a free. elim (push_cases d c done i) [
     | inl u ↦ h.kept d u a (λ g j t. free g (in_left g done (c ∷ []) j) t)
     | inr e ↦ absurd (no_add (add_along act m d c e a))
   ];
 }
 
-holds_added : (k : ℕ) (act : ℕ → Effect) (m : Marks) (done queue : List ℕ) (c : ℕ) → PointsFit k act m → IsNext m done c → IsAdd act m c
+holds_added : (k : ℕ) (act : ℕ → Effect) (m : Marks) (done queue : List ℕ) (c : ℕ) → PointsFit k act m → IsNext m done c
+    → IsAdd act m c
     → Holds act m done queue → Holds act m (done ++ c ∷ []) (queue ++ c ∷ [])
 holds_added k act m done queue c f n a h = record {
   sorted = pairs_push (IsEarlier m.point) queue c h.sorted (λ x i. n.later x (h.is_done x i));
@@ -198,7 +221,8 @@ holds_added k act m done queue c f n a h = record {
   ];
 }
 
-not_twice : (act : ℕ → Effect) (m : Marks) (a b : List ℕ) (e d : ℕ) → EachPair Differ (a ++ e ∷ b) → IsIn d (a ++ b) → e ≡ d → ⊥
+not_twice : (act : ℕ → Effect) (m : Marks) (a b : List ℕ) (e d : ℕ) → EachPair Differ (a ++ e ∷ b) → IsIn d (a ++ b)
+    → e ≡ d → ⊥
 not_twice act m a b e d p i q =
     elim (in_append d a b i) [
       | inl j ↦ pairs_across Differ a (e ∷ b) p d e j (inl refl) (sym q)
@@ -221,10 +245,12 @@ holds_taken k act m done a b e g f n t h = record {
   is_add = λ d i. h.is_add d (in_less d e a b i);
   untaken = λ d g2 i j t2. elim (push_cases g2 g done j) [
     | inl u ↦ h.untaken d g2 (in_less d e a b i) u t2
-    | inr q ↦ not_twice act m a b e d (earlier_differ m.point (a ++ e ∷ b) h.sorted) i (sym t.3 ∙ (take_along act m d g2 g q t2).3)
+    | inr q ↦ not_twice act m a b e d (earlier_differ m.point (a ++ e ∷ b) h.sorted) i
+        (sym t.3 ∙ (take_along act m d g2 g q t2).3)
   ];
   kept = λ d i add free. elim (push_cases d g done i) [
-    | inl u ↦ kept_others act m done a b e d g t free (h.kept d u add (λ g2 j t2. free g2 (in_left g2 done (g ∷ []) j) t2))
+    | inl u ↦ kept_others act m done a b e d g t free
+        (h.kept d u add (λ g2 j t2. free g2 (in_left g2 done (g ∷ []) j) t2))
     | inr q ↦ absurd (adds_not_takes act m g e (add_along act m d g q add) t)
   ];
 }
@@ -233,7 +259,8 @@ inside : (a b : List ℕ) (x : ℕ) → length a < length (a ++ x ∷ b)
 inside a b x = omega (arith, length-append a (x ∷ b))
 
 get_at : (a b : List ℕ) (x : ℕ) → slice_get (a ++ x ∷ b) (length a) ≡ Some x
-get_at a b x = slice_get-get_or (a ++ x ∷ b) (length a) 0 (inside a b x) ∙ ap (λ y. Some y) (get_or_at a x b 0 (length a) refl)
+get_at a b x = slice_get-get_or (a ++ x ∷ b) (length a) 0 (inside a b x)
+    ∙ ap (λ y. Some y) (get_or_at a x b 0 (length a) refl)
 
 remove_at : (a b : List ℕ) (x : ℕ) → remove (a ++ x ∷ b) (length a) ≡ a ++ b
 remove_at [] b x = refl
@@ -242,7 +269,8 @@ remove_at (y ∷ a) b x = ap (λ t. y ∷ t) (remove_at a b x)
 item_is : (act : ℕ → Effect) (c x : ℕ) → act c ≡ Adds x → item act c ≡ x
 item_is act c x e = ap item_of e
 
-leaves_at : (k : ℕ) (a b after : List ℕ) (y x : ℕ) → y ≡ x → length a < k → after ≡ a ++ b → Leaves k (a ++ y ∷ b) (Takes x) after
+leaves_at : (k : ℕ) (a b after : List ℕ) (y x : ℕ) → y ≡ x → length a < k → after ≡ a ++ b
+    → Leaves k (a ++ y ∷ b) (Takes x) after
 leaves_at k a b after y x e lt is = (length a, lt, get_at a b y ∙ ap (λ z. Some z) e, is ∙ sym (remove_at a b y))
 
 leaves_taken : (k : ℕ) (act : ℕ → Effect) (a b : List ℕ) (e x : ℕ) → act e ≡ Adds x → length a < k
@@ -251,14 +279,16 @@ leaves_taken k act a b e x q lt =
     let P : List ℕ → Type 0 = λ items. Leaves k items (Takes x) (map (item act) (a ++ b)) in
     let short : length (map (item act) a) < k = omega (arith, length-map a (item act)) in
     subst P (sym (map-append (item act) a (e ∷ b)))
-    (leaves_at k (map (item act) a) (map (item act) b) (map (item act) (a ++ b)) (item act e) x (item_is act e x q) short
+    (leaves_at k (map (item act) a) (map (item act) b) (map (item act) (a ++ b)) (item act e) x (item_is act e x q)
+    short
     (map-append (item act) a b))
 
 -- the queue's items before a call, its effect and those after it, of which rest is a run
 abbrev pub Goes : ℕ → List ℕ → Effect → List Effect → Type 0
 Goes k items e rest = (after : List ℕ) × Leaves k items e after × IsRun k after rest
 
-step_taken : (k : ℕ) (act : ℕ → Effect) (m : Marks) (done queue : List ℕ) (rest : List Effect) (c x : ℕ) → PointsFit k act m
+step_taken : (k : ℕ) (act : ℕ → Effect) (m : Marks) (done queue : List ℕ) (rest : List Effect) (c x : ℕ)
+    → PointsFit k act m
     → IsNext m done c → act c ≡ Takes x → Holds act m done queue → IsParted (m.source c) queue
     → ((next : List ℕ) → Holds act m (done ++ c ∷ []) next → IsRun k (map (item act) next) rest)
     → Goes k (map (item act) queue) (Takes x) rest
@@ -276,7 +306,8 @@ step_taken k act m done queue rest c x f n q h p go =
     )
 
 -- at an Empty nothing stands in the queue
-nothing_left : (k : ℕ) (act : ℕ → Effect) (m : Marks) (done queue : List ℕ) (c d : ℕ) → PointsFit k act m → IsNext m done c
+nothing_left : (k : ℕ) (act : ℕ → Effect) (m : Marks) (done queue : List ℕ) (c d : ℕ) → PointsFit k act m
+    → IsNext m done c
     → act c ≡ FindsNone → Holds act m done queue → IsIn d queue → ⊥
 nothing_left k act m done queue c d f n q h i =
     let add : IsAdd act m d = h.is_add d i in
@@ -292,8 +323,10 @@ is_nil : (queue : List ℕ) → ((d : ℕ) → IsIn d queue → ⊥) → queue �
 is_nil [] f = refl
 is_nil (d ∷ ds) f = absurd (f d (inl refl))
 
-step : (k : ℕ) (act : ℕ → Effect) (m : Marks) (done queue : List ℕ) (rest : List Effect) (c : ℕ) → PointsFit k act m → IsNext m done c
-    → Holds act m done queue → ((next : List ℕ) → Holds act m (done ++ c ∷ []) next → IsRun k (map (item act) next) rest) → (e : Effect)
+step : (k : ℕ) (act : ℕ → Effect) (m : Marks) (done queue : List ℕ) (rest : List Effect) (c : ℕ) → PointsFit k act m
+    → IsNext m done c
+    → Holds act m done queue
+    → ((next : List ℕ) → Holds act m (done ++ c ∷ []) next → IsRun k (map (item act) next) rest) → (e : Effect)
     → act c ≡ e → Goes k (map (item act) queue) e rest
 step k act m done queue rest c f n h go (Adds x) q = (
   map (item act) (queue ++ c ∷ []),
@@ -303,22 +336,25 @@ step k act m done queue rest c f n h go (Adds x) q = (
 step k act m done queue rest c f n h go (Takes x) q =
     let a : IsAdd act m (m.source c) = (f.source_stands c x n.stands q, x, f.source_adds c x n.stands q) in
     let t : IsTakeOf act m (m.source c) c = (n.stands, x, q, refl) in
-    step_taken k act m done queue rest c x f n q h (parted (m.source c) queue (found k act m done queue c (m.source c) f n h a t)) go
+    step_taken k act m done queue rest c x f n q h
+    (parted (m.source c) queue (found k act m done queue c (m.source c) f n h a t)) go
 step k act m done queue rest c f n h go FindsNone q =
     let none = is_nil queue (λ d i. nothing_left k act m done queue c d f n q h i) in (
       map (item act) queue,
       (ap (map (item act)) none, ap (map (item act)) none),
-      go queue (holds_same act m done queue c (λ a. let r = a.2 in let bad : ⊥ = cc in bad) (λ d t. let r = t.2 in let bad : ⊥ = cc in bad)
-          h),
+      go queue (holds_same act m done queue c (λ a. let r = a.2 in let bad : ⊥ = cc in bad) (λ d t. let r =
+          t.2 in let bad : ⊥ = cc in bad) h),
     )
 step k act m done queue rest c f n h go Refused q = (
   map (item act) queue,
   refl,
-  go queue (holds_same act m done queue c (λ a. let r = a.2 in let bad : ⊥ = cc in bad) (λ d t. let r = t.2 in let bad : ⊥ = cc in bad) h),
+  go queue (holds_same act m done queue c (λ a. let r = a.2 in let bad : ⊥ = cc in bad) (λ d t. let r =
+      t.2 in let bad : ⊥ = cc in bad) h),
 )
 step k act m done queue rest c f n h go Wrong q = absurd (f.sound c n.stands q)
 
-run_from : (k : ℕ) (act : ℕ → Effect) (m : Marks) (rest done queue : List ℕ) → PointsFit k act m → IsByPoint m (done ++ rest)
+run_from : (k : ℕ) (act : ℕ → Effect) (m : Marks) (rest done queue : List ℕ) → PointsFit k act m
+    → IsByPoint m (done ++ rest)
     → Holds act m done queue → IsRun k (map (item act) queue) (map act rest)
 run_from k act m [] done queue f p h = tt
 run_from k act m (c ∷ rest) done queue f p h =
@@ -328,7 +364,13 @@ run_from k act m (c ∷ rest) done queue f p h =
     (act c) refl
 
 nothing_held : (act : ℕ → Effect) (m : Marks) → Holds act m [] []
-nothing_held act m = record { sorted = tt; is_done = λ c i. i; is_add = λ c i. absurd i; untaken = λ c g i j t. i; kept = λ c i a free. i }
+nothing_held act m = record {
+  sorted = tt;
+  is_done = λ c i. i;
+  is_add = λ c i. absurd i;
+  untaken = λ c g i j t. i;
+  kept = λ c i a free. i;
+}
 
 -- The calls that stand, by rising point and number, are a run.
 pub run_by_point : (k : ℕ) (act : ℕ → Effect) (m : Marks) (order : List ℕ) → PointsFit k act m → IsByPoint m order

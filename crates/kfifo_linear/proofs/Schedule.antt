@@ -14,12 +14,13 @@ use Rattle.kfifo_machine.proofs.Calls.{history_is}
 use Rattle.kfifo_linear.specs.Ledger.{blank}
 use Rattle.kfifo_linear.specs.Points.{IsByPoint}
 use Rattle.kfifo_linear.specs.Order.{ledger_after_all, marks_of, order_of}
-use Rattle.kfifo_linear.specs.Headline.{HasLegalOrder, FewOvertake, FewCertainlyOvertake, PointsHold, LawsHold, PutsInVisit, OneOrder}
+use Rattle.kfifo_linear.specs.Headline.{HasLegalOrder, FewOvertake, FewCertainlyOvertake, PointsHold, LawsHold}
+use Rattle.kfifo_linear.specs.Headline.{PutsInVisit, OneOrder}
 use Rattle.kfifo_linear.proofs.Laws.{laws_from}
 use Rattle.kfifo_linear.proofs.Once.{one_by_point}
 use Rattle.kfifo_linear.proofs.Checked.{checks, put_in_visit}
 use Rattle.kfifo_linear.proofs.Base.{opening_size, get_or_replicate}
-use Rattle.kfifo_linear.proofs.Whole.{inv_opening, invariant}
+use Rattle.kfifo_linear.proofs.Invariance.{inv_opening, invariant}
 use Rattle.kfifo_linear.proofs.Facts.{facts_after}
 use Rattle.kfifo_linear.proofs.Agrees.{Agrees, InvAt, agree_all}
 use Rattle.kfifo_linear.proofs.Marks.{points_fit, stands_fit, points_below, none_at_end, put_of, visit_is}
@@ -37,7 +38,8 @@ agree_opening threads = record {
   latest = λ t. get_or_replicate threads t 0;
 }
 
-known_opening : (shape : Shape) (threads : ℕ) → length (log.blank threads).latest ≡ length (opening shape threads).places
+known_opening : (shape : Shape) (threads : ℕ) → length (log.blank threads).latest
+    ≡ length (opening shape threads).places
 unfolding opening
 known_opening shape threads = length-replicate threads 0 ∙ sym (length-replicate threads None)
 
@@ -48,7 +50,8 @@ inv_at_opening shape threads = record { size = opening_size shape threads; holds
 pub agreed : (shape : Shape) (threads : ℕ) (events : List Event) (here : World) → after shape threads events ≡ Some here
     → Agrees (log_of shape threads events) (ledger_after_all shape threads events) (length events)
 agreed shape threads events here is =
-    let all = agree_all shape (opening shape threads) here events (log.blank threads) blank 0 (inv_at_opening shape threads)
+    let all = agree_all shape (opening shape threads) here events (log.blank threads) blank 0
+    (inv_at_opening shape threads)
     (agree_opening threads) (known_opening shape threads) is in
     let z : 0 + length events ≡ length events = omega arith in
     subst (λ n. Agrees (log_of shape threads events) (ledger_after_all shape threads events) n) z all
@@ -67,10 +70,10 @@ module _ (shape : Shape) (threads : ℕ) (few : threads ≤ 64) where
       let facts = facts_after shape threads events here is in
       let same = agreed shape threads events here is in
       let good = history_is shape threads events here few is in (
-        points_fit shape (word_at here) (place_of here) (log_of shape threads events) (ledger_after_all shape threads events)
-            (length events) inv facts same good,
-        stands_fit shape (word_at here) (place_of here) (log_of shape threads events) (ledger_after_all shape threads events)
-            (length events) inv facts same good,
+        points_fit shape (word_at here) (place_of here) (log_of shape threads events)
+            (ledger_after_all shape threads events) (length events) inv facts same good,
+        stands_fit shape (word_at here) (place_of here) (log_of shape threads events)
+            (ledger_after_all shape threads events) (length events) inv facts same good,
       )
 
   -- the order is by point
@@ -89,21 +92,26 @@ module _ (shape : Shape) (threads : ℕ) (few : threads ≤ 64) where
 
   pub few_overtake : FewOvertake shape threads
   few_overtake events here is distinct c x within adds =
-      overtaken_in_order shape.k (history_of shape threads events) (marks_of shape (ledger_after_all shape threads events))
+      overtaken_in_order shape.k (history_of shape threads events)
+      (marks_of shape (ledger_after_all shape threads events))
       (order_of shape threads events) c x (points_hold events here is).0 (by_points events here is) distinct within adds
 
   pub few_certainly : FewCertainlyOvertake shape threads
   few_certainly events here is c done distinct =
       let hold = points_hold events here is in
-      let d = done_finished (call (history_of shape threads events) c).op (call (history_of shape threads events) c).end done in
-      certainly_overtaken_below shape.k (history_of shape threads events) (marks_of shape (ledger_after_all shape threads events)) c d.1.0
+      let d = done_finished (call (history_of shape threads events) c).op (call (history_of shape threads events) c).end
+      done in
+      certainly_overtaken_below shape.k (history_of shape threads events)
+      (marks_of shape (ledger_after_all shape threads events)) c d.1.0
       hold.0 hold.1 distinct.0 d.0 d.1.1
 
   pub laws_hold : LawsHold shape threads
   laws_hold events here is =
       let hold = points_hold events here is in
-      laws_from shape.k (history_of shape threads events) (marks_of shape (ledger_after_all shape threads events)) hold.0 hold.1
-      (none_at_end shape (word_at here) (place_of here) (log_of shape threads events) (ledger_after_all shape threads events)
+      laws_from shape.k (history_of shape threads events) (marks_of shape (ledger_after_all shape threads events))
+      hold.0 hold.1
+      (none_at_end shape (word_at here) (place_of here) (log_of shape threads events)
+      (ledger_after_all shape threads events)
       (length events) (invariant shape threads events here is) (facts_after shape threads events here is)
       (agreed shape threads events here is) (history_is shape threads events here few is))
 
@@ -118,8 +126,10 @@ module _ (shape : Shape) (threads : ℕ) (few : threads ≤ 64) where
       let same = agreed shape threads events here is in
       let good = history_is shape threads events here few is in
       let put = put_of shape w p log l (length events) inv facts same good c a.1 a.0 a.2 in
-      let visit = visit_is shape w p log l (length events) inv facts same good c put.visit put.index put.point put.stands in
-      let low = put_in_visit shape w p l c put.visit put.index put.point (checks shape threads events here is) put.stands in
+      let visit = visit_is shape w p log l (length events) inv facts same good c put.visit put.index put.point
+      put.stands in
+      let low = put_in_visit shape w p l c put.visit put.index put.point (checks shape threads events here is)
+      put.stands in
       rw visit low
 
   pub one_order : OneOrder shape threads

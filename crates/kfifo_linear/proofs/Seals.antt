@@ -1,6 +1,6 @@
 -- A queue that was found empty and then sealed stays empty: no item is settled any more.
-use Rattle.std.proofs.Common.{◌≡◌, ◌≢◌, ◌⊎◌, ℕ, ◌+◌, ◌<◌, ◌≤◌, List, [], ◌∷◌, ◌++◌, length, Option, Some, None, Ok, refl, sym, ap, ◌∙◌, subst}
-use Rattle.std.proofs.Common.{inl, inr, arith, true, false, append_assoc}
+use Rattle.std.proofs.Common.{◌≡◌, ◌≢◌, ◌⊎◌, ℕ, ◌+◌, ◌<◌, ◌≤◌, List, [], ◌∷◌, ◌++◌, length, Option, Some, None, Ok}
+use Rattle.std.proofs.Common.{refl, sym, ap, ◌∙◌, subst, inl, inr, arith, true, false, append_assoc}
 use Rattle.std.proofs.lemmas.Bool.{cases_eq, cases_Bool}
 use Rattle.std.proofs.lemmas.Bool.Decides.{nat_tests}
 use Rattle.std.proofs.lemmas.Option.{none-some}
@@ -29,7 +29,8 @@ use Rattle.kfifo_machine.proofs.Versions.{no_going_seal, one_word, word_rises, r
 use Rattle.kfifo_machine.proofs.BusyIsDisturbed.{sound-ends}
 use Rattle.kfifo_machine.proofs.Calls.{first_goes, log_is}
 use Rattle.kfifo_machine.proofs.Paths.{answered, begins_from}
-use Rattle.kfifo_linear.specs.Ledger.{Ledger, Stood, action, blank, called, found_in, ledger_after, ledger_from, ledger_of}
+use Rattle.kfifo_linear.specs.Ledger.{Ledger, Stood, action, blank, called, found_in, ledger_after, ledger_from}
+use Rattle.kfifo_linear.specs.Ledger.{ledger_of}
 use Rattle.kfifo_linear.specs.Ledger as ledger
 use Rattle.kfifo_linear.specs.declared.action.Action.TheVariants.{RecheckEmpty}
 use Rattle.kfifo_linear.specs.Order.{ledger_after_all}
@@ -38,19 +39,21 @@ use Rattle.kfifo_linear.proofs.Abstract.{event_at, noted-same, noted_tells, word
 use Rattle.kfifo_linear.proofs.Base.{InRing, Sane, ends_in_ring}
 use Rattle.kfifo_linear.proofs.Invariant.{Inv, ThreadOk}
 use Rattle.kfifo_linear.proofs.Ring.{ends_word-above}
-use Rattle.kfifo_linear.proofs.Whole.{inv_table, inv_begin, inv_step, inv_outside, invariant}
+use Rattle.kfifo_linear.proofs.Invariance.{inv_table, inv_begin, inv_step, inv_outside, invariant}
 use Rattle.kfifo_linear.proofs.Agrees.{InvAt, end_of}
 use Rattle.kfifo_linear.proofs.Schedule.{agreed}
 
 -- the invariant after every schedule, and a thread's access is within the table
-pub inv_after : (shape : Shape) (threads : ℕ) (events : List Event) (here : World) → after shape threads events ≡ Some here
+pub inv_after : (shape : Shape) (threads : ℕ) (events : List Event) (here : World)
+    → after shape threads events ≡ Some here
     → InvAt shape here (ledger_after_all shape threads events)
 inv_after shape threads events here is = record {
   size = (sound shape threads events here is).size;
   holds = invariant shape threads events here is;
 }
 
-pub inv_within : (shape : Shape) (here : World) (l : Ledger) (t : ℕ) (r : Running) → InvAt shape here l → place_of here t ≡ Some r
+pub inv_within : (shape : Shape) (here : World) (l : Ledger) (t : ℕ) (r : Running) → InvAt shape here l
+    → place_of here t ≡ Some r
     → accessed (access shape r) < length here.words
 inv_within shape here l t r inv at =
     omega (arith, inv_table shape (word_at here) (place_of here) l t r inv.holds at, inv.size)
@@ -71,7 +74,8 @@ apart n h s t h_in s_in same ne =
     far ne a b = elim (cases_eq s h) [ inl e ↦ absurd (ne e) | inr lt ↦ omega (arith, lt) ]
 
 -- where head and tail are in one segment, a step that leaves the ends as they are settles nothing
-none_settles : (shape : Shape) (w : ℕ → ℕ) (l : Ledger) (t : ℕ) (r : Running) → Sane shape r → InRing shape (w 0) → (i : ℕ)
+none_settles : (shape : Shape) (w : ℕ → ℕ) (l : Ledger) (t : ℕ) (r : Running) → Sane shape r → InRing shape (w 0)
+    → (i : ℕ)
     → words_by (access shape r) w 0 ≡ w 0 → head_of (w 0) ≡ tail_of (w 0) → l.settled i ≡ false
     → (ledger.stepped shape w t r l).settled i ≡ false
 unfolding ledger.stepped
@@ -80,17 +84,21 @@ none_settles shape w l t r s ring i stays together f =
     grind (arith, nat_tests, noted_tells, ends_word-above, apart)
 
 -- a dequeue answers Empty where it finds head and tail in one segment, and loads the ends word
-empties : (shape : Shape) (r : Running) (word : ℕ) → advance shape r word ≡ Answers Empty → (action shape r word ≡ RecheckEmpty)
+empties : (shape : Shape) (r : Running) (word : ℕ) → advance shape r word ≡ Answers Empty
+    → (action shape r word ≡ RecheckEmpty)
     × (access shape r ≡ Load 0) × (head_of word ≡ tail_of word)
 empties shape r word e = grind (arith, nat_tests)
 
 -- a call's first step answers nothing
-first_none : (shape : Shape) (place : Option Running) (call : Begin) (r : Running) (word : ℕ) → going shape place (Some call) ≡ Some r
+first_none : (shape : Shape) (place : Option Running) (call : Begin) (r : Running) (word : ℕ)
+    → going shape place (Some call) ≡ Some r
     → advance shape r word ≡ Answers Empty → ⊥
-first_none shape place call r word goes ends = first_goes shape call r word Empty (begins_from shape place call r goes) ends
+first_none shape place call r word goes ends =
+    first_goes shape call r word Empty (begins_from shape place call r goes) ends
 
 -- so the event that ends a dequeue is a step from its place
-ends_from : (shape : Shape) (w : ℕ → ℕ) (t : ℕ) (place : Option Running) (begin : Option Begin) (r : Running) (word : ℕ) (l : Ledger)
+ends_from : (shape : Shape) (w : ℕ → ℕ) (t : ℕ) (place : Option Running) (begin : Option Begin) (r : Running) (word : ℕ)
+    (l : Ledger)
     → going shape place begin ≡ Some r → advance shape r word ≡ Answers Empty
     → (place ≡ Some r) × (ledger_from shape w t place begin l ≡ ledger.stepped shape w t r l)
 ends_from shape w t None None r word l goes ends = absurd (cc)
@@ -111,7 +119,8 @@ emptied shape w v p t r l does answers inv i is_slot =
     rw does (noted-same l.standing (l.caller t) (l.caller t) (Stood l.head l.now) refl) in
     elim (cases_Bool (next.settled i)) [
       | inl settled ↦
-          let late : l.now < next.point i = (inv.calls.stood (l.caller t) l.head l.now stands).none_settled i is_slot settled in
+          let late : l.now < next.point i = (inv.calls.stood (l.caller t) l.head l.now stands).none_settled i is_slot
+          settled in
           let early : next.point i < l.now + 1 = ((inv.slots i is_slot).settled settled).at_tail.past in
           absurd (omega arith)
       | inr unsettled ↦ unsettled
@@ -134,16 +143,20 @@ event_empties shape here e next l inv made =
           let answers : advance shape r (found_in shape w r) ≡ Answers Empty =
           answered (advance shape r (found_in shape w r)) Empty s.outcome_is in
           let does = empties shape r (found_in shape w r) answers in
-          let from = ends_from shape w e.thread (place_of here e.thread) e.begin r (found_in shape w r) l s.goes answers in
+          let from = ends_from shape w e.thread (place_of here e.thread) e.begin r (found_in shape w r) l s.goes
+          answers in
           let at : InvAt shape next (ledger_from shape w e.thread (place_of here e.thread) e.begin l) =
-          event_at shape (Inv shape) (inv_table shape) (inv_begin shape) (inv_step shape) (inv_outside shape) here next (Ended Empty) e l inv
+          event_at shape (Inv shape) (inv_table shape) (inv_begin shape) (inv_step shape) (inv_outside shape) here next
+          (Ended Empty) e l inv
           made in
           let word : found_in shape w r ≡ w 0 = ap (λ a. w (accessed a)) does.1 in
           let table : accessed (access shape r) < length here.words = inv_within shape here l e.thread r inv from.0 in
           record {
-            none = rw from.1 (emptied shape w (word_at next) (place_of next) e.thread r l does.0 answers (rw from.1 at at.holds));
+            none = rw from.1 (emptied shape w (word_at next) (place_of next) e.thread r l does.0 answers
+                (rw from.1 at at.holds));
             together = sym (ap head_of word) ∙ does.2 ∙ ap tail_of word;
-            same = ap (λ (x : World). word_at x 0) s.there_is ∙ ap (λ (x : ℕ → ℕ). x 0) (word_at-moved shape here e.thread r table)
+            same = ap (λ (x : World). word_at x 0) s.there_is
+                ∙ ap (λ (x : ℕ → ℕ). x 0) (word_at-moved shape here e.thread r table)
                 ∙ ap (λ a. words_by a w 0) does.1;
           }
       | inr o ↦ absurd (let h : Ended Empty ≡ Went = o.outcome_is in cc)
@@ -151,17 +164,20 @@ event_empties shape here e next l inv made =
 
 -- a call's first step settles nothing
 enqueue_settles_none : (shape : Shape) (w : ℕ → ℕ) (t item start turns : ℕ) (l : Ledger) (i : ℕ)
-    → (ledger.stepped shape w t (R.Enqueue item start turns E.LoadEnds) (called t (B.Enqueue item start turns) l)).settled i ≡ l.settled i
+    → (ledger.stepped shape w t (R.Enqueue item start turns E.LoadEnds)
+    (called t (B.Enqueue item start turns) l)).settled i ≡ l.settled i
 unfolding ledger.stepped called
 enqueue_settles_none shape w t item start turns l i = refl
 
 dequeue_settles_none : (shape : Shape) (w : ℕ → ℕ) (t start turns : ℕ) (l : Ledger) (i : ℕ)
-    → (ledger.stepped shape w t (R.Dequeue start turns D.LoadEnds) (called t (B.Dequeue start turns) l)).settled i ≡ l.settled i
+    → (ledger.stepped shape w t (R.Dequeue start turns D.LoadEnds) (called t (B.Dequeue start turns) l)).settled i
+    ≡ l.settled i
 unfolding ledger.stepped called
 dequeue_settles_none shape w t start turns l i = refl
 
 -- an event that leaves the ends as they are settles nothing
-pub event_settles_none : (shape : Shape) (here : World) (e : Event) (next : World) (outcome : Outcome) (l : Ledger) → InvAt shape here l
+pub event_settles_none : (shape : Shape) (here : World) (e : Event) (next : World) (outcome : Outcome) (l : Ledger)
+    → InvAt shape here l
     → step shape here e ≡ Ok (next, outcome) → head_of (word_at here 0) ≡ tail_of (word_at here 0)
     → word_at next 0 ≡ word_at here 0 → NoneSettled shape l → NoneSettled shape (ledger_after shape here e l)
 unfolding ledger_after
@@ -196,7 +212,8 @@ event_settles_none shape here e next outcome l inv made together same none i is_
 
 -- so does a seal
 seal_settles_none : (shape : Shape) (here : World) (e : Event) (next : World) (outcome : Outcome) (l : Ledger)
-    → step shape here e ≡ Ok (next, outcome) → e.begin ≡ Some B.Seal → NoneSettled shape l → NoneSettled shape (ledger_after shape here e l)
+    → step shape here e ≡ Ok (next, outcome) → e.begin ≡ Some B.Seal → NoneSettled shape l
+    → NoneSettled shape (ledger_after shape here e l)
 unfolding ledger_after
 seal_settles_none shape here e next outcome l made seals none i is_slot =
     elim (stepped shape here e next outcome made) [
@@ -204,18 +221,22 @@ seal_settles_none shape here e next outcome l made seals none i is_slot =
       | inr o ↦ rw (o.idle, seals) (none i is_slot)
     ]
 
-next_inv : (shape : Shape) (here : World) (e : Event) (next : World) (outcome : Outcome) (l : Ledger) → InvAt shape here l
+next_inv : (shape : Shape) (here : World) (e : Event) (next : World) (outcome : Outcome) (l : Ledger)
+    → InvAt shape here l
     → step shape here e ≡ Ok (next, outcome) → InvAt shape next (ledger_after shape here e l)
 next_inv shape here e next outcome l inv made =
-    event_at shape (Inv shape) (inv_table shape) (inv_begin shape) (inv_step shape) (inv_outside shape) here next outcome e l inv made
+    event_at shape (Inv shape) (inv_table shape) (inv_begin shape) (inv_step shape) (inv_outside shape) here next
+    outcome e l inv made
 
 ledger_on : (shape : Shape) (here : World) (e : Event) (next : World) (outcome : Outcome) (es : List Event) (l : Ledger)
     → step shape here e ≡ Ok (next, outcome)
     → ledger_of shape (Some here) (e ∷ es) l ≡ ledger_of shape (Some next) es (ledger_after shape here e l)
-ledger_on shape here e next outcome es l made = ap (λ r. ledger_of shape (world_of r) es (ledger_after shape here e l)) made
+ledger_on shape here e next outcome es l made =
+    ap (λ r. ledger_of shape (world_of r) es (ledger_after shape here e l)) made
 
 -- events that leave the ends as they are
-pub run_settles_none : (shape : Shape) (here there : World) (events : List Event) (l : Ledger) → IsSound shape here → InvAt shape here l
+pub run_settles_none : (shape : Shape) (here there : World) (events : List Event) (l : Ledger) → IsSound shape here
+    → InvAt shape here l
     → run shape (Some here) events ≡ Some there → head_of (word_at here 0) ≡ tail_of (word_at here 0)
     → word_at there 0 ≡ word_at here 0 → NoneSettled shape l → NoneSettled shape (ledger_of shape (Some here) events l)
 run_settles_none shape here there [] l safe inv is together same none = none
@@ -226,13 +247,15 @@ run_settles_none shape here there (e ∷ es) l safe inv is together same none =
     let further : word_at m.0 0 ≤ word_at there 0 = run_rises shape m.0 there es 0 later m.1.1.1 in
     let stood : word_at m.0 0 ≡ word_at here 0 = omega arith in
     rw (ledger_on shape here e m.0 m.1.0 es l m.1.1.0)
-    (run_settles_none shape m.0 there es (ledger_after shape here e l) later (next_inv shape here e m.0 m.1.0 l inv m.1.1.0) m.1.1.1
+    (run_settles_none shape m.0 there es (ledger_after shape here e l) later
+    (next_inv shape here e m.0 m.1.0 l inv m.1.1.0) m.1.1.1
     (ap head_of stood ∙ together ∙ ap tail_of (sym stood)) (same ∙ sym stood)
     (event_settles_none shape here e m.0 m.1.0 l inv m.1.1.0 together stood none))
 
 -- seals
 seals_settle_none : (shape : Shape) (here there : World) (events : List Event) (l : Ledger) → AllSeal events
-    → run shape (Some here) events ≡ Some there → NoneSettled shape l → NoneSettled shape (ledger_of shape (Some here) events l)
+    → run shape (Some here) events ≡ Some there → NoneSettled shape l
+    → NoneSettled shape (ledger_of shape (Some here) events l)
 seals_settle_none shape here there [] l all is none = none
 seals_settle_none shape here there (e ∷ es) l all is none =
     let m = first_made shape here e there es is in
@@ -242,41 +265,50 @@ seals_settle_none shape here there (e ∷ es) l all is none =
 
 -- Ends of the last version stand for ever
 pub event_stands : (shape : Shape) (here : World) (e : Event) (next : World) (outcome : Outcome) → IsSound shape here
-    → step shape here e ≡ Ok (next, outcome) → version_of (word_at here 0) ≡ shape.last → word_at next 0 ≡ word_at here 0
+    → step shape here e ≡ Ok (next, outcome) → version_of (word_at here 0) ≡ shape.last
+    → word_at next 0 ≡ word_at here 0
 event_stands shape here e next outcome safe made last =
     let one = one_word shape here e next outcome safe made in
     elim (cases_eq (word_at next 0) (word_at here 0)) [
       | inl same ↦ same
       | inr ne ↦ elim (one.only_so 0 ne) [
         | inl w ↦
-            let more : version_of (word_at next 0) ≡ version_of (word_at here 0) + 1 = (one.won 0 (word_at next 0) w).1 in
-            let most : version_of (word_at next 0) ≤ shape.last = (sound-ends shape next (step_sound shape here e next outcome safe made)).version in
+            let more : version_of (word_at next 0) ≡ version_of (word_at here 0) + 1 =
+            (one.won 0 (word_at next 0) w).1 in
+            let most : version_of (word_at next 0) ≤ shape.last =
+            (sound-ends shape next (step_sound shape here e next outcome safe made)).version in
             absurd (omega arith)
         | inr (inl t) ↦ absurd (let c = t.clock in omega arith)
         | inr (inr z) ↦ absurd (let less = (one.sealed 0 z).1 in omega arith)
       ]
     ]
 
-pub run_stands : (shape : Shape) (here there : World) (events : List Event) → IsSound shape here → run shape (Some here) events ≡ Some there
+pub run_stands : (shape : Shape) (here there : World) (events : List Event) → IsSound shape here
+    → run shape (Some here) events ≡ Some there
     → version_of (word_at here 0) ≡ shape.last → word_at there 0 ≡ word_at here 0
 run_stands shape here there [] safe is last = ap (λ (w : World). word_at w 0) (sym (Some-injective here there is))
 run_stands shape here there (e ∷ es) safe is last =
     let m = first_made shape here e there es is in
     let first : word_at m.0 0 ≡ word_at here 0 = event_stands shape here e m.0 m.1.0 safe m.1.1.0 last in
-    run_stands shape m.0 there es (step_sound shape here e m.0 m.1.0 safe m.1.1.0) m.1.1.1 (ap version_of first ∙ last) ∙ first
+    run_stands shape m.0 there es (step_sound shape here e m.0 m.1.0 safe m.1.1.0) m.1.1.1 (ap version_of first ∙ last)
+    ∙ first
 
 -- the ledger of a schedule that goes on
-pub ledger-append : (shape : Shape) (world here : World) (xs ys : List Event) (l : Ledger) → run shape (Some world) xs ≡ Some here
+pub ledger-append : (shape : Shape) (world here : World) (xs ys : List Event) (l : Ledger)
+    → run shape (Some world) xs ≡ Some here
     → ledger_of shape (Some world) (xs ++ ys) l ≡ ledger_of shape (Some here) ys (ledger_of shape (Some world) xs l)
-ledger-append shape world here [] ys l is = ap (λ (w : World). ledger_of shape (Some w) ys l) (Some-injective world here is)
+ledger-append shape world here [] ys l is =
+    ap (λ (w : World). ledger_of shape (Some w) ys l) (Some-injective world here is)
 ledger-append shape world here (x ∷ xs) ys l is =
     let m = first_made shape world x here xs is in
     ledger_on shape world x m.0 m.1.0 (xs ++ ys) l m.1.1.0
     ∙ ledger-append shape m.0 here xs ys (ledger_after shape world x l) m.1.1.1
     ∙ ap (ledger_of shape (Some here) ys) (sym (ledger_on shape world x m.0 m.1.0 xs l m.1.1.0))
 
--- with no settled item, where every thread is idle no slot is filled: each item in a slot is that of an enqueue in progress
-pub none_left : (shape : Shape) (threads : ℕ) (events : List Event) (here : World) → threads ≤ 64 → after shape threads events ≡ Some here
+-- with no settled item, where every thread is idle no slot is filled: each item in a slot is that of an enqueue in
+-- progress
+pub none_left : (shape : Shape) (threads : ℕ) (events : List Event) (here : World) → threads ≤ 64
+    → after shape threads events ≡ Some here
     → NoneSettled shape (ledger_after_all shape threads events) → ((thread : ℕ) → place_of here thread ≡ None)
     → (i : ℕ) → IsSlotIndex shape i → value_of (word_at here i) ≡ 0
 none_left shape threads events here few is none idle i is_slot =
@@ -291,9 +323,11 @@ none_left shape threads events here few is none idle i is_slot =
           let open_end : l.last (l.owner i) ≡ None = full.unsettled (none i is_slot) in
           let made = agrees.each (l.owner i) full.known in
           let no_end : (call (log_of shape threads events).calls (l.owner i)).end ≡ None =
-          made.end ∙ ap (λ (o : Option ℕ). end_of o (l.answer (l.owner i))) open_end ∙ no_end_of (l.answer (l.owner i)) in
+          made.end ∙ ap (λ (o : Option ℕ). end_of o (l.answer (l.owner i))) open_end
+          ∙ no_end_of (l.answer (l.owner i)) in
           let o = log.open_calls (l.owner i) (let c = agrees.count in let k = full.known in omega arith) no_end in
-          absurd (none-some o.running (sym (idle (call (log_of shape threads events).calls (l.owner i)).thread) ∙ o.there))
+          absurd (none-some o.running (sym (idle (call (log_of shape threads events).calls (l.owner i)).thread)
+          ∙ o.there))
     ]
   where
     no_end_of : (answer : Option Answer) → end_of None answer ≡ None
@@ -309,12 +343,14 @@ stays_empty shape threads few events more here z is idle index is_slot =
     let empty = event_empties shape f.here f.empty f.next start inv f.answers in
     let safe : IsSound shape f.here = sound shape threads f.earlier f.here f.reached in
     let safe_next : IsSound shape f.next = step_sound shape f.here f.empty f.next (Ended Empty) safe f.answers in
-    let found_at : after shape threads (f.earlier ++ f.empty ∷ f.later) ≡ Some f.there = ap (after shape threads) (sym f.split) ∙ f.ends_at in
+    let found_at : after shape threads (f.earlier ++ f.empty ∷ f.later) ≡ Some f.there =
+    ap (after shape threads) (sym f.split) ∙ f.ends_at in
     let to_there : run shape (Some f.here) (f.empty ∷ f.later) ≡ Some f.there =
     sym (run_on shape (Some (opening shape threads)) f.here f.earlier (f.empty ∷ f.later) f.reached) ∙ found_at in
     let later_run : run shape (Some f.next) f.later ≡ Some f.there =
     ap (λ r. run shape (world_of r) f.later) (sym f.answers) ∙ to_there in
-    let none_there : NoneSettled shape (ledger_of shape (Some f.next) f.later (ledger_after shape f.here f.empty start)) =
+    let none_there : NoneSettled shape
+    (ledger_of shape (Some f.next) f.later (ledger_after shape f.here f.empty start)) =
     run_settles_none shape f.next f.there f.later (ledger_after shape f.here f.empty start) safe_next
     (next_inv shape f.here f.empty f.next (Ended Empty) start inv f.answers) later_run
     (ap head_of empty.same ∙ empty.together ∙ ap tail_of (sym empty.same)) (f.stands ∙ sym empty.same) empty.none in
@@ -330,7 +366,8 @@ stays_empty shape threads few events more here z is idle index is_slot =
     let none_sealed : NoneSettled shape (ledger_after_all shape threads events) =
     rw (ap (ledger_after_all shape threads) z.split
     ∙ ledger-append shape (opening shape threads) f.there z.found z.seals blank f.ends_at)
-    (seals_settle_none shape f.there z.here z.seals (ledger_after_all shape threads z.found) z.all_seal seals_run none_found) in
+    (seals_settle_none shape f.there z.here z.seals (ledger_after_all shape threads z.found) z.all_seal seals_run
+    none_found) in
     let safe_here : IsSound shape z.here = sound shape threads events z.here z.reached in
     let more_run : run shape (Some z.here) more ≡ Some here =
     sym (run_on shape (Some (opening shape threads)) z.here events more z.reached) ∙ is in

@@ -1,6 +1,7 @@
 -- The calls that stand, sorted by point and number, are the order.
-use Rattle.std.proofs.Common.{◌≡◌, ℕ, zero, suc, ◌+◌, ◌-◌, ◌<◌, ◌≤◌, ◌⊎◌, inl, inr, Bool, true, false, cond, eqb, refl, sym, ◌∙◌, ap, subst}
-use Rattle.std.proofs.Common.{arith, List, [], ◌∷◌, ◌++◌, length, get_or, append-nil, map, Option, Some, None, is_some}
+use Rattle.std.proofs.Common.{◌≡◌, ℕ, zero, suc, ◌+◌, ◌-◌, ◌<◌, ◌≤◌, ◌⊎◌, inl, inr, Bool, true, false, cond, eqb, refl}
+use Rattle.std.proofs.Common.{sym, ◌∙◌, ap, subst, arith, List, [], ◌∷◌, ◌++◌, length, get_or, append-nil, map, Option}
+use Rattle.std.proofs.Common.{Some, None, is_some}
 use Rattle.std.proofs.lemmas.Bool.{cases_eq, cases_lt, eq-eqb, ne_eqb, false≢true}
 use Rattle.std.proofs.lemmas.List.{get_or-map, get_or_default, get_or_past, length-map}
 use Rattle.std.proofs.lemmas.Grind.{same_number_lists}
@@ -28,7 +29,8 @@ use Rattle.kfifo_linear.specs.Order.{ledger_after_all, marks_of, order_of, point
 
 -- numbers that a list has, by place and by recursion
 contains_in : (l : List ℕ) (x : ℕ) → Contains l x → IsIn x l
-contains_in l x c = subst (λ y. IsIn y l) c.2 (subst (λ y. IsIn y l) (get_or_default l c.0 0 x c.1) (in_from_place l c.0 c.1))
+contains_in l x c =
+    subst (λ y. IsIn y l) c.2 (subst (λ y. IsIn y l) (get_or_default l c.0 0 x c.1) (in_from_place l c.0 c.1))
 
 in_contains : (l : List ℕ) (x : ℕ) → IsIn x l → Contains l x
 in_contains l x i = let p = in_place x l i in (p.0, p.1, get_or_default l p.0 x 0 p.1 ∙ p.2)
@@ -58,7 +60,8 @@ not_lower a b e =
         | inr le ↦
             let same : b.0 ≡ a.0 = omega (arith, ge, le) in
             let equal : Equal ≡ nat_cmp b.0 a.0 = nat_cmp_is b.0 a.0 Equal same in
-            let second : is_lt (nat_cmp b.1 a.1) ≡ false = ap (λ o. is_lt (ordering_then o (nat_cmp b.1 a.1))) equal ∙ e in
+            let second : is_lt (nat_cmp b.1 a.1) ≡ false = ap (λ o. is_lt (ordering_then o (nat_cmp b.1 a.1))) equal
+            ∙ e in
             inr (
               sym same,
               elim (cases_lt b.1 a.1) [
@@ -73,7 +76,8 @@ lex_trans : (a b c : ℕ × ℕ) → Lex a b → Lex b c → Lex a c
 lex_trans a b c p q = grind arith
 
 -- each is not higher than those behind it
-rises : (xs : List (ℕ × ℕ)) (d : ℕ × ℕ) → IsSortedBy lower xs → (i m : ℕ) → i + m < length xs → Lex (get_or xs i d) (get_or xs (i + m) d)
+rises : (xs : List (ℕ × ℕ)) (d : ℕ × ℕ) → IsSortedBy lower xs → (i m : ℕ) → i + m < length xs
+    → Lex (get_or xs i d) (get_or xs (i + m) d)
 rises xs d up i zero less = let z : i + 0 ≡ i = omega arith in rw z (inr (refl, omega arith))
 rises xs d up i (suc m) less =
     let before : Lex (get_or xs i d) (get_or xs (i + m) d) = rises xs d up i m (omega arith) in
@@ -136,7 +140,8 @@ is_there n (suc m) c p less e =
     rw (numbers-append (points_below n m) (with_point (point_at n m) m)) (elim (cases_eq c m) [
       | inl same ↦ in_right c (numbers (points_below n m)) (numbers (with_point (point_at n m) m))
           (rw (sym (ap (point_at n) same) ∙ e) (inl same))
-      | inr ne ↦ in_left c (numbers (points_below n m)) (numbers (with_point (point_at n m) m)) (is_there n m c p (omega arith) e)
+      | inr ne ↦ in_left c (numbers (points_below n m)) (numbers (with_point (point_at n m) m))
+          (is_there n m c p (omega arith) e)
     ])
 
 -- ---- what the notes say of the ledger
@@ -145,7 +150,8 @@ abbrev point_in : Option Spot → Option ℕ
 point_in None = None
 point_in (Some s) = Some s.point
 
-point_if_is : (b c : Bool) (p q : ℕ) (s : Spot) → b ≡ c → p ≡ q → s.point ≡ q → cond b (Some p) None ≡ point_in (spot_if c s)
+point_if_is : (b c : Bool) (p q : ℕ) (s : Spot) → b ≡ c → p ≡ q → s.point ≡ q
+    → cond b (Some p) None ≡ point_in (spot_if c s)
 point_if_is b true p q s e f g = rw (e, f) (ap Some (sym g))
 point_if_is b false p q s e f g = rw e refl
 
@@ -156,8 +162,8 @@ point_of_standing l n c Outside h = by_last (l.last c)
     by_last : (last : Option ℕ) → point_from n (brief Outside last) ≡ point_in (refused_at last)
     by_last None = refl
     by_last (Some e) = refl
-point_of_standing l n c (Inside i) h = point_if_is (slot n i).settled (l.settled i) (slot n i).point (l.point i) _ (h.settled i) (h.point i)
-    refl
+point_of_standing l n c (Inside i) h = point_if_is (slot n i).settled (l.settled i) (slot n i).point (l.point i) _
+    (h.settled i) (h.point i) refl
 point_of_standing l n c (Gone i v p) h = refl
 point_of_standing l n c (Took o v p) h = refl
 point_of_standing l n c (Stood v p) h = refl
@@ -190,19 +196,21 @@ distinct xs h = IsDistinct-from_apart eqb xs (λ i j d lt less.
     ne_eqb (get_or xs i d) (get_or xs j d) (λ e. absurd (omega arith)))
 
 apart_in : (xs : List ℕ) (i j : ℕ) → IsDistinct eqb xs → i < j → j < length xs → get_or xs i 0 ≡ get_or xs j 0 → ⊥
-apart_in xs i j h lt less e = false≢true (sym (apart_from_distinct eqb xs i j 0 h lt less) ∙ eq-eqb (get_or xs i 0) (get_or xs j 0) e)
+apart_in xs i j h lt less e =
+    false≢true (sym (apart_from_distinct eqb xs i j 0 h lt less) ∙ eq-eqb (get_or xs i 0) (get_or xs j 0) e)
 
 module _ (shape : Shape) (l : Ledger) (n : Notes) (h : Tells l n) (sorted : List (ℕ × ℕ))
     (moved : IsPermutation (points_below n (length n.calls)) sorted) (up : IsSortedBy lower sorted) where
   all_points : All (HasPoint n) sorted
-  all_points = All-permutation (HasPoint n) (points_below n (length n.calls)) sorted moved (have_points n (length n.calls))
+  all_points = All-permutation (HasPoint n) (points_below n (length n.calls)) sorted moved
+      (have_points n (length n.calls))
 
   moved_numbers : IsPermutation (numbers (points_below n (length n.calls))) (numbers sorted)
   moved_numbers = IsPermutation-map (λ (x : ℕ × ℕ). x.1) (points_below n (length n.calls)) sorted moved
 
   differ : IsDistinct eqb (numbers sorted)
-  differ = IsDistinct-IsPermutation eqb eqb-flips (numbers (points_below n (length n.calls))) (numbers sorted) moved_numbers
-      (distinct (numbers (points_below n (length n.calls))) (numbers_rise n (length n.calls)))
+  differ = IsDistinct-IsPermutation eqb eqb-flips (numbers (points_below n (length n.calls))) (numbers sorted)
+      moved_numbers (distinct (numbers (points_below n (length n.calls))) (numbers_rise n (length n.calls)))
 
   -- the call at a place
   number_at : (i : ℕ) → i < length sorted → get_or (numbers sorted) i 0 ≡ (get_or sorted i (0, 0)).1
@@ -225,7 +233,8 @@ module _ (shape : Shape) (l : Ledger) (n : Notes) (h : Tells l n) (sorted : List
       let nb = number_at j within in
       let z : i + (j - i) ≡ j = omega arith in
       let lex : Lex (get_or sorted i (0, 0)) (get_or sorted j (0, 0)) =
-      subst (λ k. Lex (get_or sorted i (0, 0)) (get_or sorted k (0, 0))) z (rises sorted (0, 0) up i (j - i) (omega arith)) in
+      subst (λ k. Lex (get_or sorted i (0, 0)) (get_or sorted k (0, 0))) z
+      (rises sorted (0, 0) up i (j - i) (omega arith)) in
       elim lex [
         | inl low ↦ (omega (arith, a.1, b.1, low), λ e. absurd (omega (arith, a.1, b.1, low, e)))
         | inr same ↦ (
@@ -249,8 +258,10 @@ module _ (shape : Shape) (l : Ledger) (n : Notes) (h : Tells l n) (sorted : List
         elim (cases_lt c (length n.calls)) [
           | inl less ↦ contains_in (numbers sorted) c
               (Contains-permutation (numbers (points_below n (length n.calls))) (numbers sorted) c moved_numbers
-              (in_contains (numbers (points_below n (length n.calls))) c (is_there n (length n.calls) c (point l c) less has)))
-          | inr past ↦ absurd (none-some (point l c) (sym (ap (point_from n) (get_or_past n.calls c Nowhere past)) ∙ has))
+              (in_contains (numbers (points_below n (length n.calls))) c
+              (is_there n (length n.calls) c (point l c) less has)))
+          | inr past ↦
+              absurd (none-some (point l c) (sym (ap (point_from n) (get_or_past n.calls c Nowhere past)) ∙ has))
         ];
   }
 
@@ -260,21 +271,24 @@ module _ (shape : Shape) (l : Ledger) (n : Notes) (h : Tells l n) (sorted : List
       let firsts : List ℕ = map (λ (x : ℕ × ℕ). x.0) sorted in
       let long : length firsts ≡ length sorted = length-map sorted (λ (x : ℕ × ℕ). x.0) in
       let many : length (numbers sorted) ≡ length sorted = length-map sorted (λ (x : ℕ × ℕ). x.1) in
-      let all : length (map (point l) (numbers sorted)) ≡ length (numbers sorted) = length-map (numbers sorted) (point l) in
+      let all : length (map (point l) (numbers sorted)) ≡ length (numbers sorted) =
+      length-map (numbers sorted) (point l) in
       same_number_lists firsts (map (point l) (numbers sorted)) (omega arith) (λ k less.
       let within : k < length sorted = omega arith in
       get_or-map (λ (x : ℕ × ℕ). x.0) sorted k (0, 0) 0 within ∙ sym (standing_at k within).1
       ∙ sym (get_or-map (point l) (numbers sorted) k 0 0 (omega arith)))
 
 -- of a linearizer that has followed a schedule, the calls by their sorted points are the order
-pub order_is : (f : Follower) (threads room : ℕ) (events : List Event) (sorted : List (ℕ × ℕ)) → Follows threads room events f
+pub order_is : (f : Follower) (threads room : ℕ) (events : List Event) (sorted : List (ℕ × ℕ))
+    → Follows threads room events f
     → threads ≤ 64 → IsPermutation (points_below f.notes (length f.notes.calls)) sorted → IsSortedBy lower sorted
     → numbers sorted ≡ order_of f.shape threads events
 order_is f threads room events sorted h few moved up =
     one_order f.shape threads few events f.world h.reached (numbers sorted)
     (sorted_by_point f.shape (ledger_after_all f.shape threads events) f.notes h.tells sorted moved up)
 
-pub points_follow : (f : Follower) (threads room : ℕ) (events : List Event) (sorted : List (ℕ × ℕ)) → Follows threads room events f
+pub points_follow : (f : Follower) (threads room : ℕ) (events : List Event) (sorted : List (ℕ × ℕ))
+    → Follows threads room events f
     → IsPermutation (points_below f.notes (length f.notes.calls)) sorted → IsSortedBy lower sorted
     → map (λ (x : ℕ × ℕ). x.0) sorted ≡ map (point (ledger_after_all f.shape threads events)) (numbers sorted)
 points_follow f threads room events sorted h moved up =

@@ -1,6 +1,6 @@
 -- Each event keeps that the notes tell the ledger.
-use Rattle.std.proofs.Common.{◌≡◌, ◌≢◌, ℕ, ◌+◌, ◌%◌, ◌<◌, ◌≤◌, inl, inr, true, false, cond, ltb, refl, sym, ◌∙◌, ap, arith, List, length}
-use Rattle.std.proofs.Common.{get_or, set, Option, Some, None}
+use Rattle.std.proofs.Common.{◌≡◌, ◌≢◌, ℕ, ◌+◌, ◌%◌, ◌<◌, ◌≤◌, inl, inr, true, false, cond, ltb, refl, sym, ◌∙◌, ap}
+use Rattle.std.proofs.Common.{arith, List, length, get_or, set, Option, Some, None}
 use Rattle.std.proofs.Math.Nat.{mod-lt}
 use Rattle.std.proofs.lemmas.Bool.{cases_eq, cases_lt, cond-false, le-ltb}
 use Rattle.std.proofs.lemmas.Grind.{get_or-set_at}
@@ -14,12 +14,13 @@ use Rattle.kfifo_machine.specs.declared.place.DequeuePhase.TheVariants as D
 use Rattle.kfifo_machine.specs.declared.place.Next.TheVariants.{Answers, Goes}
 use Rattle.kfifo_machine.specs.declared.place.Running.TheVariants as R
 use Rattle.kfifo_linear.specs.declared.action.Action.{Action}
-use Rattle.kfifo_linear.specs.declared.action.Action.TheVariants.{HoldHead, LoadEnds, MoveHead, MoveTail, Unnoted, Put, Recheck}
-use Rattle.kfifo_linear.specs.declared.action.Action.TheVariants.{RecheckEmpty, ReloadEnds, Take, Undo}
+use Rattle.kfifo_linear.specs.declared.action.Action.TheVariants.{HoldHead, LoadEnds, MoveHead, MoveTail, Unnoted, Put}
+use Rattle.kfifo_linear.specs.declared.action.Action.TheVariants.{Recheck, RecheckEmpty, ReloadEnds, Take, Undo}
 use Rattle.kfifo_linear.specs.declared.notes.Whereabouts.{Whereabouts}
 use Rattle.kfifo_linear.specs.declared.notes.Whereabouts.TheVariants.{At, InSlot, Nowhere}
-use Rattle.kfifo_linear.specs.Ledger.{Gone, Inside, Ledger, Outside, Standing, Stood, Took, called, after_action, gone_point, is_inside}
-use Rattle.kfifo_linear.specs.Ledger.{noted, took_point, settle_point, settle_visit, standing_after}
+use Rattle.kfifo_linear.specs.Ledger.{Gone, Inside, Ledger, Outside, Standing, Stood, Took, called, after_action}
+use Rattle.kfifo_linear.specs.Ledger.{gone_point, is_inside, noted, took_point, settle_point, settle_visit}
+use Rattle.kfifo_linear.specs.Ledger.{standing_after}
 use Rattle.kfifo_linear.specs.Notes.{Notes, ended, later, left_at, leaves, marked, own_call, caller, slot, whereabouts}
 use Rattle.kfifo_linear.specs.Notes as note
 use Rattle.kfifo_linear.specs.Following.{Tells, TellVisits, brief}
@@ -27,7 +28,8 @@ use Rattle.kfifo_machine.proofs.Ring.{same_place}
 use Rattle.kfifo_linear.proofs.Abstract.{noted-same, noted-other}
 
 -- of a list in which one place was written, what is told of each place
-pub set_new : {X Y : Type 0} (tell : X → Y) (notes : ℕ → Y) (xs : List X) (i j : ℕ) (x d : X) (y : Y) → i < length xs → tell x ≡ y
+pub set_new : {X Y : Type 0} (tell : X → Y) (notes : ℕ → Y) (xs : List X) (i j : ℕ) (x d : X) (y : Y) → i < length xs
+    → tell x ≡ y
     → ((k : ℕ) → tell (get_or xs k d) ≡ notes k) → tell (get_or (set xs i x) j d) ≡ noted notes i y j
 set_new tell notes xs i j x d y less new old =
     elim (cases_eq j i) [
@@ -37,7 +39,8 @@ set_new tell notes xs i j x d y less new old =
 
 -- the same, where what is told of that place stays as it was
 pub set_kept : {X Y : Type 0} (tell : X → Y) (notes : ℕ → Y) (xs : List X) (i j : ℕ) (x d : X) → i < length xs
-    → tell x ≡ tell (get_or xs i d) → ((k : ℕ) → tell (get_or xs k d) ≡ notes k) → tell (get_or (set xs i x) j d) ≡ notes j
+    → tell x ≡ tell (get_or xs i d) → ((k : ℕ) → tell (get_or xs k d) ≡ notes k) → tell (get_or (set xs i x) j d)
+    ≡ notes j
 set_kept tell notes xs i j x d less same old =
     elim (cases_eq j i) [
       | inl e ↦ ap tell (get_or-set_at xs i j x d e less) ∙ same ∙ old i ∙ ap notes (sym e)
@@ -62,12 +65,15 @@ CanTell shape l n t (Put index) = index < length n.slots
 CanTell shape l n t (Undo index) = index < length n.slots
 CanTell shape l n t (ReloadEnds index segment) = (index < length n.slots) × (segment < shape.n)
 CanTell shape l n t (HoldHead index) = index < length n.slots
-CanTell shape l n t (Take index) = (index < length n.slots) × (l.owner index < length n.calls) × (l.head_seen t < l.tail)
+CanTell shape l n t (Take index) = (index < length n.slots) × (l.owner index < length n.calls)
+    × (l.head_seen t < l.tail)
     × (l.tail ≤ l.head_seen t + length n.tails) × (l.head ≤ l.head_seen t + length n.heads)
 CanTell shape l n t other = Unit {0}
 
-module _ (shape : Shape) (l : Ledger) (n : Notes) (t ends : ℕ) (r : Running) (h : Tells l n) (thread : t < length n.callers)
-    (known : l.caller t < length n.calls) (unended : l.last (l.caller t) ≡ None) (near : l.tail ≤ l.head + length n.tails)
+module _ (shape : Shape) (l : Ledger) (n : Notes) (t ends : ℕ) (r : Running) (h : Tells l n)
+    (thread : t < length n.callers)
+    (known : l.caller t < length n.calls) (unended : l.last (l.caller t) ≡ None)
+    (near : l.tail ≤ l.head + length n.tails)
     (some_heads : 0 < length n.heads) (some_tails : 0 < length n.tails) where
   -- after an action of a call that goes on
   abbrev Told : Action → Type 0
@@ -106,7 +112,8 @@ module _ (shape : Shape) (l : Ledger) (n : Notes) (t ends : ℕ) (r : Running) (
   }
 
   -- a call goes to a standing of which this is told
-  placed : (c : ℕ) (place : Whereabouts) (standing : Standing) → c < length n.calls → place ≡ brief standing (l.last c) → (d : ℕ)
+  placed : (c : ℕ) (place : Whereabouts) (standing : Standing) → c < length n.calls → place ≡ brief standing (l.last c)
+      → (d : ℕ)
       → get_or (set n.calls c place) d Nowhere ≡ brief (noted l.standing c standing d) (l.last d)
   placed c place standing less is d =
       elim (cases_eq d c) [
@@ -173,7 +180,8 @@ module _ (shape : Shape) (l : Ledger) (n : Notes) (t ends : ℕ) (r : Running) (
 
   settled_owner : (s : Standing) (last : Option ℕ) (index visit : ℕ) → index < length n.slots → (i : ℕ)
       → (slot (note.settles_if (brief s last) index visit n) i).owner ≡ l.owner i
-  settled_owner (Inside at) last index visit less i = set_kept (λ x. x.owner) l.owner n.slots index i _ _ less refl h.owner
+  settled_owner (Inside at) last index visit less i = set_kept (λ x. x.owner) l.owner n.slots index i _ _ less refl
+      h.owner
   settled_owner Outside None index visit less i = h.owner i
   settled_owner Outside (Some e) index visit less i = h.owner i
   settled_owner (Gone at v p) last index visit less i = h.owner i
@@ -181,19 +189,23 @@ module _ (shape : Shape) (l : Ledger) (n : Notes) (t ends : ℕ) (r : Running) (
   settled_owner (Stood v p) last index visit less i = h.owner i
 
   settled_settled : (s : Standing) (last : Option ℕ) (index visit : ℕ) → index < length n.slots → (i : ℕ)
-      → (slot (note.settles_if (brief s last) index visit n) i).settled ≡ cond (is_inside s) (noted l.settled index true i) (l.settled i)
-  settled_settled (Inside at) last index visit less i = set_new (λ x. x.settled) l.settled n.slots index i _ _ true less refl h.settled
+      → (slot (note.settles_if (brief s last) index visit n) i).settled
+      ≡ cond (is_inside s) (noted l.settled index true i) (l.settled i)
+  settled_settled (Inside at) last index visit less i = set_new (λ x. x.settled) l.settled n.slots index i _ _ true less
+      refl h.settled
   settled_settled Outside None index visit less i = h.settled i
   settled_settled Outside (Some e) index visit less i = h.settled i
   settled_settled (Gone at v p) last index visit less i = h.settled i
   settled_settled (Took c v p) last index visit less i = h.settled i
   settled_settled (Stood v p) last index visit less i = h.settled i
 
-  settled_point : (s : Standing) (last : Option ℕ) (index at visit : ℕ) → index < length n.slots → at ≡ visit → l.head ≤ visit → (i : ℕ)
+  settled_point : (s : Standing) (last : Option ℕ) (index at visit : ℕ) → index < length n.slots → at ≡ visit
+      → l.head ≤ visit → (i : ℕ)
       → (slot (note.settles_if (brief s last) index at n) i).point
       ≡ cond (is_inside s) (noted l.point index (settle_point l visit) i) (l.point i)
   settled_point (Inside slot_at) last index at visit less same from i =
-      set_new (λ x. x.point) l.point n.slots index i _ _ (settle_point l visit) less (point_is at visit same from) h.point
+      set_new (λ x. x.point) l.point n.slots index i _ _ (settle_point l visit) less (point_is at visit same from)
+      h.point
   settled_point Outside None index at visit less same from i = h.point i
   settled_point Outside (Some e) index at visit less same from i = h.point i
   settled_point (Gone slot_at v p) last index at visit less same from i = h.point i
@@ -201,7 +213,8 @@ module _ (shape : Shape) (l : Ledger) (n : Notes) (t ends : ℕ) (r : Running) (
   settled_point (Stood v p) last index at visit less same from i = h.point i
 
   -- settling leaves all else as it was
-  settled_rest : (P : Notes → Type 0) (place : Whereabouts) (index visit : ℕ) → P n → ((filling : _) → P (note.slot_is index filling n))
+  settled_rest : (P : Notes → Type 0) (place : Whereabouts) (index visit : ℕ) → P n
+      → ((filling : _) → P (note.slot_is index filling n))
       → P (note.settles_if place index visit n)
   settled_rest P (InSlot at) index visit none one = one _
   settled_rest P Nowhere index visit none one = none
@@ -214,7 +227,8 @@ module _ (shape : Shape) (l : Ledger) (n : Notes) (t ends : ℕ) (r : Running) (
       → P (note.settles t index visit n)
   rest index visit P none one = settled_rest P (whereabouts n (own_call n t)) index visit none one
 
-  settle_visit_is : (segment : ℕ) → n.head + distance shape.n (head_of ends) segment ≡ settle_visit shape l (head_of ends) segment
+  settle_visit_is : (segment : ℕ) → n.head + distance shape.n (head_of ends) segment
+      ≡ settle_visit shape l (head_of ends) segment
   unfolding settle_visit
   settle_visit_is segment = ap (λ x. x + distance shape.n (head_of ends) segment) h.head
 
@@ -228,20 +242,24 @@ module _ (shape : Shape) (l : Ledger) (n : Notes) (t ends : ℕ) (r : Running) (
       let visit : n.head + distance shape.n (head_of ends) segment ≡ settle_visit shape l (head_of ends) segment =
       settle_visit_is segment in
       record {
-        step = rest index (n.head + distance shape.n (head_of ends) segment) (λ m. m.step + 1 ≡ l.now + 1) (ap (λ x. x + 1) h.step)
-            (λ f. ap (λ x. x + 1) h.step);
-        head = rest index (n.head + distance shape.n (head_of ends) segment) (λ m. m.head ≡ l.head) h.head (λ f. h.head);
-        tail = rest index (n.head + distance shape.n (head_of ends) segment) (λ m. m.tail ≡ l.tail) h.tail (λ f. h.tail);
-        heads = rest index (n.head + distance shape.n (head_of ends) segment) (λ m. TellVisits l.heads l.head m.heads) h.heads
-            (λ f. h.heads);
-        tails = rest index (n.head + distance shape.n (head_of ends) segment) (λ m. TellVisits l.tails l.tail m.tails) h.tails
-            (λ f. h.tails);
-        own = λ u. rest index (n.head + distance shape.n (head_of ends) segment) (λ m. own_call m u ≡ l.caller u) (h.own u) (λ f. h.own u);
-        head_seen = λ u. rest index (n.head + distance shape.n (head_of ends) segment) (λ m. (caller m u).head_seen ≡ l.head_seen u)
-            (h.head_seen u) (λ f. h.head_seen u);
-        begun = rest index (n.head + distance shape.n (head_of ends) segment) (λ m. m.begun ≡ l.calls) h.begun (λ f. h.begun);
-        calls = λ c. rest index (n.head + distance shape.n (head_of ends) segment) (λ m. whereabouts m c ≡ brief (l.standing c) (l.last c))
-            (h.calls c) (λ f. h.calls c);
+        step = rest index (n.head + distance shape.n (head_of ends) segment) (λ m. m.step + 1 ≡ l.now + 1)
+            (ap (λ x. x + 1) h.step) (λ f. ap (λ x. x + 1) h.step);
+        head = rest index (n.head + distance shape.n (head_of ends) segment) (λ m. m.head ≡ l.head) h.head
+            (λ f. h.head);
+        tail = rest index (n.head + distance shape.n (head_of ends) segment) (λ m. m.tail ≡ l.tail) h.tail
+            (λ f. h.tail);
+        heads = rest index (n.head + distance shape.n (head_of ends) segment) (λ m. TellVisits l.heads l.head m.heads)
+            h.heads (λ f. h.heads);
+        tails = rest index (n.head + distance shape.n (head_of ends) segment) (λ m. TellVisits l.tails l.tail m.tails)
+            h.tails (λ f. h.tails);
+        own = λ u. rest index (n.head + distance shape.n (head_of ends) segment) (λ m. own_call m u ≡ l.caller u)
+            (h.own u) (λ f. h.own u);
+        head_seen = λ u. rest index (n.head + distance shape.n (head_of ends) segment)
+            (λ m. (caller m u).head_seen ≡ l.head_seen u) (h.head_seen u) (λ f. h.head_seen u);
+        begun = rest index (n.head + distance shape.n (head_of ends) segment) (λ m. m.begun ≡ l.calls) h.begun
+            (λ f. h.begun);
+        calls = λ c. rest index (n.head + distance shape.n (head_of ends) segment)
+            (λ m. whereabouts m c ≡ brief (l.standing c) (l.last c)) (h.calls c) (λ f. h.calls c);
         owner = λ i. rw place (settled_owner (l.standing (l.caller t)) (l.last (l.caller t)) index
             (n.head + distance shape.n (head_of ends) segment) less i);
         settled = λ i. rw place (settled_settled (l.standing (l.caller t)) (l.last (l.caller t)) index
@@ -262,24 +280,27 @@ module _ (shape : Shape) (l : Ledger) (n : Notes) (t ends : ℕ) (r : Running) (
         heads = rest index (n.head) (λ m. TellVisits l.heads l.head m.heads) h.heads (λ f. h.heads);
         tails = rest index (n.head) (λ m. TellVisits l.tails l.tail m.tails) h.tails (λ f. h.tails);
         own = λ u. rest index (n.head) (λ m. own_call m u ≡ l.caller u) (h.own u) (λ f. h.own u);
-        head_seen = λ u. rest index (n.head) (λ m. (caller m u).head_seen ≡ l.head_seen u) (h.head_seen u) (λ f. h.head_seen u);
+        head_seen = λ u. rest index (n.head) (λ m. (caller m u).head_seen ≡ l.head_seen u) (h.head_seen u)
+            (λ f. h.head_seen u);
         begun = rest index (n.head) (λ m. m.begun ≡ l.calls) h.begun (λ f. h.begun);
-        calls = λ c. rest index (n.head) (λ m. whereabouts m c ≡ brief (l.standing c) (l.last c)) (h.calls c) (λ f. h.calls c);
+        calls = λ c. rest index (n.head) (λ m. whereabouts m c ≡ brief (l.standing c) (l.last c)) (h.calls c)
+            (λ f. h.calls c);
         owner = λ i. rw place (settled_owner (l.standing (l.caller t)) (l.last (l.caller t)) index (n.head) less i);
         settled = λ i. rw place (settled_settled (l.standing (l.caller t)) (l.last (l.caller t)) index (n.head) less i);
-        point = λ i. rw place (settled_point (l.standing (l.caller t)) (l.last (l.caller t)) index n.head l.head less visit (omega arith)
-            i);
+        point = λ i. rw place (settled_point (l.standing (l.caller t)) (l.last (l.caller t)) index n.head l.head less
+            visit (omega arith) i);
       }
 
   -- one visit more was left
-  left_more : (left : ℕ → ℕ) (number : ℕ) (steps : List ℕ) (step now : ℕ) → 0 < length steps → step ≡ now → TellVisits left number steps
+  left_more : (left : ℕ → ℕ) (number : ℕ) (steps : List ℕ) (step now : ℕ) → 0 < length steps → step ≡ now
+      → TellVisits left number steps
       → TellVisits (noted left number now) (number + 1) (leaves number step steps)
   left_more left number steps step now some is old visit below near =
       let same : length (leaves number step steps) ≡ length steps = length-set steps (number % length steps) step in
       let room : number + 1 ≤ visit + length steps = omega (arith, same) in
       rw same (elim (cases_eq visit number) [
-        | inl e ↦ get_or-set_at steps (number % length steps) (visit % length steps) step 0 (ap (λ x. x % length steps) e)
-            (mod-lt number some) ∙ is ∙ sym (noted-same left number visit now e)
+        | inl e ↦ get_or-set_at steps (number % length steps) (visit % length steps) step 0
+            (ap (λ x. x % length steps) e) (mod-lt number some) ∙ is ∙ sym (noted-same left number visit now e)
         | inr ne ↦
             let lt : visit < number = omega arith in
             get_or-set_other steps (number % length steps) (visit % length steps) step 0
@@ -320,7 +341,8 @@ module _ (shape : Shape) (l : Ledger) (n : Notes) (t ends : ℕ) (r : Running) (
   }
 
   -- the points of an item's enqueue and of the dequeue that takes it
-  gone_is : (index visit : ℕ) → visit < l.tail → l.tail ≤ visit + length n.tails → note.gone_point n index visit ≡ gone_point l index visit
+  gone_is : (index visit : ℕ) → visit < l.tail → l.tail ≤ visit + length n.tails → note.gone_point n index visit
+      ≡ gone_point l index visit
   unfolding gone_point
   gone_is index visit below near = rw (h.settled index, h.point index, h.tails visit below near) refl
 
@@ -332,7 +354,8 @@ module _ (shape : Shape) (l : Ledger) (n : Notes) (t ends : ℕ) (r : Running) (
   -- two calls go to standings of which this is told
   two_placed : (c d : ℕ) (at to : Whereabouts) (standing other : Standing) → c < length n.calls → d < length n.calls
       → at ≡ brief standing (l.last c) → to ≡ brief other (l.last d)
-      → (e : ℕ) → get_or (set (set n.calls c at) d to) e Nowhere ≡ brief (noted (noted l.standing c standing) d other e) (l.last e)
+      → (e : ℕ) → get_or (set (set n.calls c at) d to) e Nowhere ≡ brief (noted (noted l.standing c standing) d other e)
+      (l.last e)
   two_placed c d at to standing other below below2 is is2 e =
       let same : length (set n.calls c at) ≡ length n.calls = length-set n.calls c at in
       elim (cases_eq e d) [
@@ -345,9 +368,13 @@ module _ (shape : Shape) (l : Ledger) (n : Notes) (t ends : ℕ) (r : Running) (
 
   -- a thread takes the item of a slot, in this visit
   taken_calls : (index visit owner own : ℕ) → owner ≡ l.owner index → own ≡ l.caller t → visit ≡ l.head_seen t
-      → l.owner index < length n.calls → visit < l.tail → l.tail ≤ visit + length n.tails → l.head ≤ visit + length n.heads
-      → (c : ℕ) → get_or (set (set n.calls owner (At (note.gone_point n index visit))) own (At (note.took_point n visit))) c Nowhere
-      ≡ brief (noted (noted l.standing (l.owner index) (Gone index (l.head_seen t) (gone_point l index (l.head_seen t)))) (l.caller t)
+      → l.owner index < length n.calls → visit < l.tail → l.tail ≤ visit + length n.tails
+      → l.head ≤ visit + length n.heads
+      → (c : ℕ) → get_or (set (set n.calls owner (At (note.gone_point n index visit))) own
+      (At (note.took_point n visit))) c Nowhere
+      ≡ brief (noted
+      (noted l.standing (l.owner index) (Gone index (l.head_seen t) (gone_point l index (l.head_seen t))))
+      (l.caller t)
       (Took (l.owner index) (l.head_seen t) (took_point l (l.head_seen t))) c) (l.last c)
   taken_calls index visit owner own owner_is own_is visit_is below under near_tail near_head c =
       rw (owner_is, own_is)
@@ -373,8 +400,8 @@ module _ (shape : Shape) (l : Ledger) (n : Notes) (t ends : ℕ) (r : Running) (
         owner = λ i. set_kept (λ s. s.owner) l.owner n.slots index i _ _ less refl h.owner;
         settled = λ i. set_new (λ s. s.settled) l.settled n.slots index i _ _ false less refl h.settled;
         point = λ i. set_kept (λ s. s.point) l.point n.slots index i _ _ less refl h.point;
-        calls = λ c. taken_calls index (caller n t).head_seen (slot n index).owner (own_call n t) (h.owner index) (h.own t) seen below
-            (omega arith) (omega arith) (omega arith) c;
+        calls = λ c. taken_calls index (caller n t).head_seen (slot n index).owner (own_call n t) (h.owner index)
+            (h.own t) seen below (omega arith) (omega arith) (omega arith) c;
       }
 
   -- after any action
@@ -405,7 +432,8 @@ module _ (shape : Shape) (l : Ledger) (n : Notes) (t ends : ℕ) (r : Running) (
   tells_marked RecheckEmpty can = tells_recheck_empty
 
 -- a call that ends has its point there, where it had none before
-ends_at : (place : Whereabouts) (standing : Standing) (last : Option ℕ) (now : ℕ) → last ≡ None → place ≡ brief standing last
+ends_at : (place : Whereabouts) (standing : Standing) (last : Option ℕ) (now : ℕ) → last ≡ None
+    → place ≡ brief standing last
     → note.at_end now place ≡ brief standing (Some now)
 ends_at place standing last now none is = let new : place ≡ brief standing None = is ∙ ap (brief standing) none in
     rw new (by_standing standing)
@@ -422,7 +450,8 @@ pub length-marked_calls : (shape : Shape) (n : Notes) (t ends : ℕ) (what : Act
 length-marked_calls shape n t ends what = grind (arith, length-set)
 
 module _ (shape : Shape) (l : Ledger) (n : Notes) (t ends : ℕ) (h : Tells l n) (thread : t < length n.callers)
-    (known : l.caller t < length n.calls) (unended : l.last (l.caller t) ≡ None) (near : l.tail ≤ l.head + length n.tails)
+    (known : l.caller t < length n.calls) (unended : l.last (l.caller t) ≡ None)
+    (near : l.tail ≤ l.head + length n.tails)
     (some_heads : 0 < length n.heads) (some_tails : 0 < length n.tails) where
   -- after an action with which the call ends
   told_end : (what : Action) (x : Answer) (r : Running)
@@ -447,15 +476,19 @@ module _ (shape : Shape) (l : Ledger) (n : Notes) (t ends : ℕ) (h : Tells l n)
         begun = g.begun;
         calls = λ c. elim (cases_eq c (l.caller t)) [
           | inl e ↦
-              get_or-set_at (marked shape t ends what n).calls (own_call (marked shape t ends what n) t) c _ Nowhere (e ∙ sym own) less
-              ∙ ends_at (whereabouts (marked shape t ends what n) (own_call (marked shape t ends what n) t)) (standing_after what t l c)
+              get_or-set_at (marked shape t ends what n).calls (own_call (marked shape t ends what n) t) c _ Nowhere
+              (e ∙ sym own) less
+              ∙ ends_at (whereabouts (marked shape t ends what n) (own_call (marked shape t ends what n) t))
+              (standing_after what t l c)
               (l.last c) (marked shape t ends what n).step (ap l.last e ∙ unended)
               (ap (whereabouts (marked shape t ends what n)) (own ∙ sym e) ∙ g.calls c)
               ∙ ap (λ k. brief (standing_after what t l c) (Some k)) step
               ∙ ap (brief (standing_after what t l c)) (sym (noted-same l.last (l.caller t) c (Some l.now) e))
           | inr ne ↦
-              get_or-set_other (marked shape t ends what n).calls (own_call (marked shape t ends what n) t) c _ Nowhere (λ e. ne (e ∙ own))
-              ∙ g.calls c ∙ ap (brief (standing_after what t l c)) (sym (noted-other l.last (l.caller t) c (Some l.now) ne))
+              get_or-set_other (marked shape t ends what n).calls (own_call (marked shape t ends what n) t) c _ Nowhere
+              (λ e. ne (e ∙ own))
+              ∙ g.calls c ∙ ap (brief (standing_after what t l c))
+              (sym (noted-other l.last (l.caller t) c (Some l.now) ne))
         ];
       }
 
@@ -470,7 +503,8 @@ module _ (shape : Shape) (l : Ledger) (n : Notes) (t ends : ℕ) (h : Tells l n)
       any = R.Dequeue 0 1 D.LoadEnds
 
 -- a call begins
-pub told_call : (l : Ledger) (n : Notes) (t : ℕ) (b : Begin) → Tells l n → t < length n.callers → l.standing l.calls ≡ Outside
+pub told_call : (l : Ledger) (n : Notes) (t : ℕ) (b : Begin) → Tells l n → t < length n.callers
+    → l.standing l.calls ≡ Outside
     → l.last l.calls ≡ None → Tells (called t b l) (note.called t n)
 unfolding called
 told_call l n t b h thread outside unended = record {
@@ -487,8 +521,10 @@ told_call l n t b h thread outside unended = record {
   begun = ap (λ x. x + 1) h.begun;
   calls = λ c. elim (cases_eq c l.calls) [
     | inl e ↦
-        h.calls c ∙ ap (λ s. brief s (l.last c)) (ap l.standing e ∙ outside ∙ sym (noted-same l.standing l.calls c Outside e))
-        ∙ ap (brief (noted l.standing l.calls Outside c)) (ap l.last e ∙ unended ∙ sym (noted-same l.last l.calls c None e))
+        h.calls c ∙ ap (λ s. brief s (l.last c))
+        (ap l.standing e ∙ outside ∙ sym (noted-same l.standing l.calls c Outside e))
+        ∙ ap (brief (noted l.standing l.calls Outside c))
+        (ap l.last e ∙ unended ∙ sym (noted-same l.last l.calls c None e))
     | inr ne ↦
         h.calls c ∙ ap (λ s. brief s (l.last c)) (sym (noted-other l.standing l.calls c Outside ne))
         ∙ ap (brief (noted l.standing l.calls Outside c)) (sym (noted-other l.last l.calls c None ne))

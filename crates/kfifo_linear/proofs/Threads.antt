@@ -1,5 +1,6 @@
 -- A step keeps what each thread knows.
-use Rattle.std.proofs.Common.{◌≡◌, ◌≢◌, ℕ, ◌+◌, ◌*◌, ◌%◌, ◌<◌, ◌≤◌, inl, inr, true, false, refl, sym, ◌∙◌, ap, subst, arith, Some, None}
+use Rattle.std.proofs.Common.{◌≡◌, ◌≢◌, ℕ, ◌+◌, ◌*◌, ◌%◌, ◌<◌, ◌≤◌, inl, inr, true, false, refl, sym, ◌∙◌, ap, subst}
+use Rattle.std.proofs.Common.{arith, Some, None}
 use Rattle.std.proofs.lemmas.Bool.{cases_eq, cases_Bool}
 use Rattle.std.proofs.lemmas.Bool.Decides.{nat_tests}
 use Rattle.kfifo_machine.specs.declared.place.EnqueuePhase.TheVariants as E
@@ -8,10 +9,11 @@ use Rattle.kfifo_machine.specs.declared.place.Running.TheVariants as R
 use Rattle.std.proofs.lemmas.Option.{none-some, same_Some}
 use Rattle.kfifo_linear.proofs.Abstract.{noted-other, noted-same, noted_tells, words_by}
 use Rattle.kfifo_linear.proofs.Base.{InRing, Sane, ends_in_ring, scan_index-is_slot}
-use Rattle.kfifo_linear.proofs.Claims.{EndsChange, HasLoaded, HasLoaded-others, HasLoaded-own, IfGoes, Loaded, Round, at_load, ends_change}
-use Rattle.kfifo_linear.proofs.Claims.{loaded_stays, round_stays, segment_of, segment_of-scan_index, words_rise}
-use Rattle.kfifo_linear.proofs.Invariant.{Clear, HasClear, HasOwn, HasTarget, Makes, Own, SlotOk, ThreadOk, ToFill, ToTake, is_gone}
-use Rattle.kfifo_linear.proofs.Invariant.{is_putting}
+use Rattle.kfifo_linear.proofs.Claims.{EndsChange, HasLoaded, HasLoaded-others, HasLoaded-own, IfGoes, Loaded, Round}
+use Rattle.kfifo_linear.proofs.Claims.{at_load, ends_change, loaded_stays, round_stays, segment_of}
+use Rattle.kfifo_linear.proofs.Claims.{segment_of-scan_index, words_rise}
+use Rattle.kfifo_linear.proofs.Invariant.{Clear, HasClear, HasOwn, HasTarget, Makes, Own, SlotOk, ThreadOk, ToFill}
+use Rattle.kfifo_linear.proofs.Invariant.{ToTake, is_gone, is_putting}
 use Rattle.kfifo_linear.proofs.Ring.{ends_word-above, place_below, slot_word-above}
 use Rattle.kfifo_linear.specs.Ledger.{Inside, Ledger, Outside, found_in, stepped}
 use Rattle.kfifo_machine.proofs.NoWrap.{EndsOk, other_end, same_end}
@@ -29,9 +31,11 @@ pub record Slots (shape : Shape) (w : ℕ → ℕ) (l : Ledger) : Type 0 where
   pub empty : (i : ℕ) → 0 < i → i < 1 + shape.n * shape.k → value_of (w i) ≡ 0 → l.settled i ≡ false
   pub inside : (i : ℕ) → 0 < i → i < 1 + shape.n * shape.k → value_of (w i) ≢ 0 → l.standing (l.owner i) ≡ Inside i
   pub load_to_tail : (i : ℕ) → 0 < i → i < 1 + shape.n * shape.k → value_of (w i) ≢ 0 → l.tail_at_load i ≤ l.tail
-  pub place : (i : ℕ) → 0 < i → i < 1 + shape.n * shape.k → value_of (w i) ≢ 0 → l.tail_at_load i % shape.n ≡ segment_of shape i
+  pub place : (i : ℕ) → 0 < i → i < 1 + shape.n * shape.k → value_of (w i) ≢ 0
+      → l.tail_at_load i % shape.n ≡ segment_of shape i
 
-pub slots_facts : (shape : Shape) (w : ℕ → ℕ) (l : Ledger) → ((i : ℕ) → IsSlotIndex shape i → SlotOk shape w l i) → Slots shape w l
+pub slots_facts : (shape : Shape) (w : ℕ → ℕ) (l : Ledger) → ((i : ℕ) → IsSlotIndex shape i → SlotOk shape w l i)
+    → Slots shape w l
 slots_facts shape w l h =
     record {
       untaken_to_tail = λ i a b. (h i (record { above = a; below = b })).untaken_to_tail;
@@ -51,20 +55,22 @@ makes_on shape b r word h = grind (arith, nat_tests)
 -- what a scan has seen empty holds no settled item
 keeps_clear : (shape : Shape) (w : ℕ → ℕ) (l : Ledger) (t : ℕ) (r : Running) → Sane shape r → HasClear shape w l r
     → ((i : ℕ) → 0 < i → i < 1 + shape.n * shape.k → value_of (w i) ≡ 0 → l.settled i ≡ false)
-    → IfGoes (HasClear shape (words_by (access shape r) w) (stepped shape w t r l)) (advance shape r (found_in shape w r))
+    → IfGoes (HasClear shape (words_by (access shape r) w) (stepped shape w t r l))
+    (advance shape r (found_in shape w r))
 unfolding stepped
 keeps_clear shape w l t r s c empty =
     let k : 0 < shape.k = shape.some_slot in
     grind (arith, nat_tests, scan_index-is_slot)
 
 -- one's own step
-module _ (shape : Shape) (w : ℕ → ℕ) (l : Ledger) (t : ℕ) (r : Running) (s : Sane shape r) (ok : EndsOk shape (w 0) l.head l.tail)
-    (me : ThreadOk shape w l t r) (all : Slots shape w l) where
+module _ (shape : Shape) (w : ℕ → ℕ) (l : Ledger) (t : ℕ) (r : Running) (s : Sane shape r)
+    (ok : EndsOk shape (w 0) l.head l.tail) (me : ThreadOk shape w l t r) (all : Slots shape w l) where
   own_unended : IfGoes (λ q. (stepped shape w t r l).last (l.caller t) ≡ None) (advance shape r (found_in shape w r))
   unfolding stepped
   own_unended = let u = me.unended in grind (arith, nat_tests)
 
-  own_unanswered : IfGoes (λ q. (stepped shape w t r l).answer (l.caller t) ≡ None) (advance shape r (found_in shape w r))
+  own_unanswered : IfGoes (λ q. (stepped shape w t r l).answer (l.caller t) ≡ None)
+      (advance shape r (found_in shape w r))
   unfolding stepped
   own_unanswered = let u = me.unanswered in grind (arith, nat_tests)
 
@@ -76,11 +82,14 @@ module _ (shape : Shape) (w : ℕ → ℕ) (l : Ledger) (t : ℕ) (r : Running) 
   unfolding stepped
   own_fresh = let f = me.fresh in let o = me.own in grind (arith, nat_tests, noted_tells)
 
-  own_own : IfGoes (HasOwn shape (words_by (access shape r) w) (stepped shape w t r l) t) (advance shape r (found_in shape w r))
+  own_own : IfGoes (HasOwn shape (words_by (access shape r) w) (stepped shape w t r l) t)
+      (advance shape r (found_in shape w r))
   unfolding stepped
-  own_own = let f = me.fresh in let o = me.own in let g = me.target in let ld = me.loaded in grind (arith, nat_tests, noted_tells)
+  own_own = let f = me.fresh in let o = me.own in let g = me.target in let ld = me.loaded in
+      grind (arith, nat_tests, noted_tells)
 
-  own_target : IfGoes (HasTarget shape (words_by (access shape r) w) (stepped shape w t r l) t) (advance shape r (found_in shape w r))
+  own_target : IfGoes (HasTarget shape (words_by (access shape r) w) (stepped shape w t r l) t)
+      (advance shape r (found_in shape w r))
   unfolding stepped
   own_target =
       let g = me.target in
@@ -90,7 +99,8 @@ module _ (shape : Shape) (w : ℕ → ℕ) (l : Ledger) (t : ℕ) (r : Running) 
       let other = other_end shape (w 0) l.head l.tail ok in
       grind (arith, nat_tests, noted_tells, segment_of-scan_index, place_below)
 
-  own_clear : IfGoes (HasClear shape (words_by (access shape r) w) (stepped shape w t r l)) (advance shape r (found_in shape w r))
+  own_clear : IfGoes (HasClear shape (words_by (access shape r) w) (stepped shape w t r l))
+      (advance shape r (found_in shape w r))
   unfolding stepped
   own_clear = keeps_clear shape w l t r s me.clear all.empty
 
@@ -102,14 +112,17 @@ module _ (shape : Shape) (w : ℕ → ℕ) (l : Ledger) (t : ℕ) (r : Running) 
   unfolding stepped
   own_seen = grind (arith, nat_tests)
 
-  own_opened : at_load r ≡ true → Loaded shape (words_by (access shape r) w) (stepped shape w t r l) t (found_in shape w r)
+  own_opened : at_load r ≡ true
+      → Loaded shape (words_by (access shape r) w) (stepped shape w t r l) t (found_in shape w r)
   unfolding stepped
   own_opened = grind (arith, nat_tests, noted-same)
 
-  own_loaded : IfGoes (HasLoaded shape (words_by (access shape r) w) (stepped shape w t r l) t) (advance shape r (found_in shape w r))
+  own_loaded : IfGoes (HasLoaded shape (words_by (access shape r) w) (stepped shape w t r l) t)
+      (advance shape r (found_in shape w r))
   own_loaded =
       HasLoaded-own shape w (words_by (access shape r) w) l (stepped shape w t r l) t r (found_in shape w r)
-      (λ x a ld. loaded_stays shape w (words_by (access shape r) w) l (stepped shape w t r l) t x own_change (own_seen a).0 (own_seen a).1
+      (λ x a ld. loaded_stays shape w (words_by (access shape r) w) l (stepped shape w t r l) t x own_change
+      (own_seen a).0 (own_seen a).1
       ld)
       own_opened me.loaded
 
@@ -117,7 +130,8 @@ module _ (shape : Shape) (w : ℕ → ℕ) (l : Ledger) (t : ℕ) (r : Running) 
   unfolding stepped
   own_round_opened = grind (arith, nat_tests, noted-same)
 
-  own_kept : ((stepped shape w t r l).caller t ≡ l.caller t) × ((stepped shape w t r l).first (l.caller t) ≡ l.first (l.caller t))
+  own_kept : ((stepped shape w t r l).caller t ≡ l.caller t)
+      × ((stepped shape w t r l).first (l.caller t) ≡ l.first (l.caller t))
       × ((stepped shape w t r l).calls ≡ l.calls) × ((stepped shape w t r l).now ≡ l.now + 1)
   unfolding stepped
   own_kept = (refl, refl, refl, refl)
@@ -126,8 +140,8 @@ module _ (shape : Shape) (w : ℕ → ℕ) (l : Ledger) (t : ℕ) (r : Running) 
   own_round =
       elim (cases_Bool (at_load r)) [
         | inl a ↦ own_round_opened a
-        | inr a ↦ round_stays w (words_by (access shape r) w) l (stepped shape w t r l) t own_change (own_seen a).0 (own_seen a).1
-            own_kept.0 own_kept.1 me.started (me.round a)
+        | inr a ↦ round_stays w (words_by (access shape r) w) l (stepped shape w t r l) t own_change (own_seen a).0
+            (own_seen a).1 own_kept.0 own_kept.1 me.started (me.round a)
       ]
 
   pub own_thread : (q : Running) → place_after (advance shape r (found_in shape w r)) ≡ Some q
@@ -137,60 +151,72 @@ module _ (shape : Shape) (w : ℕ → ℕ) (l : Ledger) (t : ℕ) (r : Running) 
       record {
         known = omega (arith, me.known, own_kept.0, own_kept.2);
         started = omega (arith, me.started, own_kept.1, own_kept.3);
-        unended = goes_at (λ x. (stepped shape w t r l).last (l.caller t) ≡ None) (advance shape r (found_in shape w r)) q e own_unended;
-        unanswered = goes_at (λ x. (stepped shape w t r l).answer (l.caller t) ≡ None) (advance shape r (found_in shape w r)) q e
-            own_unanswered;
+        unended = goes_at (λ x. (stepped shape w t r l).last (l.caller t) ≡ None) (advance shape r (found_in shape w r))
+            q e own_unended;
+        unanswered = goes_at (λ x. (stepped shape w t r l).answer (l.caller t) ≡ None)
+            (advance shape r (found_in shape w r)) q e own_unanswered;
         makes = goes_at (Makes (l.begin (l.caller t))) (advance shape r (found_in shape w r)) q e own_makes;
         round = λ _. own_round;
-        loaded = goes_at (HasLoaded shape (words_by (access shape r) w) (stepped shape w t r l) t) (advance shape r (found_in shape w r)) q
-            e own_loaded;
+        loaded = goes_at (HasLoaded shape (words_by (access shape r) w) (stepped shape w t r l) t)
+            (advance shape r (found_in shape w r)) q e own_loaded;
         fresh = goes_at (λ x. is_putting x ≡ false → (stepped shape w t r l).standing (l.caller t) ≡ Outside)
             (advance shape r (found_in shape w r)) q e own_fresh;
-        own = goes_at (HasOwn shape (words_by (access shape r) w) (stepped shape w t r l) t) (advance shape r (found_in shape w r)) q e
-            own_own;
-        target = goes_at (HasTarget shape (words_by (access shape r) w) (stepped shape w t r l) t) (advance shape r (found_in shape w r)) q
-            e own_target;
-        clear = goes_at (HasClear shape (words_by (access shape r) w) (stepped shape w t r l)) (advance shape r (found_in shape w r)) q e
-            own_clear;
+        own = goes_at (HasOwn shape (words_by (access shape r) w) (stepped shape w t r l) t)
+            (advance shape r (found_in shape w r)) q e own_own;
+        target = goes_at (HasTarget shape (words_by (access shape r) w) (stepped shape w t r l) t)
+            (advance shape r (found_in shape w r)) q e own_target;
+        clear = goes_at (HasClear shape (words_by (access shape r) w) (stepped shape w t r l))
+            (advance shape r (found_in shape w r)) q e own_clear;
       }
 
-pub HasOwn-others : (shape : Shape) (w w' : ℕ → ℕ) (l l' : Ledger) (u : ℕ) (q : Running) → Sane shape q → l'.tail_seen u ≡ l.tail_seen u
-    → ((index filled : ℕ) → IsSlotIndex shape index → value_of filled ≢ 0 → Own shape w l u index filled → Own shape w' l' u index filled)
+pub HasOwn-others : (shape : Shape) (w w' : ℕ → ℕ) (l l' : Ledger) (u : ℕ) (q : Running) → Sane shape q
+    → l'.tail_seen u ≡ l.tail_seen u
+    → ((index filled : ℕ) → IsSlotIndex shape index → value_of filled ≢ 0 → Own shape w l u index filled
+    → Own shape w' l' u index filled)
     → HasOwn shape w l u q → HasOwn shape w' l' u q
 HasOwn-others shape w w' l l' u q s e keep h = grind arith
 
 pub HasTarget-others : (shape : Shape) (w w' : ℕ → ℕ) (l l' : Ledger) (u : ℕ) (q : Running) → Sane shape q
     → ((index empty : ℕ) → IsSlotIndex shape index → ToFill shape w l u index empty → ToFill shape w' l' u index empty)
     → ((index empty : ℕ) → IsSlotIndex shape index → ToFill shape w l u index empty
-    → (w index ≡ empty → l.untaken_from index ≤ l.tail_seen u) → w' index ≡ empty → l'.untaken_from index ≤ l'.tail_seen u)
-    → ((index filled : ℕ) → IsSlotIndex shape index → ToTake shape w l u index filled → ToTake shape w' l' u index filled)
+    → (w index ≡ empty → l.untaken_from index ≤ l.tail_seen u) → w' index ≡ empty
+    → l'.untaken_from index ≤ l'.tail_seen u)
+    → ((index filled : ℕ) → IsSlotIndex shape index → ToTake shape w l u index filled → ToTake shape w' l' u index
+    filled)
     → ((index filled : ℕ) → IsSlotIndex shape index → ToTake shape w l u index filled
-    → (w index ≡ filled → l.tail_at_load index ≤ l.head_seen u) → w' index ≡ filled → l'.tail_at_load index ≤ l'.head_seen u)
+    → (w index ≡ filled → l.tail_at_load index ≤ l.head_seen u) → w' index ≡ filled
+    → l'.tail_at_load index ≤ l'.head_seen u)
     → (l.head_seen u < l.tail → l'.head_seen u < l'.tail)
     → HasTarget shape w l u q → HasTarget shape w' l' u q
-HasTarget-others shape w w' l l' u (R.Enqueue item start left (E.Recheck ends (Slot index seen))) s fill untaken take old past h =
+HasTarget-others shape w w' l l' u (R.Enqueue item start left (E.Recheck ends (Slot index seen))) s fill untaken take
+    old past h =
     fill index seen s.3.1 h
 HasTarget-others shape w w' l l' u (R.Enqueue item start left (E.Put ends index empty)) s fill untaken take old past h =
     (fill index empty s.3.1 h.0, untaken index empty s.3.1 h.0 h.1)
-HasTarget-others shape w w' l l' u (R.Dequeue start left (D.Recheck ends (Slot index seen))) s fill untaken take old past h =
+HasTarget-others shape w w' l l' u (R.Dequeue start left (D.Recheck ends (Slot index seen))) s fill untaken take old
+    past h =
     take index seen s.1.1 h
-HasTarget-others shape w w' l l' u (R.Dequeue start left (D.MoveTail ends index filled)) s fill untaken take old past h =
+HasTarget-others shape w w' l l' u (R.Dequeue start left (D.MoveTail ends index filled)) s fill untaken take old
+    past h =
     (take index filled s.1.1 h.0, old index filled s.1.1 h.0 h.1)
 HasTarget-others shape w w' l l' u (R.Dequeue start left (D.Take ends index filled)) s fill untaken take old past h =
     (take index filled s.1.0 h.0, old index filled s.1.0 h.0 h.1, past h.2)
 HasTarget-others shape w w' l l' u other s fill untaken take old past h = tt
 
 pub HasClear-others : (shape : Shape) (w w' : ℕ → ℕ) (l l' : Ledger) (u : ℕ) (q : Running)
-    → ((ends start offset : ℕ) → Loaded shape w l u ends → Clear shape w l ends start offset → Clear shape w' l' ends start offset)
+    → ((ends start offset : ℕ) → Loaded shape w l u ends → Clear shape w l ends start offset → Clear shape w' l' ends
+    start offset)
     → HasLoaded shape w l u q → HasClear shape w l q → HasClear shape w' l' q
 HasClear-others shape w w' l l' u q keep ld h = grind arith
 
 -- another thread's step
-module _ (shape : Shape) (w : ℕ → ℕ) (l : Ledger) (t : ℕ) (r : Running) (s : Sane shape r) (ok : EndsOk shape (w 0) l.head l.tail)
-    (me : ThreadOk shape w l t r) (all : Slots shape w l)
-    (u : ℕ) (q : Running) (ne : u ≡ t → ⊥) (sq : Sane shape q) (them : ThreadOk shape w l u q) (apart : l.caller u ≡ l.caller t → ⊥) where
+module _ (shape : Shape) (w : ℕ → ℕ) (l : Ledger) (t : ℕ) (r : Running) (s : Sane shape r)
+    (ok : EndsOk shape (w 0) l.head l.tail) (me : ThreadOk shape w l t r) (all : Slots shape w l)
+    (u : ℕ) (q : Running) (ne : u ≡ t → ⊥) (sq : Sane shape q) (them : ThreadOk shape w l u q)
+    (apart : l.caller u ≡ l.caller t → ⊥) where
   other_kept : ((stepped shape w t r l).caller u ≡ l.caller u) × ((stepped shape w t r l).head_seen u ≡ l.head_seen u)
-      × ((stepped shape w t r l).tail_seen u ≡ l.tail_seen u) × ((stepped shape w t r l).last (l.caller u) ≡ l.last (l.caller u))
+      × ((stepped shape w t r l).tail_seen u ≡ l.tail_seen u)
+      × ((stepped shape w t r l).last (l.caller u) ≡ l.last (l.caller u))
       × ((stepped shape w t r l).answer (l.caller u) ≡ l.answer (l.caller u))
   unfolding stepped
   other_kept = grind (arith, nat_tests, noted-other)
@@ -204,25 +230,30 @@ module _ (shape : Shape) (w : ℕ → ℕ) (l : Ledger) (t : ℕ) (r : Running) 
   unfolding stepped
   slot_owner i pos e = grind (arith, nat_tests, noted_tells, slot_word-above)
 
-  slot_load : (i : ℕ) → 0 < i → words_by (access shape r) w i ≡ w i → (stepped shape w t r l).tail_at_load i ≡ l.tail_at_load i
+  slot_load : (i : ℕ) → 0 < i → words_by (access shape r) w i ≡ w i → (stepped shape w t r l).tail_at_load i
+      ≡ l.tail_at_load i
   unfolding stepped
   slot_load i pos e = grind (arith, nat_tests, noted_tells, slot_word-above)
 
-  slot_untaken : (i : ℕ) → 0 < i → words_by (access shape r) w i ≡ w i → (stepped shape w t r l).untaken_from i ≡ l.untaken_from i
+  slot_untaken : (i : ℕ) → 0 < i → words_by (access shape r) w i ≡ w i → (stepped shape w t r l).untaken_from i
+      ≡ l.untaken_from i
   unfolding stepped
   slot_untaken i pos e = grind (arith, nat_tests, noted_tells, slot_word-above)
 
-  slot_unsettled : (i : ℕ) → 0 < i → words_by (access shape r) w i ≡ w i → l.standing (l.caller u) ≡ Inside i → l.settled i ≡ false
+  slot_unsettled : (i : ℕ) → 0 < i → words_by (access shape r) w i ≡ w i → l.standing (l.caller u) ≡ Inside i
+      → l.settled i ≡ false
       → l.owner i ≡ l.caller u → (stepped shape w t r l).settled i ≡ false
   unfolding stepped
   slot_unsettled i pos e st f o = let own = me.own in grind (arith, nat_tests, noted_tells, slot_word-above)
 
-  slot_inside : (i : ℕ) → 0 < i → words_by (access shape r) w i ≡ w i → l.standing (l.caller u) ≡ Inside i → l.owner i ≡ l.caller u
+  slot_inside : (i : ℕ) → 0 < i → words_by (access shape r) w i ≡ w i → l.standing (l.caller u) ≡ Inside i
+      → l.owner i ≡ l.caller u
       → (stepped shape w t r l).standing (l.caller u) ≡ Inside i
   unfolding stepped
   slot_inside i pos e st o = let own = me.own in grind (arith, nat_tests, noted_tells, slot_word-above)
 
-  slot_taken : (i : ℕ) → 0 < i → (words_by (access shape r) w i ≡ w i → ⊥) → value_of (w i) ≢ 0 → l.standing (l.caller u) ≡ Inside i
+  slot_taken : (i : ℕ) → 0 < i → (words_by (access shape r) w i ≡ w i → ⊥) → value_of (w i) ≢ 0
+      → l.standing (l.caller u) ≡ Inside i
       → l.owner i ≡ l.caller u → is_gone ((stepped shape w t r l).standing (l.caller u)) ≡ true
   unfolding stepped
   slot_taken i pos e v st o = let own = me.own in grind (arith, nat_tests, noted_tells)
@@ -251,14 +282,18 @@ module _ (shape : Shape) (w : ℕ → ℕ) (l : Ledger) (t : ℕ) (r : Running) 
             let z : words_by (access shape r) w index ≡ w index = omega (arith, own.below) in
             slot_unsettled index i.above z (own.inside (sym z ∙ e)) (own.unsettled (sym z ∙ e)) (own.owner (sym z ∙ e));
         gone = λ n. rw other_kept.0 (elim (cases_eq (w index) filled) [
-          | inl e ↦ slot_taken index i.above (λ z. n (z ∙ e)) (λ x. v (ap value_of (sym e) ∙ x)) (own.inside e) (own.owner e)
+          | inl e ↦ slot_taken index i.above (λ z. n (z ∙ e)) (λ x. v (ap value_of (sym e) ∙ x)) (own.inside e)
+              (own.owner e)
           | inr m ↦ other_gone (own.gone m)
         ]);
       }
 
   other_to_fill : (index empty : ℕ) → IsSlotIndex shape index → ToFill shape w l u index empty
       → ToFill shape (words_by (access shape r) w) (stepped shape w t r l) u index empty
-  other_to_fill index empty i f = record { place = rw other_kept.2 f.place; below = omega (arith, f.below, rises index) }
+  other_to_fill index empty i f = record {
+    place = rw other_kept.2 f.place;
+    below = omega (arith, f.below, rises index);
+  }
 
   other_fill_untaken : (index empty : ℕ) → IsSlotIndex shape index → ToFill shape w l u index empty
       → (w index ≡ empty → l.untaken_from index ≤ l.tail_seen u) → words_by (access shape r) w index ≡ empty
@@ -269,7 +304,10 @@ module _ (shape : Shape) (w : ℕ → ℕ) (l : Ledger) (t : ℕ) (r : Running) 
 
   other_to_take : (index filled : ℕ) → IsSlotIndex shape index → ToTake shape w l u index filled
       → ToTake shape (words_by (access shape r) w) (stepped shape w t r l) u index filled
-  other_to_take index filled i f = record { place = rw other_kept.1 f.place; below = omega (arith, f.below, rises index) }
+  other_to_take index filled i f = record {
+    place = rw other_kept.1 f.place;
+    below = omega (arith, f.below, rises index);
+  }
 
   other_take_old : (index filled : ℕ) → IsSlotIndex shape index → ToTake shape w l u index filled
       → (w index ≡ filled → l.tail_at_load index ≤ l.head_seen u) → words_by (access shape r) w index ≡ filled
@@ -282,7 +320,8 @@ module _ (shape : Shape) (w : ℕ → ℕ) (l : Ledger) (t : ℕ) (r : Running) 
   other_change = ends_change shape w l t r s ok
 
   -- a step that leaves the ends as they are settles nothing in the head's segment
-  head_unsettled : (i : ℕ) → words_by (access shape r) w 0 ≡ w 0 → segment_of shape i ≡ head_of (w 0) → l.settled i ≡ false
+  head_unsettled : (i : ℕ) → words_by (access shape r) w 0 ≡ w 0 → segment_of shape i ≡ head_of (w 0)
+      → l.settled i ≡ false
       → (stepped shape w t r l).settled i ≡ false
   unfolding stepped
   head_unsettled i e g f =
@@ -297,22 +336,27 @@ module _ (shape : Shape) (w : ℕ → ℕ) (l : Ledger) (t : ℕ) (r : Running) 
   other_clear ends start offset ld c e o below =
       let z : words_by (access shape r) w 0 ≡ w 0 = omega (arith, ld.below, rises 0) in
       let x : w 0 ≡ ends = sym z ∙ e in
-      head_unsettled (scan_index shape (head_of ends) start o) z (segment_of-scan_index shape (head_of ends) start o ∙ ap head_of (sym x))
+      head_unsettled (scan_index shape (head_of ends) start o) z (segment_of-scan_index shape (head_of ends) start o
+      ∙ ap head_of (sym x))
       (c x o below)
 
   other_loaded : (x : ℕ) → Loaded shape w l u x → Loaded shape (words_by (access shape r) w) (stepped shape w t r l) u x
-  other_loaded x ld = loaded_stays shape w (words_by (access shape r) w) l (stepped shape w t r l) u x other_change other_kept.1
-      other_kept.2 ld
+  other_loaded x ld = loaded_stays shape w (words_by (access shape r) w) l (stepped shape w t r l) u x other_change
+      other_kept.1 other_kept.2 ld
 
   other_has_own : HasOwn shape (words_by (access shape r) w) (stepped shape w t r l) u q
-  other_has_own = HasOwn-others shape w (words_by (access shape r) w) l (stepped shape w t r l) u q sq other_kept.2 other_own them.own
+  other_has_own = HasOwn-others shape w (words_by (access shape r) w) l (stepped shape w t r l) u q sq other_kept.2
+      other_own them.own
 
   other_has_target : HasTarget shape (words_by (access shape r) w) (stepped shape w t r l) u q
-  other_has_target = HasTarget-others shape w (words_by (access shape r) w) l (stepped shape w t r l) u q sq other_to_fill
-      other_fill_untaken other_to_take other_take_old (λ z. omega (arith, z, other_kept.1, other_change.tail_rise)) them.target
+  other_has_target = HasTarget-others shape w (words_by (access shape r) w) l (stepped shape w t r l) u q sq
+      other_to_fill
+      other_fill_untaken other_to_take other_take_old (λ z. omega (arith, z, other_kept.1, other_change.tail_rise))
+      them.target
 
   other_has_clear : HasClear shape (words_by (access shape r) w) (stepped shape w t r l) q
-  other_has_clear = HasClear-others shape w (words_by (access shape r) w) l (stepped shape w t r l) u q other_clear them.loaded them.clear
+  other_has_clear = HasClear-others shape w (words_by (access shape r) w) l (stepped shape w t r l) u q other_clear
+      them.loaded them.clear
 
   pub other_thread : ThreadOk shape (words_by (access shape r) w) (stepped shape w t r l) u q
   unfolding stepped
@@ -323,9 +367,10 @@ module _ (shape : Shape) (w : ℕ → ℕ) (l : Ledger) (t : ℕ) (r : Running) 
         unended = other_kept.3 ∙ them.unended;
         unanswered = other_kept.4 ∙ them.unanswered;
         makes = them.makes;
-        round = λ a. round_stays w (words_by (access shape r) w) l (stepped shape w t r l) u other_change other_kept.1 other_kept.2
-            other_kept.0 refl them.started (them.round a);
-        loaded = HasLoaded-others shape w (words_by (access shape r) w) l (stepped shape w t r l) u q other_loaded them.loaded;
+        round = λ a. round_stays w (words_by (access shape r) w) l (stepped shape w t r l) u other_change other_kept.1
+            other_kept.2 other_kept.0 refl them.started (them.round a);
+        loaded = HasLoaded-others shape w (words_by (access shape r) w) l (stepped shape w t r l) u q other_loaded
+            them.loaded;
         fresh = λ a. other_fresh (them.fresh a);
         own = other_has_own;
         target = other_has_target;

@@ -1,6 +1,7 @@
 -- The items put are those undone, those taken and those left.
-use Rattle.std.proofs.Common.{◌≡◌, ◌≢◌, ℕ, zero, suc, ◌+◌, ◌*◌, ◌<◌, ◌≤◌, List, [], ◌∷◌, length, get_or, set, replicate, Option, Some, None}
-use Rattle.std.proofs.Common.{◌⊎◌, Ok, Bool, true, false, refl, sym, ap, ◌∙◌, inl, inr, arith, cond, subst, eqb-true, eq-eqb, ne_eqb}
+use Rattle.std.proofs.Common.{◌≡◌, ◌≢◌, ℕ, zero, suc, ◌+◌, ◌*◌, ◌<◌, ◌≤◌, List, [], ◌∷◌, length, get_or, set, replicate}
+use Rattle.std.proofs.Common.{Option, Some, None, ◌⊎◌, Ok, Bool, true, false, refl, sym, ap, ◌∙◌, inl, inr, arith, cond}
+use Rattle.std.proofs.Common.{subst, eqb-true, eq-eqb, ne_eqb}
 use Rattle.std.specs.Prelude.{◌==◌, ◌&&◌}
 use Rattle.std.proofs.lemmas.Bool.{cases_eq}
 use Rattle.std.proofs.lemmas.Bool.Decides.{nat_tests}
@@ -17,9 +18,10 @@ use Rattle.kfifo_machine.specs.declared.place.DequeuePhase.TheVariants as D
 use Rattle.kfifo_machine.specs.declared.place.Running.TheVariants as R
 use Rattle.kfifo_machine.specs.declared.place.Next.TheVariants.{Goes, Answers}
 use Rattle.kfifo_machine.specs.declared.place.Access.TheVariants.{Exchange}
-use Rattle.kfifo_machine.specs.Program.{access, accessed, advance, filled_with, emptied, head_moved, tail_moved, head_held, sealed_word}
-use Rattle.kfifo_machine.specs.Machine.{World, opening, word_at, place_of, place_after, words_after, moved, sealed, ticked, found, begun, may_begin}
-use Rattle.kfifo_machine.specs.Machine.{step, run}
+use Rattle.kfifo_machine.specs.Program.{access, accessed, advance, filled_with, emptied, head_moved, tail_moved}
+use Rattle.kfifo_machine.specs.Program.{head_held, sealed_word}
+use Rattle.kfifo_machine.specs.Machine.{World, opening, word_at, place_of, place_after, words_after, moved, sealed}
+use Rattle.kfifo_machine.specs.Machine.{ticked, found, begun, may_begin, step, run}
 use Rattle.kfifo_machine.specs.Runs.{going}
 use Rattle.kfifo_machine.specs.Places.{IsPlace}
 use Rattle.kfifo_machine.specs.Laws.{counted, count}
@@ -46,16 +48,19 @@ abbrev pub NextKnows : Next → Type 0
 NextKnows (Goes running) = Knows running
 NextKnows (Answers answer) = Unit {0}
 
-knows_on : (shape : Shape) (running : Running) (word : ℕ) → IsPlace shape running → Knows running → NextKnows (advance shape running word)
+knows_on : (shape : Shape) (running : Running) (word : ℕ) → IsPlace shape running → Knows running
+    → NextKnows (advance shape running word)
 knows_on shape running word place knows = grind (arith, nat_tests, value-filled_with)
 
-next_knows : (shape : Shape) (next : Next) (running : Running) → NextKnows next → place_after next ≡ Some running → Knows running
+next_knows : (shape : Shape) (next : Next) (running : Running) → NextKnows next → place_after next ≡ Some running
+    → Knows running
 next_knows shape next running knows is = grind arith
 
 begun_knows : (begin : Begin) (running : Running) → begun begin ≡ Some running → Knows running
 begun_knows begin running is = grind arith
 
-may_begun_knows : (begin : Begin) (running : Running) (may : Bool) → cond may (begun begin) None ≡ Some running → Knows running
+may_begun_knows : (begin : Begin) (running : Running) (may : Bool) → cond may (begun begin) None ≡ Some running
+    → Knows running
 may_begun_knows begin running true is = begun_knows begin running is
 may_begun_knows begin running false is = absurd (cc)
 
@@ -74,7 +79,8 @@ times-filled : (x word item : ℕ) → value_of word ≡ item → 0 < item → t
 times-filled x word item is some =
     let ne : value_of word ≢ 0 = λ none. absurd (omega arith) in
     let e : times x (item_in word) ≡ cond (item == x) 1 0 + 0 =
-    ap (λ b. times x (cond b [] (value_of word ∷ []))) (ne_eqb (value_of word) 0 ne) ∙ ap (λ v. cond (v == x) 1 0 + 0) is in
+    ap (λ b. times x (cond b [] (value_of word ∷ []))) (ne_eqb (value_of word) 0 ne)
+    ∙ ap (λ v. cond (v == x) 1 0 + 0) is in
     omega arith
 
 times-empty : (x word : ℕ) → value_of word ≡ 0 → times x (item_in word) ≡ 0
@@ -87,12 +93,14 @@ held-slot : (x : ℕ) (shape : Shape) (words : List ℕ) (index to : ℕ) → le
 held-slot x shape words index to size low high =
     let new : times_at x (set words index to) index ≡ times x (item_in to) =
     ap (λ w. times x (item_in w)) (get_or-set_at words index index to 0 refl (omega (arith, size))) in
-    let all = sum-change (times_at x words) (times_at x (set words index to)) index 1 (shape.n * shape.k) (omega arith) (omega arith)
+    let all = sum-change (times_at x words) (times_at x (set words index to)) index 1 (shape.n * shape.k) (omega arith)
+    (omega arith)
     (λ j ne. ap (λ w. times x (item_in w)) (get_or-set_other words index j to 0 ne)) in
     omega arith
 
 -- another word is set
-held-other : (x : ℕ) (shape : Shape) (words : List ℕ) (index to : ℕ) → ((j : ℕ) → 1 ≤ j → j < 1 + shape.n * shape.k → j ≢ index)
+held-other : (x : ℕ) (shape : Shape) (words : List ℕ) (index to : ℕ)
+    → ((j : ℕ) → 1 ≤ j → j < 1 + shape.n * shape.k → j ≢ index)
     → held x shape (set words index to) ≡ held x shape words
 held-other x shape words index to apart =
     sum-same (times_at x words) (times_at x (set words index to)) 1 (shape.n * shape.k)
@@ -113,9 +121,11 @@ abbrev one : Bool → ℕ
 one b = cond b 1 0
 
 module _ (x : ℕ) (shape : Shape) (words : List ℕ) (size : length words ≡ 2 + shape.n * shape.k) where
-  enqueue_held : (item start left : ℕ) (phase : EnqueuePhase) → IsPlace shape (R.Enqueue item start left phase) → EnqueueKnows item phase
+  enqueue_held : (item start left : ℕ) (phase : EnqueuePhase) → IsPlace shape (R.Enqueue item start left phase)
+      → EnqueueKnows item phase
       → held x shape (words_after (access shape (R.Enqueue item start left phase)) words)
-      + (one (undoes_item x (R.Enqueue item start left phase) (get_or words (accessed (access shape (R.Enqueue item start left phase))) 0))
+      + (one (undoes_item x (R.Enqueue item start left phase)
+      (get_or words (accessed (access shape (R.Enqueue item start left phase))) 0))
       + one (takes_item x (R.Enqueue item start left phase)
       (get_or words (accessed (access shape (R.Enqueue item start left phase))) 0)))
       ≡ held x shape words + one (puts_item x (R.Enqueue item start left phase)
@@ -126,7 +136,8 @@ module _ (x : ℕ) (shape : Shape) (words : List ℕ) (size : length words ≡ 2
   enqueue_held item start left (E.Put ends index empty) place knows = by_test (get_or words index 0 == empty) refl
     where
       by_test : (b : Bool) → (get_or words index 0 == empty) ≡ b
-          → held x shape (cond b (set words index (filled_with item empty)) words) + (0 + 0) ≡ held x shape words + one (b && (item == x))
+          → held x shape (cond b (set words index (filled_with item empty)) words) + (0 + 0)
+          ≡ held x shape words + one (b && (item == x))
       by_test true is =
           let old : times_at x words index ≡ 0 = times-empty x (get_or words index 0)
           (ap value_of (eqb-true (get_or words index 0) empty is) ∙ knows) in
@@ -137,14 +148,17 @@ module _ (x : ℕ) (shape : Shape) (words : List ℕ) (size : length words ≡ 2
       by_test false is = stays (held x shape words)
   enqueue_held item start left (E.ReloadSlot ends index filled) place knows = stays (held x shape words)
   enqueue_held item start left (E.ReloadEnds ends index filled) place knows = stays (held x shape words)
-  enqueue_held item start left (E.HoldHead ends index filled held) place knows = held-ends x shape words held (head_held held)
+  enqueue_held item start left (E.HoldHead ends index filled held) place knows =
+      held-ends x shape words held (head_held held)
   enqueue_held item start left (E.Undo index filled worn) place knows = by_test (get_or words index 0 == filled) refl
     where
       by_test : (b : Bool) → (get_or words index 0 == filled) ≡ b
-          → held x shape (cond b (set words index (emptied filled)) words) + (one (b && (item == x)) + 0) ≡ held x shape words + 0
+          → held x shape (cond b (set words index (emptied filled)) words) + (one (b && (item == x)) + 0)
+          ≡ held x shape words + 0
       by_test true is =
           let old : times_at x words index ≡ cond (item == x) 1 0 =
-          times-filled x (get_or words index 0) item (ap value_of (eqb-true (get_or words index 0) filled is) ∙ knows) place.0 in
+          times-filled x (get_or words index 0) item (ap value_of (eqb-true (get_or words index 0) filled is) ∙ knows)
+          place.0 in
           let new : times x (item_in (emptied filled)) ≡ 0 = times-empty x (emptied filled) (value-emptied filled) in
           let all = held-slot x shape words index (emptied filled) size place.4.1.above place.4.1.below in
           omega arith
@@ -154,16 +168,20 @@ module _ (x : ℕ) (shape : Shape) (words : List ℕ) (size : length words ≡ 2
   enqueue_held item start left (E.MoveHead ends) place knows = held-ends x shape words ends (head_moved shape ends)
   enqueue_held item start left (E.MoveTail ends) place knows = held-ends x shape words ends (tail_moved shape ends)
 
-  dequeue_held : (start left : ℕ) (phase : DequeuePhase) → IsPlace shape (R.Dequeue start left phase) → DequeueKnows phase
+  dequeue_held : (start left : ℕ) (phase : DequeuePhase) → IsPlace shape (R.Dequeue start left phase)
+      → DequeueKnows phase
       → held x shape (words_after (access shape (R.Dequeue start left phase)) words)
-      + (one (undoes_item x (R.Dequeue start left phase) (get_or words (accessed (access shape (R.Dequeue start left phase))) 0))
-      + one (takes_item x (R.Dequeue start left phase) (get_or words (accessed (access shape (R.Dequeue start left phase))) 0)))
+      + (one (undoes_item x (R.Dequeue start left phase)
+      (get_or words (accessed (access shape (R.Dequeue start left phase))) 0))
+      + one (takes_item x (R.Dequeue start left phase)
+      (get_or words (accessed (access shape (R.Dequeue start left phase))) 0)))
       ≡ held x shape words + one (puts_item x (R.Dequeue start left phase)
       (get_or words (accessed (access shape (R.Dequeue start left phase))) 0))
   dequeue_held start left D.LoadEnds place knows = stays (held x shape words)
   dequeue_held start left (D.ScanHead ends offset) place knows = stays (held x shape words)
   dequeue_held start left (D.Recheck ends seen) place knows = stays (held x shape words)
-  dequeue_held start left (D.MoveTail ends index filled) place knows = held-ends x shape words ends (tail_moved shape ends)
+  dequeue_held start left (D.MoveTail ends index filled) place knows =
+      held-ends x shape words ends (tail_moved shape ends)
   dequeue_held start left (D.Take ends index filled) place knows = by_test (get_or words index 0 == filled) refl
     where
       by_test : (b : Bool) → (get_or words index 0 == filled) ≡ b
@@ -171,7 +189,8 @@ module _ (x : ℕ) (shape : Shape) (words : List ℕ) (size : length words ≡ 2
           ≡ held x shape words + 0
       by_test true is =
           let old : times_at x words index ≡ cond (value_of filled == x) 1 0 =
-          times-filled x (get_or words index 0) (value_of filled) (ap value_of (eqb-true (get_or words index 0) filled is))
+          times-filled x (get_or words index 0) (value_of filled)
+          (ap value_of (eqb-true (get_or words index 0) filled is))
           (some (value_of filled) knows) in
           let new : times x (item_in (emptied filled)) ≡ 0 = times-empty x (emptied filled) (value-emptied filled) in
           let all = held-slot x shape words index (emptied filled) size place.2.1.above place.2.1.below in
@@ -184,7 +203,8 @@ module _ (x : ℕ) (shape : Shape) (words : List ℕ) (size : length words ≡ 2
   dequeue_held start left (D.MoveHead ends) place knows = held-ends x shape words ends (head_moved shape ends)
 
 -- a step of a thread
-moved-held : (x : ℕ) (shape : Shape) (here : World) (thread : ℕ) (running : Running) → IsSound shape here → IsPlace shape running
+moved-held : (x : ℕ) (shape : Shape) (here : World) (thread : ℕ) (running : Running) → IsSound shape here
+    → IsPlace shape running
     → Knows running
     → held x shape (moved shape here thread running).words
     + (counted shape (undoes_item x) here (Some running) + counted shape (takes_item x) here (Some running))
@@ -197,14 +217,15 @@ moved-held x shape here thread (R.Dequeue start left phase) sound place knows =
 
 ticked-held : (x : ℕ) (shape : Shape) (here : World) → held x shape (ticked shape here).words ≡ held x shape here.words
 unfolding ticked
-ticked-held x shape here = held-other x shape here.words (clock_at shape.k shape.n) (word_at here (clock_at shape.k shape.n) + 1)
-    (λ j low high is. absurd (omega arith))
+ticked-held x shape here = held-other x shape here.words (clock_at shape.k shape.n)
+    (word_at here (clock_at shape.k shape.n) + 1) (λ j low high is. absurd (omega arith))
 
 -- each thread knows so
 abbrev pub AllKnow : World → Type 0
 AllKnow world = (thread : ℕ) (running : Running) → place_of world thread ≡ Some running → Knows running
 
-moved_know : (shape : Shape) (here : World) (thread : ℕ) (running : Running) → thread < length here.places → IsPlace shape running
+moved_know : (shape : Shape) (here : World) (thread : ℕ) (running : Running) → thread < length here.places
+    → IsPlace shape running
     → Knows running → AllKnow here → AllKnow (moved shape here thread running)
 unfolding moved place_of
 moved_know shape here thread running within place knows old t r at =
@@ -218,16 +239,20 @@ moved_know shape here thread running within place knows old t r at =
 
 sealed-held : (x : ℕ) (shape : Shape) (here : World) → held x shape (sealed shape here).words ≡ held x shape here.words
 unfolding sealed
-sealed-held x shape here = held-other x shape here.words 0 (sealed_word shape (word_at here 0)) (λ j low high is. absurd (omega arith))
+sealed-held x shape here = held-other x shape here.words 0 (sealed_word shape (word_at here 0))
+    (λ j low high is. absurd (omega arith))
 
 -- a tick and a seal leave the items
 outside-held : (x : ℕ) (shape : Shape) (here there : World) (begin : Option Begin)
     → Ticks shape here begin there ⊎ Seals shape here begin there → held x shape there.words ≡ held x shape here.words
-outside-held x shape here there begin (inl t) = ap (λ (w : World). held x shape w.words) t.there_is ∙ ticked-held x shape here
-outside-held x shape here there begin (inr z) = ap (λ (w : World). held x shape w.words) z.there_is ∙ sealed-held x shape here
+outside-held x shape here there begin (inl t) = ap (λ (w : World). held x shape w.words) t.there_is
+    ∙ ticked-held x shape here
+outside-held x shape here there begin (inr z) = ap (λ (w : World). held x shape w.words) z.there_is
+    ∙ sealed-held x shape here
 
 -- an event
-step_balance : (x : ℕ) (shape : Shape) (here : World) (e : Event) (there : World) (outcome : Outcome) → IsSound shape here → AllKnow here
+step_balance : (x : ℕ) (shape : Shape) (here : World) (e : Event) (there : World) (outcome : Outcome)
+    → IsSound shape here → AllKnow here
     → step shape here e ≡ Ok (there, outcome)
     → AllKnow there × (held x shape there.words
     + (counted shape (undoes_item x) here (going shape (place_of here e.thread) e.begin)
@@ -238,7 +263,8 @@ step_balance x shape here e there outcome sound know is =
       | inl s ↦
           let place : IsPlace shape s.running = going_place shape (place_of here e.thread) e.begin s.running
           (λ r t. place_is shape here e.thread r sound t) s.goes in
-          let knows : Knows s.running = going_knows shape (place_of here e.thread) e.begin s.running (λ r t. know e.thread r t) s.goes in
+          let knows : Knows s.running = going_knows shape (place_of here e.thread) e.begin s.running
+          (λ r t. know e.thread r t) s.goes in
           let after : AllKnow there = subst AllKnow (sym s.there_is)
           (moved_know shape here e.thread s.running (made_within shape here e there outcome is) place knows know) in
           let all = moved-held x shape here e.thread s.running sound place knows in
@@ -260,7 +286,8 @@ step_balance x shape here e there outcome sound know is =
 -- a schedule
 run_balance : (x : ℕ) (shape : Shape) (here there : World) (events : List Event) → IsSound shape here → AllKnow here
     → run shape (Some here) events ≡ Some there
-    → held x shape there.words + (count shape (undoes_item x) (Some here) events + count shape (takes_item x) (Some here) events)
+    → held x shape there.words + (count shape (undoes_item x) (Some here) events + count shape (takes_item x)
+    (Some here) events)
     ≡ held x shape here.words + count shape (puts_item x) (Some here) events
 run_balance x shape here there [] sound know is = let e : held x shape here.words ≡ held x shape there.words =
     ap (λ (w : World). held x shape w.words) (Some-injective here there is) in omega arith

@@ -18,7 +18,8 @@ use Rattle.kfifo_machine.specs.declared.place.Access.TheVariants.{Load}
 use Rattle.kfifo_live.specs.Scans.{IsScan, Scan, is_empty, is_filled}
 
 -- an enqueue looks for an empty slot of the tail's segment
-pub tail_is_scan : {T : Type 0} (call : Enqueue T) (ends segment limit : ℕ) → segment ≡ tail_of ends → limit ≡ call.ring.shape.now.probes
+pub tail_is_scan : {T : Type 0} (call : Enqueue T) (ends segment limit : ℕ) → segment ≡ tail_of ends
+    → limit ≡ call.ring.shape.now.probes
     → IsScan call.ring.shape.now is_empty segment call.start limit (λ seen. enqueue_at call (E.ScanTail ends seen))
     (λ found. Goes (enqueue_at call (E.Recheck ends found)))
 tail_is_scan call ends segment limit at all = record {
@@ -42,8 +43,10 @@ after_full_scan call ends (Slot index word) = Goes (enqueue_at call (E.ConfirmFu
 after_full_scan call ends Nothing = if version_of ends == call.ring.shape.now.last then Answers Worn else Goes
     (enqueue_at call (E.MoveHead ends))
 
-pub full_is_scan : {T : Type 0} (call : Enqueue T) (ends segment limit : ℕ) → segment ≡ head_of ends → limit ≡ call.ring.shape.now.k
-    → IsScan call.ring.shape.now is_filled segment 0 limit (λ seen. enqueue_at call (E.ScanHead ends seen)) (after_full_scan call ends)
+pub full_is_scan : {T : Type 0} (call : Enqueue T) (ends segment limit : ℕ) → segment ≡ head_of ends
+    → limit ≡ call.ring.shape.now.k
+    → IsScan call.ring.shape.now is_filled segment 0 limit (λ seen. enqueue_at call (E.ScanHead ends seen))
+    (after_full_scan call ends)
 full_is_scan call ends segment limit at all = record {
   looks = λ seen. ap (λ s. Load (scan_index call.ring.shape.now s 0 seen)) (sym at);
   finds = λ seen word stops. grind (arith, nat_tests);
@@ -51,7 +54,8 @@ full_is_scan call ends segment limit at all = record {
   goes_on = λ seen word vain more. grind (arith, nat_tests);
 }
 
-abbrev pub full_scan : {T : Type 0} (call : Enqueue T) (ends segment limit : ℕ) → segment ≡ head_of ends → limit ≡ call.ring.shape.now.k
+abbrev pub full_scan : {T : Type 0} (call : Enqueue T) (ends segment limit : ℕ) → segment ≡ head_of ends
+    → limit ≡ call.ring.shape.now.k
     → Scan call.ring.shape.now is_filled segment 0 limit
 full_scan call ends segment limit at all = record {
   looking = λ seen. enqueue_at call (E.ScanHead ends seen);
@@ -60,7 +64,8 @@ full_scan call ends segment limit at all = record {
 }
 
 -- a dequeue looks for a filled slot of the head's segment
-pub head_is_scan : {T : Type 0} (call : Dequeue T) (ends segment limit : ℕ) → segment ≡ head_of ends → limit ≡ call.ring.shape.now.k
+pub head_is_scan : {T : Type 0} (call : Dequeue T) (ends segment limit : ℕ) → segment ≡ head_of ends
+    → limit ≡ call.ring.shape.now.k
     → IsScan call.ring.shape.now is_filled segment call.start limit (λ seen. dequeue_at call (D.ScanHead ends seen))
     (λ found. Goes (dequeue_at call (D.Recheck ends found)))
 head_is_scan call ends segment limit at all = record {
@@ -70,7 +75,8 @@ head_is_scan call ends segment limit at all = record {
   goes_on = λ seen word vain more. grind (arith, nat_tests);
 }
 
-abbrev pub head_scan : {T : Type 0} (call : Dequeue T) (ends segment limit : ℕ) → segment ≡ head_of ends → limit ≡ call.ring.shape.now.k
+abbrev pub head_scan : {T : Type 0} (call : Dequeue T) (ends segment limit : ℕ) → segment ≡ head_of ends
+    → limit ≡ call.ring.shape.now.k
     → Scan call.ring.shape.now is_filled segment call.start limit
 head_scan call ends segment limit at all = record {
   looking = λ seen. dequeue_at call (D.ScanHead ends seen);

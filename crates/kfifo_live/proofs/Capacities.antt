@@ -27,7 +27,8 @@ few_tokens k capacity threads some_threads some within =
     let q = 1022 * k / threads in
     let all = div-mul-le_self (1022 * k) threads in
     let swapped = mul_comm threads (q - 32) in
-    let up = least_up capacity threads (q - 32) some_threads (let e : capacity ≤ (q - 32) * threads = omega (arith, within, swapped) in e) in
+    let up = least_up capacity threads (q - 32) some_threads (let e : capacity ≤ (q - 32) * threads =
+    omega (arith, within, swapped) in e) in
     let over = more q within in
     let each : tokens_for capacity threads ≤ q = omega (arith, up, over) in
     let product = mul-le-mul_right threads each in
@@ -61,4 +62,5 @@ few_segments tokens k some fits =
 -- a shape of these sizes is not refused
 pub no_fault : (k n last : ℕ) (f : ShapeFault) → 1 ≤ k → k ≤ 64 → 2 ≤ n → n ≤ 1024 → 2 ≤ last → last ≤ 1099511627775
     → fault_of k n last k ≡ Some f → ⊥
-no_fault k n last f some few some_n few_n some_last few_last refused = grind (arith, some, few, some_n, few_n, some_last, few_last, refused)
+no_fault k n last f some few some_n few_n some_last few_last refused =
+    grind (arith, some, few, some_n, few_n, some_last, few_last, refused)

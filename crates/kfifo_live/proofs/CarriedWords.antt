@@ -117,7 +117,8 @@ abbrev NotPut : EnqueuePhase → Type 0
 NotPut (E.Put ends index empty) = ⊥
 NotPut phase = Unit {0}
 
-carried_on : (shape : Shape) (item start left : ℕ) (phase : EnqueuePhase) (word : ℕ) (q : Running) (i w : ℕ) → NotPut phase
+carried_on : (shape : Shape) (item start left : ℕ) (phase : EnqueuePhase) (word : ℕ) (q : Running) (i w : ℕ)
+    → NotPut phase
     → enqueue_advance shape item start left phase word ≡ Goes q → CarriesAt q i w → Carries phase i w
 carried_on shape item start left phase word q i w not is c = grind (arith, nat_tests)
 
@@ -128,7 +129,8 @@ put_lost shape item start left ends index empty word q i w lost is c = grind (ar
 put_won : (shape : Shape) (item start left ends index empty word : ℕ) (q : Running) (i w : ℕ) → word ≡ empty
     → enqueue_advance shape item start left (E.Put ends index empty) word ≡ Goes q → CarriesAt q i w
     → (index ≡ i) × (filled_with item empty ≡ w)
-put_won shape item start left ends index empty word q i w won is c = subst (λ (r : Running). CarriesAt r i w) (sym same) c
+put_won shape item start left ends index empty word q i w won is c =
+    subst (λ (r : Running). CarriesAt r i w) (sym same) c
   where
     next : enqueue_advance shape item start left (E.Put ends index empty) word ≡ Goes
         (R.Enqueue item start left (E.ReloadSlot ends index (filled_with item empty)))
@@ -145,9 +147,11 @@ dequeue_carries : (shape : Shape) (start left : ℕ) (phase : DequeuePhase) (wor
 dequeue_carries shape start left phase word q i w is c = grind (arith, nat_tests)
 
 -- a word that is carried after a step was carried before, or was put by it
-pub carries_came : (shape : Shape) (r : Running) (word : ℕ) (q : Running) (i w : ℕ) → advance shape r word ≡ Goes q → CarriesAt q i w
+pub carries_came : (shape : Shape) (r : Running) (word : ℕ) (q : Running) (i w : ℕ) → advance shape r word ≡ Goes q
+    → CarriesAt q i w
     → CarriesAt r i w ⊎ IsPut r i word w
-carries_came shape (R.Dequeue start left phase) word q i w is c = absurd (dequeue_carries shape start left phase word q i w is c)
+carries_came shape (R.Dequeue start left phase) word q i w is c =
+    absurd (dequeue_carries shape start left phase word q i w is c)
 carries_came shape (R.Enqueue item start left (E.Put ends index empty)) word q i w is c =
     elim (cases_eq word empty) [
       | inl won ↦
@@ -162,10 +166,12 @@ carries_came shape (R.Enqueue item start left (E.Put ends index empty)) word q i
           }
       | inr lost ↦ absurd (put_lost shape item start left ends index empty word q i w lost is c)
     ]
-carries_came shape (R.Enqueue item start left other) word q i w is c = inl (carried_on shape item start left other word q i w tt is c)
+carries_came shape (R.Enqueue item start left other) word q i w is c =
+    inl (carried_on shape item start left other word q i w tt is c)
 
 -- an exchange of a slot's word that fills it is a put
-pub put_of_exchange : (shape : Shape) (r : Running) (i from to : ℕ) → 0 < i → value_of to ≢ 0 → access shape r ≡ Exchange i from to
+pub put_of_exchange : (shape : Shape) (r : Running) (i from to : ℕ) → 0 < i → value_of to ≢ 0
+    → access shape r ≡ Exchange i from to
     → IsPut r i from to
 put_of_exchange shape (R.Enqueue item start left (E.Put ends index empty)) i from to above filled is =
     record {
@@ -173,20 +179,25 @@ put_of_exchange shape (R.Enqueue item start left (E.Put ends index empty)) i fro
       start = start;
       left = left;
       ends = ends;
-      place = (let a : index ≡ i = cc in let b : empty ≡ from = cc in λ k. R.Enqueue item start left (E.Put ends (a k) (b k)));
+      place = (let a : index ≡ i = cc in let b : empty ≡ from =
+          cc in λ k. R.Enqueue item start left (E.Put ends (a k) (b k)));
       puts = (let a : filled_with item empty ≡ to = cc in let b : empty ≡ from = cc in sym a ∙ ap (filled_with item) b);
     }
-put_of_exchange shape (R.Enqueue item start left (E.HoldHead ends index filled_word held)) i from to above filled is = absurd
-    (let e : 0 ≡ i = cc in omega arith)
+put_of_exchange shape (R.Enqueue item start left (E.HoldHead ends index filled_word held)) i from to above filled is =
+    absurd (let e : 0 ≡ i = cc in omega arith)
 put_of_exchange shape (R.Enqueue item start left (E.Undo index filled_word worn)) i from to above filled is = absurd
     (filled (ap value_of (let e : to ≡ emptied filled_word = cc in e) ∙ value-emptied filled_word))
-put_of_exchange shape (R.Enqueue item start left (E.MoveHead ends)) i from to above filled is = absurd (let e : 0 ≡ i = cc in omega arith)
-put_of_exchange shape (R.Enqueue item start left (E.MoveTail ends)) i from to above filled is = absurd (let e : 0 ≡ i = cc in omega arith)
+put_of_exchange shape (R.Enqueue item start left (E.MoveHead ends)) i from to above filled is =
+    absurd (let e : 0 ≡ i = cc in omega arith)
+put_of_exchange shape (R.Enqueue item start left (E.MoveTail ends)) i from to above filled is =
+    absurd (let e : 0 ≡ i = cc in omega arith)
 put_of_exchange shape (R.Enqueue item start left E.LoadEnds) i from to above filled is = absurd (cc)
 put_of_exchange shape (R.Enqueue item start left (E.ScanTail ends offset)) i from to above filled is = absurd (cc)
 put_of_exchange shape (R.Enqueue item start left (E.Recheck ends seen)) i from to above filled is = absurd (cc)
-put_of_exchange shape (R.Enqueue item start left (E.ReloadSlot ends index filled_word)) i from to above filled is = absurd (cc)
-put_of_exchange shape (R.Enqueue item start left (E.ReloadEnds ends index filled_word)) i from to above filled is = absurd (cc)
+put_of_exchange shape (R.Enqueue item start left (E.ReloadSlot ends index filled_word)) i from to above filled is =
+    absurd (cc)
+put_of_exchange shape (R.Enqueue item start left (E.ReloadEnds ends index filled_word)) i from to above filled is =
+    absurd (cc)
 put_of_exchange shape (R.Enqueue item start left (E.ScanHead ends offset)) i from to above filled is = absurd (cc)
 put_of_exchange shape (R.Enqueue item start left (E.ConfirmFull ends)) i from to above filled is = absurd (cc)
 put_of_exchange shape (R.Dequeue start left D.LoadEnds) i from to above filled is = absurd (cc)
@@ -196,7 +207,8 @@ put_of_exchange shape (R.Dequeue start left (D.MoveTail ends index filled_word))
     (let e : 0 ≡ i = cc in omega arith)
 put_of_exchange shape (R.Dequeue start left (D.Take ends index filled_word)) i from to above filled is = absurd
     (filled (ap value_of (let e : to ≡ emptied filled_word = cc in e) ∙ value-emptied filled_word))
-put_of_exchange shape (R.Dequeue start left (D.MoveHead ends)) i from to above filled is = absurd (let e : 0 ≡ i = cc in omega arith)
+put_of_exchange shape (R.Dequeue start left (D.MoveHead ends)) i from to above filled is =
+    absurd (let e : 0 ≡ i = cc in omega arith)
 
 -- a word that a thread carries is in a slot, and of its own item
 pub record IsCarried (shape : Shape) (r : Running) (i word : ℕ) : Type 0 where
@@ -205,7 +217,8 @@ pub record IsCarried (shape : Shape) (r : Running) (i word : ℕ) : Type 0 where
   pub own : value_of word ≡ own_item r
   pub some : 0 < own_item r
 
-pub carried_word : (shape : Shape) (r : Running) (i word : ℕ) → IsPlace shape r → Knows r → CarriesAt r i word → IsCarried shape r i word
+pub carried_word : (shape : Shape) (r : Running) (i word : ℕ) → IsPlace shape r → Knows r → CarriesAt r i word
+    → IsCarried shape r i word
 carried_word shape (R.Enqueue item start left phase) i word place knows c = of_phase phase place knows c
   where
     slot : (index filled : ℕ) → 0 < index → index < clock_at shape.k shape.n → 0 < item → value_of filled ≡ item
@@ -218,7 +231,8 @@ carried_word shape (R.Enqueue item start left phase) i word place knows c = of_p
         → IsCarried shape (R.Enqueue item start left phase) i word
     made phase x = record { above = x.0; below = x.1; own = x.2; some = x.3 }
 
-    of_phase : (phase : EnqueuePhase) → IsPlace shape (R.Enqueue item start left phase) → EnqueueKnows item phase → Carries phase i word
+    of_phase : (phase : EnqueuePhase) → IsPlace shape (R.Enqueue item start left phase) → EnqueueKnows item phase
+        → Carries phase i word
         → IsCarried shape (R.Enqueue item start left phase) i word
     of_phase (E.ReloadSlot ends index filled) place knows c = made (E.ReloadSlot ends index filled)
         (slot index filled place.4.2.above place.4.2.below place.0 knows c)

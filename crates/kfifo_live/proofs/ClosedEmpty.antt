@@ -20,14 +20,16 @@ use Rattle.kfifo_live.specs.Left.{item_in, slots_left, segments_left, items_left
 use Rattle.kfifo_live.specs.Pass.{PassView, AllSeen, AllIdle, HaveAllThreads, OneSealedEmpty}
 
 -- where the pass of a thread is among these, its thread is idle after the whole schedule
-idle_of : (o : Opening) (ps : List PassView) (all : List Event) (world : World) (thread : ℕ) → world_after o all ≡ Some world
+idle_of : (o : Opening) (ps : List PassView) (all : List Event) (world : World) (thread : ℕ)
+    → world_after o all ≡ Some world
     → AllSeen ps all → AllIdle o ps → list_any (λ p. p.thread == thread) ps ≡ true → place_of world thread ≡ None
 idle_of o [] all world thread reached seen idle any = absurd (false≢true any)
 idle_of o (p ∷ ps) all world thread reached seen idle any =
     elim (cases_Bool (p.thread == thread)) [
       | inl mine ↦
           let b = seen.0 in
-          let k = run_before o.shape (Some (opening o.shape o.threads)) world p.seen b.rest (ap (world_after o) (sym b.goes_on) ∙ reached) in
+          let k = run_before o.shape (Some (opening o.shape o.threads)) world p.seen b.rest
+          (ap (world_after o) (sym b.goes_on) ∙ reached) in
           let same : p.thread ≡ thread = eqb-true p.thread thread mine in
           ap (place_of world) (sym same) ∙ same_place o.shape k.0 world b.rest p.thread b.no_own k.2 ∙ idle.0 k.0 k.1
       | inr other ↦ idle_of o ps all world thread reached seen.1 idle.1 (rw other at any)
@@ -42,7 +44,8 @@ no_thread : (world : World) (thread : ℕ) → length world.places ≤ thread �
 unfolding place_of
 no_thread world thread le = beyond world.places thread None le
 
-all_idle : (o : Opening) (ps : List PassView) (all : List Event) (world : World) → world_after o all ≡ Some world → AllSeen ps all
+all_idle : (o : Opening) (ps : List PassView) (all : List Event) (world : World) → world_after o all ≡ Some world
+    → AllSeen ps all
     → AllIdle o ps → HaveAllThreads o.threads ps → (thread : ℕ) → place_of world thread ≡ None
 all_idle o ps all world reached seen idle complete thread =
     elim (cases_lt thread o.threads) [
@@ -59,7 +62,12 @@ record Saw (o : Opening) (all : List Event) : Type 0 where
 
 saw : (o : Opening) (ps : List PassView) (all : List Event) → AllSeen ps all → OneSealedEmpty o ps → Saw o all
 saw o [] all seen one = absurd one
-saw o (p ∷ ps) all seen (inl sealed) = record { events = p.seen; more = seen.0.rest; split = seen.0.goes_on; sealed = sealed }
+saw o (p ∷ ps) all seen (inl sealed) = record {
+  events = p.seen;
+  more = seen.0.rest;
+  split = seen.0.goes_on;
+  sealed = sealed;
+}
 saw o (p ∷ ps) all seen (inr one) = saw o ps all seen.1 one
 
 -- empty slots have no items
@@ -82,18 +90,22 @@ segments_none shape words segment zero none within = refl
 segments_none shape words segment (suc count) none within =
     let room : (segment + 1) * shape.k ≤ shape.n * shape.k = mul-le-mul_right shape.k (omega arith) in
     (λ k. slots_none shape words (slot_at shape.k segment 0) shape.k none (omega arith) (omega arith) k
-    ++ segments_none shape words (next_segment shape.n segment) count none (next_segment-below shape.n segment within) k)
+    ++ segments_none shape words (next_segment shape.n segment) count none
+    (next_segment-below shape.n segment within) k)
 
 none_left : (shape : Shape) (threads : ℕ) (all : List Event) (world : World)
     → run shape (Some (opening shape threads)) all ≡ Some world
     → ((i : ℕ) → IsSlotIndex shape i → value_of (word_at world i) ≡ 0) → items_left shape world.words ≡ []
 unfolding word_at
 none_left shape threads all world reached none =
-    segments_none shape world.words (head_of (get_or world.words 0 0)) shape.n none (sound_ends shape threads all world reached).head
+    segments_none shape world.words (head_of (get_or world.words 0 0)) shape.n none
+    (sound_ends shape threads all world reached).head
 
 -- so a queue that one of its passes saw sealed empty has no items when it is closed
-pub sealed_closes : (o : Opening) (ps : List PassView) (all : List Event) (world : World) → o.threads ≤ 64 → world_after o all ≡ Some world
-    → AllSeen ps all → AllIdle o ps → HaveAllThreads o.threads ps → OneSealedEmpty o ps → items_left o.shape world.words ≡ []
+pub sealed_closes : (o : Opening) (ps : List PassView) (all : List Event) (world : World) → o.threads ≤ 64
+    → world_after o all ≡ Some world
+    → AllSeen ps all → AllIdle o ps → HaveAllThreads o.threads ps → OneSealedEmpty o ps
+    → items_left o.shape world.words ≡ []
 sealed_closes o ps all world few reached seen idle complete one =
     let s = saw o ps all seen one in
     none_left o.shape o.threads all world reached

@@ -11,14 +11,16 @@ items_begun-append [] more = refl
 items_begun-append (e ∷ all) more = ap (λ xs. item_begun e.begin ++ xs) (items_begun-append all more)
     ∙ sym (append_assoc (item_begun e.begin) (items_begun all) (items_begun more))
 
-gift_item : {T : Type 0} (begin : Option Begin) (held : List (ℕ × Option T)) → map (λ g. g.0) (gift begin held) ≡ item_begun begin
+gift_item : {T : Type 0} (begin : Option Begin) (held : List (ℕ × Option T)) → map (λ g. g.0) (gift begin held)
+    ≡ item_begun begin
 gift_item None held = refl
 gift_item (Some (B.Enqueue item start turns)) held = refl
 gift_item (Some (B.Dequeue start turns)) held = refl
 gift_item (Some B.Tick) held = refl
 gift_item (Some B.Seal) held = refl
 
-pub in_turn_on : {T : Type 0} (all : List Event) (gifts : Gifts T) (thread : ℕ) (begin : Option Begin) (held : List (ℕ × Option T))
+pub in_turn_on : {T : Type 0} (all : List Event) (gifts : Gifts T) (thread : ℕ) (begin : Option Begin)
+    (held : List (ℕ × Option T))
     → InTurn all gifts → InTurn (all ++ event thread begin ∷ []) (gifts ++ gift begin held)
 in_turn_on {T} all gifts thread begin held turns =
     map-append (λ (g : ℕ × Option T). g.0) gifts (gift begin held)
@@ -27,7 +29,8 @@ in_turn_on {T} all gifts thread begin held turns =
     ∙ sym (items_begun-append all (event thread begin ∷ []))
 
 -- Up to the event with which an enqueue begins, the gifts before its own are of the enqueues that began before
-pub in_turn_before : {T : Type 0} (all : List Event) (gifts : Gifts T) (thread item start turns : ℕ) (payload : Option T)
+pub in_turn_before : {T : Type 0} (all : List Event) (gifts : Gifts T) (thread item start turns : ℕ)
+    (payload : Option T)
     → InTurn (all ++ event thread (Some (B.Enqueue item start turns)) ∷ []) (gifts ++ (item, payload) ∷ [])
     → InTurn all gifts
 in_turn_before {T} all gifts thread item start turns payload is =

@@ -1,6 +1,8 @@
--- Which enqueue put the word that stands in a slot: where the holder law is kept, the one that last began with its item.
-use Rattle.std.proofs.Common.{◌≡◌, ◌≢◌, ◌⊎◌, ℕ, zero, suc, ◌+◌, ◌*◌, ◌<◌, ◌≤◌, List, [], ◌∷◌, ◌++◌, get_or, replicate, append_assoc}
-use Rattle.std.proofs.Common.{Option, Some, None, Ok, Bool, true, false, refl, sym, ap, ◌∙◌, subst, inl, inr, arith, cond}
+-- Which enqueue put the word that stands in a slot: where the holder law is kept, the one that last began with its
+-- item.
+use Rattle.std.proofs.Common.{◌≡◌, ◌≢◌, ◌⊎◌, ℕ, zero, suc, ◌+◌, ◌*◌, ◌<◌, ◌≤◌, List, [], ◌∷◌, ◌++◌, get_or, replicate}
+use Rattle.std.proofs.Common.{append_assoc, Option, Some, None, Ok, Bool, true, false, refl, sym, ap, ◌∙◌, subst, inl}
+use Rattle.std.proofs.Common.{inr, arith, cond}
 use Rattle.std.proofs.lemmas.Bool.{cases_eq}
 use Rattle.std.proofs.lemmas.Bool.Decides.{nat_tests}
 use Rattle.std.proofs.lemmas.List.{append-nil}
@@ -24,7 +26,8 @@ use Rattle.kfifo_machine.specs.Laws.{PutsNext}
 use Rattle.kfifo_machine.specs.Tokens.{AllBeginFree, BeginsFree, IsHeld, IsInSlot}
 use Rattle.kfifo_machine.proofs.Budget.{own_first, own_place}
 use Rattle.kfifo_machine.proofs.Refusals.{CarriesAt}
-use Rattle.kfifo_machine.proofs.Schedules.{Some-injective, StepsFrom, after-snoc, first_made, made_within, other_place, own-append, stepped}
+use Rattle.kfifo_machine.proofs.Schedules.{Some-injective, StepsFrom, after-snoc, first_made, made_within, other_place}
+use Rattle.kfifo_machine.proofs.Schedules.{own-append, stepped}
 use Rattle.kfifo_machine.proofs.Sound.{IsSound, going_place, place_is, sound}
 use Rattle.kfifo_machine.proofs.BusyIsDisturbed.{found-is}
 use Rattle.kfifo_machine.proofs.Tokens.{value-filled_with}
@@ -33,8 +36,9 @@ use Rattle.kfifo_live.specs.Schedule.{HolderLaw, world_after}
 use Rattle.kfifo_live.specs.Hands.{item_begun, items_begun, own_item, out_at}
 use Rattle.kfifo_live.proofs.Balance.{know_after, value-zero}
 use Rattle.kfifo_live.proofs.GiftsInTurn.{items_begun-append}
-use Rattle.kfifo_live.proofs.Whole.{AllGoOn-append}
-use Rattle.kfifo_live.proofs.CarriedWords.{out_held, IsUndo, enqueue_keeps, out_came, IsPut, carries_came, put_of_exchange, carried_word}
+use Rattle.kfifo_live.proofs.CompleteExecutions.{AllGoOn-append}
+use Rattle.kfifo_live.proofs.CarriedWords.{out_held, IsUndo, enqueue_keeps, out_came, IsPut, carries_came}
+use Rattle.kfifo_live.proofs.CarriedWords.{put_of_exchange, carried_word}
 
 -- none of these is the item
 abbrev pub Lacks : ℕ → List ℕ → Type 0
@@ -63,9 +67,11 @@ pub record PutLast (o : Opening) (all : List Event) (index word item : ℕ) : Ty
   pub before : List Event
   pub between : List Event
   pub after : List Event
-  pub all_are : all ≡ (before ++ event thread (Some (B.Enqueue item start turns)) ∷ between) ++ event thread None ∷ after
+  pub all_are : all ≡ (before ++ event thread (Some (B.Enqueue item start turns)) ∷ between) ++ event thread None
+      ∷ after
   pub one_call : AllGoOn (own thread between)
-  pub puts : PutsNext o.shape o.threads (before ++ event thread (Some (B.Enqueue item start turns)) ∷ between) thread index word
+  pub puts : PutsNext o.shape o.threads (before ++ event thread (Some (B.Enqueue item start turns)) ∷ between) thread
+      index word
   pub value_is : value_of word ≡ item
   pub not_again : Lacks item (items_begun (between ++ event thread None ∷ after))
 
@@ -75,14 +81,16 @@ lacks_on x events e old new = subst (Lacks x) (sym (items_begun-append events (e
     (Lacks-append x (items_begun events) (item_begun e.begin ++ []) old (Lacks-append x (item_begun e.begin) [] new tt))
 
 -- one event more
-began_on : (all : List Event) (e : Event) (thread item : ℕ) → BeganLast all thread item → (e.thread ≡ thread → e.begin ≡ None)
+began_on : (all : List Event) (e : Event) (thread item : ℕ) → BeganLast all thread item
+    → (e.thread ≡ thread → e.begin ≡ None)
     → Lacks item (item_begun e.begin) → BeganLast (all ++ e ∷ []) thread item
 began_on all e thread item b none lacks = record {
   start = b.start;
   turns = b.turns;
   before = b.before;
   after = b.after ++ e ∷ [];
-  all_are = ap (λ es. es ++ e ∷ []) b.all_are ∙ append_assoc b.before (event thread (Some (B.Enqueue item b.start b.turns)) ∷ b.after)
+  all_are = ap (λ es. es ++ e ∷ []) b.all_are
+      ∙ append_assoc b.before (event thread (Some (B.Enqueue item b.start b.turns)) ∷ b.after)
       (e ∷ []);
   one_call = subst AllGoOn (sym (own-append thread b.after (e ∷ [])))
       (AllGoOn-append (own thread b.after) (own thread (e ∷ [])) b.one_call one);
@@ -118,11 +126,13 @@ put_on o all e index word item p lacks =
 -- how a step goes: on from its place, or from the first place of a call
 pub data Going (place : Option Running) (begin : Option Begin) (r : Running) : Type 0 where
   On : begin ≡ None → place ≡ Some r → Going place begin r
-  Enqueues : (item start turns : ℕ) → begin ≡ Some (B.Enqueue item start turns) → r ≡ R.Enqueue item start turns E.LoadEnds
+  Enqueues : (item start turns : ℕ) → begin ≡ Some (B.Enqueue item start turns)
+      → r ≡ R.Enqueue item start turns E.LoadEnds
       → Going place begin r
   Dequeues : (start turns : ℕ) → r ≡ R.Dequeue start turns D.LoadEnds → Going place begin r
 
-pub going_is : (shape : Shape) (place : Option Running) (begin : Option Begin) (r : Running) → going shape place begin ≡ Some r
+pub going_is : (shape : Shape) (place : Option Running) (begin : Option Begin) (r : Running)
+    → going shape place begin ≡ Some r
     → Going place begin r
 going_is shape None None r goes = absurd (cc)
 going_is shape (Some q) (Some begin) r goes = absurd (cc)
@@ -130,12 +140,15 @@ going_is shape (Some q) None r goes = On refl goes
 going_is shape None (Some (B.Enqueue item start turns)) r goes = Enqueues item start turns refl
     (of_may (may_begin shape (B.Enqueue item start turns)) goes)
   where
-    of_may : (may : Bool) → cond may (begun (B.Enqueue item start turns)) None ≡ Some r → r ≡ R.Enqueue item start turns E.LoadEnds
+    of_may : (may : Bool) → cond may (begun (B.Enqueue item start turns)) None ≡ Some r
+        → r ≡ R.Enqueue item start turns E.LoadEnds
     of_may true e = sym (Some-injective _ _ e)
     of_may false e = absurd (cc)
-going_is shape None (Some (B.Dequeue start turns)) r goes = Dequeues start turns (of_may (may_begin shape (B.Dequeue start turns)) goes)
+going_is shape None (Some (B.Dequeue start turns)) r goes =
+    Dequeues start turns (of_may (may_begin shape (B.Dequeue start turns)) goes)
   where
-    of_may : (may : Bool) → cond may (begun (B.Dequeue start turns)) None ≡ Some r → r ≡ R.Dequeue start turns D.LoadEnds
+    of_may : (may : Bool) → cond may (begun (B.Dequeue start turns)) None ≡ Some r
+        → r ≡ R.Dequeue start turns D.LoadEnds
     of_may true e = sym (Some-injective _ _ e)
     of_may false e = absurd (cc)
 going_is shape None (Some B.Tick) r goes = absurd (cc)
@@ -156,7 +169,8 @@ lacks_begun shape here x (Some (B.Dequeue start turns)) free there = tt
 lacks_begun shape here x (Some B.Tick) free there = tt
 lacks_begun shape here x (Some B.Seal) free there = tt
 
--- After a schedule: who has a token out, or put the word that stands, began last with it; and so did who put a slot's word
+-- After a schedule: who has a token out, or put the word that stands, began last with it; and so did who put a slot's
+-- word
 record Traced (o : Opening) (all : List Event) (world : World) : Type 0 where
   held : (u : ℕ) (r : Running) (x : ℕ) → place_of world u ≡ Some r → out_at r ≡ x → 0 < x → BeganLast all u x
   carried : (u : ℕ) (r : Running) (i word : ℕ) → place_of world u ≡ Some r → CarriesAt r i word → word_at world i ≡ word
@@ -169,7 +183,8 @@ dequeue_keeps : (shape : Shape) (start left : ℕ) (phase : DequeuePhase) (word 
     → advance shape (R.Dequeue start left phase) word ≡ Goes q → own_item q ≡ 0
 dequeue_keeps shape start left phase word q is = grind (arith, nat_tests)
 
-keeps_own : (shape : Shape) (r : Running) (word : ℕ) (q : Running) → advance shape r word ≡ Goes q → own_item q ≡ own_item r
+keeps_own : (shape : Shape) (r : Running) (word : ℕ) (q : Running) → advance shape r word ≡ Goes q
+    → own_item q ≡ own_item r
 keeps_own shape (R.Enqueue item start left phase) word q is = enqueue_keeps shape item start left phase word q is
 keeps_own shape (R.Dequeue start left phase) word q is = dequeue_keeps shape start left phase word q is
 
@@ -194,14 +209,17 @@ put_goes_on shape place begin item start left ends index empty goes = of_going (
     of_going : Going place begin (R.Enqueue item start left (E.Put ends index empty))
         → (begin ≡ None) × (place ≡ Some (R.Enqueue item start left (E.Put ends index empty)))
     of_going (On none at) = (none, at)
-    of_going (Enqueues other first turns begins is) = absurd (put_not_first item start left ends index empty other first turns is)
-    of_going (Dequeues first turns is) = absurd (enqueue_not_dequeue item start left first turns (E.Put ends index empty) D.LoadEnds is)
+    of_going (Enqueues other first turns begins is) =
+        absurd (put_not_first item start left ends index empty other first turns is)
+    of_going (Dequeues first turns is) =
+        absurd (enqueue_not_dequeue item start left first turns (E.Put ends index empty) D.LoadEnds is)
 
 lacks_none : (x : ℕ) (begin : Option Begin) → begin ≡ None → Lacks x (item_begun begin)
 lacks_none x begin none = subst (λ (b : Option Begin). Lacks x (item_begun b)) (sym none) tt
 
 -- one event keeps it
-module _ (o : Opening) (done : List Event) (here there : World) (e : Event) (outcome : Outcome) (reached : world_after o done ≡ Some here)
+module _ (o : Opening) (done : List Event) (here there : World) (e : Event) (outcome : Outcome)
+    (reached : world_after o done ≡ Some here)
     (made : step o.shape here e ≡ Ok (there, outcome)) (free : BeginsFree o.shape here e.begin)
     (known : Traced o done here) where
   is_sound : IsSound o.shape here
@@ -216,10 +234,12 @@ module _ (o : Opening) (done : List Event) (here there : World) (e : Event) (out
   stood u r i word at c stands = let a = known.below u r i word at c in let b = rises i in omega (arith, a, b, stands)
 
   -- no call begins with its item, nor with one that a thread has out
-  lacks_carried : (u : ℕ) (r : Running) (i word : ℕ) → place_of here u ≡ Some r → CarriesAt r i word → word_at here i ≡ word
+  lacks_carried : (u : ℕ) (r : Running) (i word : ℕ) → place_of here u ≡ Some r → CarriesAt r i word
+      → word_at here i ≡ word
       → Lacks (own_item r) (item_begun e.begin)
   lacks_carried u r i word at c stands =
-      let w = carried_word o.shape r i word (place_is o.shape here u r is_sound at) (know_after o done here reached u r at) c in
+      let w = carried_word o.shape r i word (place_is o.shape here u r is_sound at)
+      (know_after o done here reached u r at) c in
       lacks_begun o.shape here (own_item r) e.begin free (inr record {
         index = i;
         above = w.above;
@@ -227,7 +247,8 @@ module _ (o : Opening) (done : List Event) (here there : World) (e : Event) (out
         stands = ap value_of stands ∙ w.own;
       })
 
-  lacks_held : (u : ℕ) (r : Running) (x : ℕ) → place_of here u ≡ Some r → out_at r ≡ x → 0 < x → Lacks x (item_begun e.begin)
+  lacks_held : (u : ℕ) (r : Running) (x : ℕ) → place_of here u ≡ Some r → out_at r ≡ x → 0 < x
+      → Lacks x (item_begun e.begin)
   lacks_held u r x at out some = lacks_begun o.shape here x e.begin free (inl record {
     thread = u;
     place = r;
@@ -242,7 +263,8 @@ module _ (o : Opening) (done : List Event) (here there : World) (e : Event) (out
       → BeganLast (done ++ e ∷ []) u x
   held_other u q x apart is out some =
       let was = still u q apart is in
-      began_on done e u x (known.held u q x was out some) (λ same. absurd (apart (sym same))) (lacks_held u q x was out some)
+      began_on done e u x (known.held u q x was out some) (λ same. absurd (apart (sym same)))
+      (lacks_held u q x was out some)
 
   carried_other : (u : ℕ) (q : Running) (i word : ℕ) → u ≢ e.thread → place_of there u ≡ Some q → CarriesAt q i word
       → word_at there i ≡ word → BeganLast (done ++ e ∷ []) u (own_item q)
@@ -252,10 +274,13 @@ module _ (o : Opening) (done : List Event) (here there : World) (e : Event) (out
       began_on done e u (own_item q) (known.carried u q i word was c before) (λ same. absurd (apart (sym same)))
       (lacks_carried u q i word was c before)
 
-  below_other : (u : ℕ) (q : Running) (i word : ℕ) → u ≢ e.thread → place_of there u ≡ Some q → CarriesAt q i word → word ≤ word_at there i
-  below_other u q i word apart is c = let a = known.below u q i word (still u q apart is) c in let b = rises i in omega (arith, a, b)
+  below_other : (u : ℕ) (q : Running) (i word : ℕ) → u ≢ e.thread → place_of there u ≡ Some q → CarriesAt q i word
+      → word ≤ word_at there i
+  below_other u q i word apart is c = let a = known.below u q i word (still u q apart is) c in let b = rises i in
+      omega (arith, a, b)
 
-  newly_put : (i to : ℕ) → 0 < i → value_of to ≢ 0 → (running : Running) → going o.shape (place_of here e.thread) e.begin ≡ Some running
+  newly_put : (i to : ℕ) → 0 < i → value_of to ≢ 0 → (running : Running)
+      → going o.shape (place_of here e.thread) e.begin ≡ Some running
       → access o.shape running ≡ Exchange i (word_at here i) to
       → PutLast o (done ++ e ∷ []) i to (value_of to)
   newly_put i to above filled running stands exchange =
@@ -303,7 +328,8 @@ module _ (o : Opening) (done : List Event) (here there : World) (e : Event) (out
               below = below;
               stands = refl;
             }) in
-            subst (λ (w : ℕ). PutLast o (done ++ e ∷ []) i w (value_of w)) (sym same) (put_on o done e i was (value_of was) old lacks)
+            subst (λ (w : ℕ). PutLast o (done ++ e ∷ []) i w (value_of w)) (sym same)
+            (put_on o done e i was (value_of was) old lacks)
         | inr ne ↦ elim ((one_word o.shape here e there outcome is_sound made).only_so i ne) [
           | inl win ↦ newly_put i (word_at there i) above filled win.running win.stands win.exchange
           | inr (inl tick) ↦ absurd (let c = tick.clock in omega (arith, c, below))
@@ -328,7 +354,8 @@ module _ (o : Opening) (done : List Event) (here there : World) (e : Event) (out
         (sym (ap (λ (w : World). place_of w e.thread) s.there_is ∙ own_place o.shape here e.thread s.running
         (made_within o.shape here e there outcome made)) ∙ is)
 
-    held_own : (q : Running) (x : ℕ) → place_of there e.thread ≡ Some q → out_at q ≡ x → 0 < x → BeganLast (done ++ e ∷ []) e.thread x
+    held_own : (q : Running) (x : ℕ) → place_of there e.thread ≡ Some q → out_at q ≡ x → 0 < x
+        → BeganLast (done ++ e ∷ []) e.thread x
     held_own q x is out some = subst (BeganLast (done ++ e ∷ []) e.thread) out
         (by_going how (out_came o.shape s.running seen q (goes_to q is) some_out))
       where
@@ -336,11 +363,14 @@ module _ (o : Opening) (done : List Event) (here there : World) (e : Event) (out
         some_out = omega (arith, out, some)
 
         by_going : Going (place_of here e.thread) e.begin s.running
-            → (out_at s.running ≡ out_at q) ⊎ IsUndo o.shape s.running seen (out_at q) → BeganLast (done ++ e ∷ []) e.thread (out_at q)
-        by_going (On none at) (inl same) = began_on done e e.thread (out_at q) (known.held e.thread s.running (out_at q) at same some_out)
+            → (out_at s.running ≡ out_at q) ⊎ IsUndo o.shape s.running seen (out_at q)
+            → BeganLast (done ++ e ∷ []) e.thread (out_at q)
+        by_going (On none at) (inl same) =
+            began_on done e e.thread (out_at q) (known.held e.thread s.running (out_at q) at same some_out)
             (λ mine. none) (lacks_none (out_at q) e.begin none)
         by_going (On none at) (inr u) =
-            let old = known.carried e.thread s.running u.index seen at u.carries (ap (word_at here) (sym u.at) ∙ sym seen_is) in
+            let old = known.carried e.thread s.running u.index seen at u.carries
+            (ap (word_at here) (sym u.at) ∙ sym seen_is) in
             began_on done e e.thread (out_at q) (subst (BeganLast done e.thread) u.own old) (λ mine. none)
             (lacks_none (out_at q) e.begin none)
         by_going (Enqueues item start turns begin first) (inl same) =
@@ -356,42 +386,52 @@ module _ (o : Opening) (done : List Event) (here there : World) (e : Event) (out
             subst (BeganLast (done ++ e ∷ []) e.thread) (sym (ap out_at first) ∙ same) new
         by_going (Enqueues item start turns begin first) (inr u) = absurd
             (subst (λ (r : Running). CarriesAt r u.index seen) first u.carries)
-        by_going (Dequeues start turns first) (inl same) = absurd (let none = ap out_at first in omega (arith, none, same, some_out))
-        by_going (Dequeues start turns first) (inr u) = absurd (subst (λ (r : Running). CarriesAt r u.index seen) first u.carries)
+        by_going (Dequeues start turns first) (inl same) =
+            absurd (let none = ap out_at first in omega (arith, none, same, some_out))
+        by_going (Dequeues start turns first) (inr u) =
+            absurd (subst (λ (r : Running). CarriesAt r u.index seen) first u.carries)
 
-    carried_own : (q : Running) (i word : ℕ) → place_of there e.thread ≡ Some q → CarriesAt q i word → word_at there i ≡ word
+    carried_own : (q : Running) (i word : ℕ) → place_of there e.thread ≡ Some q → CarriesAt q i word
+        → word_at there i ≡ word
         → BeganLast (done ++ e ∷ []) e.thread (own_item q)
     carried_own q i word is c stands =
         let next = goes_to q is in
         subst (BeganLast (done ++ e ∷ []) e.thread) (sym (keeps_own o.shape s.running seen q next))
         (by_going how (carries_came o.shape s.running seen q i word next c))
       where
-        by_going : Going (place_of here e.thread) e.begin s.running → CarriesAt s.running i word ⊎ IsPut s.running i seen word
+        by_going : Going (place_of here e.thread) e.begin s.running → CarriesAt s.running i word
+            ⊎ IsPut s.running i seen word
             → BeganLast (done ++ e ∷ []) e.thread (own_item s.running)
         by_going (On none at) (inl old) =
             began_on done e e.thread (own_item s.running)
-            (known.carried e.thread s.running i word at old (stood e.thread s.running i word at old stands)) (λ mine. none)
+            (known.carried e.thread s.running i word at old (stood e.thread s.running i word at old stands))
+            (λ mine. none)
             (lacks_none (own_item s.running) e.begin none)
         by_going (On none at) (inr p) =
             let put : Running = R.Enqueue p.item p.start p.left (E.Put p.ends i seen) in
             let at_put : place_of here e.thread ≡ Some put = at ∙ ap Some p.place in
             let place : IsPlace o.shape put = place_is o.shape here e.thread put is_sound at_put in
-            let new = began_on done e e.thread p.item (known.held e.thread put p.item at_put refl place.0) (λ mine. none)
+            let new = began_on done e e.thread p.item (known.held e.thread put p.item at_put refl place.0)
+            (λ mine. none)
             (lacks_none p.item e.begin none) in
             subst (BeganLast (done ++ e ∷ []) e.thread) (sym (ap own_item p.place)) new
-        by_going (Enqueues item start turns begin first) (inl old) = absurd (subst (λ (r : Running). CarriesAt r i word) first old)
+        by_going (Enqueues item start turns begin first) (inl old) =
+            absurd (subst (λ (r : Running). CarriesAt r i word) first old)
         by_going (Enqueues item start turns begin first) (inr p) = absurd
             (put_not_first p.item p.start p.left p.ends i seen item start turns (sym p.place ∙ first))
         by_going (Dequeues start turns first) (inl old) = absurd (subst (λ (r : Running). CarriesAt r i word) first old)
         by_going (Dequeues start turns first) (inr p) = absurd
-            (enqueue_not_dequeue p.item p.start p.left start turns (E.Put p.ends i seen) D.LoadEnds (sym p.place ∙ first))
+            (enqueue_not_dequeue p.item p.start p.left start turns (E.Put p.ends i seen) D.LoadEnds
+            (sym p.place ∙ first))
 
-    below_own : (q : Running) (i word : ℕ) → place_of there e.thread ≡ Some q → CarriesAt q i word → word ≤ word_at there i
+    below_own : (q : Running) (i word : ℕ) → place_of there e.thread ≡ Some q → CarriesAt q i word
+        → word ≤ word_at there i
     below_own q i word is c = by_coming how (carries_came o.shape s.running seen q i word (goes_to q is) c)
       where
         newly : IsPut s.running i seen word → word ≤ word_at there i
         newly p =
-            let touches : access o.shape s.running ≡ Exchange i seen (filled_with p.item seen) = ap (access o.shape) p.place in
+            let touches : access o.shape s.running ≡ Exchange i seen (filled_with p.item seen) =
+            ap (access o.shape) p.place in
             let seen_there : seen ≡ word_at here i = seen_is ∙ ap (λ a. word_at here (accessed a)) touches in
             let exchange : access o.shape s.running ≡ Exchange i (word_at here i) word = touches ∙
             (λ k. Exchange i (seen_there k) (sym p.puts k)) in
@@ -401,12 +441,16 @@ module _ (o : Opening) (done : List Event) (here there : World) (e : Event) (out
             ∙ won_word o.shape here e.thread s.running i word is_sound place exchange in
             omega (arith, stands)
 
-        by_coming : Going (place_of here e.thread) e.begin s.running → CarriesAt s.running i word ⊎ IsPut s.running i seen word
+        by_coming : Going (place_of here e.thread) e.begin s.running → CarriesAt s.running i word
+            ⊎ IsPut s.running i seen word
             → word ≤ word_at there i
         by_coming how (inr p) = newly p
-        by_coming (On none at) (inl old) = let a = known.below e.thread s.running i word at old in let b = rises i in omega (arith, a, b)
-        by_coming (Enqueues item start turns begin first) (inl old) = absurd (subst (λ (r : Running). CarriesAt r i word) first old)
-        by_coming (Dequeues start turns first) (inl old) = absurd (subst (λ (r : Running). CarriesAt r i word) first old)
+        by_coming (On none at) (inl old) = let a = known.below e.thread s.running i word at old in let b = rises i in
+            omega (arith, a, b)
+        by_coming (Enqueues item start turns begin first) (inl old) =
+            absurd (subst (λ (r : Running). CarriesAt r i word) first old)
+        by_coming (Dequeues start turns first) (inl old) =
+            absurd (subst (λ (r : Running). CarriesAt r i word) first old)
 
   traced_on : Traced o (done ++ e ∷ []) there
   traced_on =
@@ -445,14 +489,17 @@ module _ (o : Opening) (done : List Event) (here there : World) (e : Event) (out
 
 -- so does a schedule
 traced_along : (o : Opening) (done rest : List Event) (here there : World) → world_after o done ≡ Some here
-    → run o.shape (Some here) rest ≡ Some there → AllBeginFree o.shape (Some here) rest → Traced o done here → Traced o (done ++ rest) there
+    → run o.shape (Some here) rest ≡ Some there → AllBeginFree o.shape (Some here) rest → Traced o done here
+    → Traced o (done ++ rest) there
 traced_along o done [] here there reached is free known =
-    subst (λ (x : List Event × World). Traced o x.0 x.1) (λ i. (sym (append-nil done) i, Some-injective here there is i)) known
+    subst (λ (x : List Event × World). Traced o x.0 x.1)
+    (λ i. (sym (append-nil done) i, Some-injective here there is i)) known
 traced_along o done (e ∷ es) here there reached is free known =
     let m = first_made o.shape here e there es is in
     let next : world_of (step o.shape here e) ≡ Some m.0 = ap world_of m.1.1.0 in
     let now = traced_on o done here m.0 e m.1.0 reached m.1.1.0 free.0 known in
-    let all = traced_along o (done ++ e ∷ []) es m.0 there (after-snoc o.shape o.threads done here e reached ∙ next) m.1.1.1
+    let all = traced_along o (done ++ e ∷ []) es m.0 there (after-snoc o.shape o.threads done here e reached ∙ next)
+    m.1.1.1
     (subst (λ (w : Option World). AllBeginFree o.shape w es) next free.1) now in
     subst (λ (xs : List Event). Traced o xs there) (append_assoc done (e ∷ []) es) all
 
@@ -476,8 +523,10 @@ opening_traced o = record {
     idle (suc n) (suc t) r at = idle n t r at
 
 -- The word of a filled slot was put by the enqueue that last began with its item
-pub who_put : (o : Opening) (all : List Event) (world : World) → world_after o all ≡ Some world → HolderLaw o all → (i : ℕ) → 0 < i
+pub who_put : (o : Opening) (all : List Event) (world : World) → world_after o all ≡ Some world → HolderLaw o all
+    → (i : ℕ) → 0 < i
     → i < clock_at o.shape.k o.shape.n → value_of (word_at world i) ≢ 0
     → PutLast o all i (word_at world i) (value_of (word_at world i))
 who_put o all world reached law i above below filled =
-    (traced_along o [] all (opening o.shape o.threads) world refl reached law (opening_traced o)).slots i above below filled
+    (traced_along o [] all (opening o.shape o.threads) world refl reached law (opening_traced o)).slots i above below
+    filled

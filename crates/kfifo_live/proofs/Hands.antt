@@ -1,6 +1,6 @@
 -- What a step of a thread does to the tokens, its own and those of others.
-use Rattle.std.proofs.Common.{◌≡◌, ◌≢◌, ◌⊎◌, ℕ, zero, suc, ◌-◌, ◌<◌, ◌≤◌, List, [], ◌∷◌, length, Option, Some, Bool, true}
-use Rattle.std.proofs.Common.{false, refl, sym, ap, ◌∙◌, subst, inl, inr, arith, cond, eq-eqb, ne_eqb}
+use Rattle.std.proofs.Common.{◌≡◌, ◌≢◌, ◌⊎◌, ℕ, zero, suc, ◌-◌, ◌<◌, ◌≤◌, List, [], ◌∷◌, length, Option, Some, Bool}
+use Rattle.std.proofs.Common.{true, false, refl, sym, ap, ◌∙◌, subst, inl, inr, arith, cond, eq-eqb, ne_eqb}
 use Rattle.std.specs.Prelude.{◌==◌, slice_set}
 use Rattle.std.proofs.lemmas.Bool.{cases_eq}
 use Rattle.std.proofs.lemmas.Bool.Decides.{nat_tests}
@@ -17,17 +17,19 @@ use Rattle.kfifo_machine.specs.declared.place.DequeuePhase.{DequeuePhase}
 use Rattle.kfifo_machine.specs.declared.place.DequeuePhase.TheVariants as D
 use Rattle.kfifo_machine.specs.declared.place.Running.TheVariants as R
 use Rattle.kfifo_machine.specs.declared.place.Next.TheVariants.{Goes, Answers}
-use Rattle.kfifo_model.specs.declared.calls.Answer.TheVariants.{Got}
 use Rattle.kfifo_machine.specs.Program.{access, accessed, advance, emptied, enqueue_advance, filled_with}
 use Rattle.kfifo_machine.specs.Machine.{place_after}
 use Rattle.kfifo_machine.specs.Places.{IsPlace}
 use Rattle.kfifo_machine.proofs.EndsUndisturbed.{slots_stay}
 use Rattle.kfifo_machine.proofs.RoundsUndisturbed.{words_by}
-use Rattle.kfifo_live.specs.Hands.{FitsOwn, Gifts, Homes, Where, Home, Out, In, Move, Stays, Lays, Lifts, Takes, move, out_at}
-use Rattle.kfifo_live.specs.Hands.{own_item, out_next, beside, AllHome, PutFits, GiftFits, CallFits, HandFits, Leaves, SlotsFit}
+use Rattle.kfifo_live.specs.Hands.{Gifts, Homes, Where, Home, Out, In, Move, Stays, Lays, Lifts, Takes, move, out_at}
+use Rattle.kfifo_live.specs.Hands.{own_item, out_next, beside, AllHome, PutFits, GiftFits, CallFits, HandFits, SlotsFit}
 use Rattle.kfifo_live.specs.Hands.{where_after, hand_after, slot_of, act_of, IsGift}
 use Rattle.kfifo_live.proofs.Balance.{Knows}
-use Rattle.kfifo_live.proofs.OtherHands.{Laid, Lifted, Quiet, this_word, lost_word, won_move, lost_move, turns, out_after, enqueue_out, dequeue_out, NextGift, held_on, put_on, Out-injective, In-not-Out, In-not-Home, Out-not-Home, In-injective, home_on, other_hand, slot_on}
+use Rattle.kfifo_live.proofs.OtherHands.{Laid, Lifted, Quiet, this_word, lost_word, won_move, lost_move, turns}
+use Rattle.kfifo_live.proofs.OtherHands.{out_after, enqueue_out, dequeue_out, NextGift, held_on, put_on, Out-injective}
+use Rattle.kfifo_live.proofs.OtherHands.{In-not-Out, In-not-Home, Out-not-Home, In-injective, home_on, other_hand}
+use Rattle.kfifo_live.proofs.OtherHands.{slot_on}
 
 -- where the step of a call leads, its thread has its token
 abbrev NotEnqueue : Next → Type 0
@@ -38,20 +40,23 @@ dequeue_goes : (shape : Shape) (start left : ℕ) (phase : DequeuePhase) (word :
     → NotEnqueue (advance shape (R.Dequeue start left phase) word)
 dequeue_goes shape start left phase word = grind (arith, nat_tests)
 
-next_enqueue : {T : Type 0} (bare : Bool) (v : ℕ → ℕ) (gifts : Gifts T) (hand : Hand T) (own : ℕ) (next : Next) → out_next own next ≡ hand.out
+next_enqueue : {T : Type 0} (bare : Bool) (v : ℕ → ℕ) (gifts : Gifts T) (hand : Hand T) (own : ℕ) (next : Next)
+    → out_next own next ≡ hand.out
     → IsGift bare hand.payload → NextGift v gifts hand.payload next
     → CallFits bare v gifts hand (place_after next)
 next_enqueue bare v gifts hand own (Goes (R.Enqueue item start left phase)) out payload fits = (sym out, payload, fits)
 next_enqueue bare v gifts hand own (Goes (R.Dequeue start left phase)) out payload fits = sym out
 next_enqueue bare v gifts hand own (Answers answer) out payload fits = tt
 
-next_dequeue : {T : Type 0} (bare : Bool) (v : ℕ → ℕ) (gifts : Gifts T) (hand : Hand T) (own : ℕ) (next : Next) → out_next own next ≡ hand.out
+next_dequeue : {T : Type 0} (bare : Bool) (v : ℕ → ℕ) (gifts : Gifts T) (hand : Hand T) (own : ℕ) (next : Next)
+    → out_next own next ≡ hand.out
     → NotEnqueue next → CallFits bare v gifts hand (place_after next)
 next_dequeue bare v gifts hand own (Goes (R.Enqueue item start left phase)) out never = absurd never
 next_dequeue bare v gifts hand own (Goes (R.Dequeue start left phase)) out never = sym out
 next_dequeue bare v gifts hand own (Answers answer) out never = tt
 
-out-hand_after : {T : Type 0} (m : Move) (gifts : Gifts T) (hand : Hand T) → (hand_after m gifts hand).out ≡ out_after hand.out m
+pub out-hand_after : {T : Type 0} (m : Move) (gifts : Gifts T) (hand : Hand T) → (hand_after m gifts hand).out
+    ≡ out_after hand.out m
 unfolding out_after
 out-hand_after Stays gifts hand = refl
 out-hand_after (Lays index) gifts hand = refl
@@ -59,7 +64,8 @@ out-hand_after (Lifts item) gifts hand = refl
 out-hand_after (Takes item) gifts hand = refl
 
 -- an enqueue's step keeps what the seat has written beside it
-enqueue_payload : {T : Type 0} (item start left : ℕ) (phase : EnqueuePhase) (word : ℕ) (gifts : Gifts T) (hand : Hand T)
+pub enqueue_payload : {T : Type 0} (item start left : ℕ) (phase : EnqueuePhase) (word : ℕ) (gifts : Gifts T)
+    (hand : Hand T)
     → (hand_after (move (R.Enqueue item start left phase) word) gifts hand).payload ≡ hand.payload
 enqueue_payload item start left E.LoadEnds word gifts hand = refl
 enqueue_payload item start left (E.ScanTail ends offset) word gifts hand = refl
@@ -85,9 +91,11 @@ enqueue_payload item start left (E.MoveTail ends) word gifts hand = refl
 module _ {T : Type 0} (shape : Shape) (w : ℕ → ℕ) (gifts : Gifts T) (payload : Option T) where
   put_same : (v : ℕ → ℕ) (item index filled : ℕ) → v index ≡ w index → PutFits w gifts payload item index filled
       → PutFits v gifts payload item index filled
-  put_same v item index filled same fits = (let e = ap version_of same in let le = fits.0 in omega arith, λ is. fits.1 (sym same ∙ is))
+  put_same v item index filled same fits =
+      (let e = ap version_of same in let le = fits.0 in omega arith, λ is. fits.1 (sym same ∙ is))
 
-  undo_on : (item start left index filled word : ℕ) (worn : Bool) (v : ℕ → ℕ) → word ≡ filled → beside item gifts ≡ payload
+  undo_on : (item start left index filled word : ℕ) (worn : Bool) (v : ℕ → ℕ) → word ≡ filled
+      → beside item gifts ≡ payload
       → NextGift v gifts payload (enqueue_advance shape item start left (E.Undo index filled worn) word)
   undo_on item start left index filled word worn v won is = grind (arith, nat_tests)
 
@@ -96,7 +104,8 @@ module _ {T : Type 0} (shape : Shape) (w : ℕ → ℕ) (gifts : Gifts T) (paylo
       → NextGift v gifts payload (enqueue_advance shape item start left (E.Put ends index empty) word)
   put_won item start left ends index empty word v won now is =
       let e : enqueue_advance shape item start left (E.Put ends index empty) word
-      ≡ Goes (R.Enqueue item start left (E.ReloadSlot ends index (filled_with item empty))) = grind (arith, nat_tests) in
+      ≡ Goes (R.Enqueue item start left (E.ReloadSlot ends index (filled_with item empty))) =
+      grind (arith, nat_tests) in
       let same = ap version_of now in
       let le : version_of (filled_with item empty) ≤ version_of (v index) = omega arith in
       let fits : PutFits v gifts payload item index (filled_with item empty) = (le, λ stays. is) in
@@ -106,24 +115,29 @@ module _ {T : Type 0} (shape : Shape) (w : ℕ → ℕ) (gifts : Gifts T) (paylo
       → GiftFits w gifts payload item phase
       → NextGift (words_by (access shape (R.Enqueue item start left phase)) w) gifts payload
       (enqueue_advance shape item start left phase (w (accessed (access shape (R.Enqueue item start left phase)))))
-  gift_on item start left E.LoadEnds place fits = held_on shape w gifts payload item start left E.LoadEnds w (w 0) refl refl place.0 fits
+  gift_on item start left E.LoadEnds place fits = held_on shape w gifts payload item start left E.LoadEnds w (w 0) refl
+      refl place.0 fits
   gift_on item start left (E.ScanTail ends offset) place fits =
       held_on shape w gifts payload item start left (E.ScanTail ends offset) w _ refl refl place.0 fits
   gift_on item start left (E.Recheck ends seen) place fits =
       held_on shape w gifts payload item start left (E.Recheck ends seen) w _ refl refl place.0 fits
   gift_on item start left (E.Put ends index empty) place fits =
       elim (cases_eq (w index) empty) [
-        | inl won ↦ put_won item start left ends index empty (w index) _ won (this_word w index empty (filled_with item empty) won) fits
+        | inl won ↦ put_won item start left ends index empty (w index) _ won
+            (this_word w index empty (filled_with item empty) won) fits
         | inr lost ↦ held_on shape w gifts payload item start left (E.Put ends index empty) _ (w index)
             (lost_move (w index) empty (Lays index) lost) refl place.0 fits
       ]
   gift_on item start left (E.ReloadSlot ends index filled) place fits =
-      put_on shape w gifts payload item start left (E.ReloadSlot ends index filled) w _ refl refl place.0 (λ i f p. p) fits
+      put_on shape w gifts payload item start left (E.ReloadSlot ends index filled) w _ refl refl place.0
+      (λ i f p. p) fits
   gift_on item start left (E.ReloadEnds ends index filled) place fits =
-      put_on shape w gifts payload item start left (E.ReloadEnds ends index filled) w _ refl refl place.0 (λ i f p. p) fits
+      put_on shape w gifts payload item start left (E.ReloadEnds ends index filled) w _ refl refl place.0
+      (λ i f p. p) fits
   gift_on item start left (E.HoldHead ends index filled held) place fits =
       let v = words_by (access shape (R.Enqueue item start left (E.HoldHead ends index filled held))) w in
-      put_on shape v gifts payload item start left (E.HoldHead ends index filled held) v _ refl refl place.0 (λ i f p. p)
+      put_on shape v gifts payload item start left (E.HoldHead ends index filled held) v _ refl refl place.0
+      (λ i f p. p)
       (put_same v item index filled (slots_stay w held _ index place.4.4.above) fits)
   gift_on item start left (E.Undo index filled worn) place fits =
       elim (cases_eq (w index) filled) [
@@ -143,7 +157,8 @@ module _ {T : Type 0} (shape : Shape) (w : ℕ → ℕ) (gifts : Gifts T) (paylo
   gift_on item start left (E.MoveTail ends) place fits =
       held_on shape w gifts payload item start left (E.MoveTail ends) _ (w 0) refl refl place.0 fits
 
-pub stands_on : {T : Type 0} (bare : Bool) (shape : Shape) (w : ℕ → ℕ) (gifts : Gifts T) (hand : Hand T) (r : Running) → IsPlace shape r
+pub stands_on : {T : Type 0} (bare : Bool) (shape : Shape) (w : ℕ → ℕ) (gifts : Gifts T) (hand : Hand T) (r : Running)
+    → IsPlace shape r
     → CallFits bare w gifts hand (Some r)
     → CallFits bare (words_by (access shape r) w) gifts (hand_after (move r (w (accessed (access shape r)))) gifts hand)
     (place_after (advance shape r (w (accessed (access shape r)))))
@@ -156,7 +171,8 @@ stands_on {T} bare shape w gifts hand (R.Enqueue item start left phase) place fi
     (enqueue_out shape item start left phase word ∙ ap (λ out. out_after out (move r word)) (sym fits.0)
     ∙ sym (out-hand_after (move r word) gifts hand))
     (subst (IsGift bare) (sym same) fits.1)
-    (subst (λ (p : Option T). NextGift (words_by (access shape r) w) gifts p (enqueue_advance shape item start left phase word)) (sym same)
+    (subst (λ (p : Option T). NextGift (words_by (access shape r) w) gifts p
+    (enqueue_advance shape item start left phase word)) (sym same)
     (gift_on shape w gifts hand.payload item start left phase place fits.2))
 stands_on {T} bare shape w gifts hand (R.Dequeue start left phase) place fits =
     let r = R.Dequeue start left phase in
@@ -175,10 +191,14 @@ out_gift bare w gifts hand (R.Enqueue item start left E.LoadEnds) fits positive 
 out_gift bare w gifts hand (R.Enqueue item start left (E.ScanTail ends offset)) fits positive out = (fits.2, fits.1)
 out_gift bare w gifts hand (R.Enqueue item start left (E.Recheck ends seen)) fits positive out = (fits.2, fits.1)
 out_gift bare w gifts hand (R.Enqueue item start left (E.Put ends index empty)) fits positive out = (fits.2, fits.1)
-out_gift bare w gifts hand (R.Enqueue item start left (E.ReloadSlot ends index filled)) fits positive out = absurd (omega arith)
-out_gift bare w gifts hand (R.Enqueue item start left (E.ReloadEnds ends index filled)) fits positive out = absurd (omega arith)
-out_gift bare w gifts hand (R.Enqueue item start left (E.HoldHead ends index filled held)) fits positive out = absurd (omega arith)
-out_gift bare w gifts hand (R.Enqueue item start left (E.Undo index filled worn)) fits positive out = absurd (omega arith)
+out_gift bare w gifts hand (R.Enqueue item start left (E.ReloadSlot ends index filled)) fits positive out =
+    absurd (omega arith)
+out_gift bare w gifts hand (R.Enqueue item start left (E.ReloadEnds ends index filled)) fits positive out =
+    absurd (omega arith)
+out_gift bare w gifts hand (R.Enqueue item start left (E.HoldHead ends index filled held)) fits positive out =
+    absurd (omega arith)
+out_gift bare w gifts hand (R.Enqueue item start left (E.Undo index filled worn)) fits positive out =
+    absurd (omega arith)
 out_gift bare w gifts hand (R.Enqueue item start left (E.ScanHead ends offset)) fits positive out = (fits.2, fits.1)
 out_gift bare w gifts hand (R.Enqueue item start left (E.ConfirmFull ends)) fits positive out = (fits.2, fits.1)
 out_gift bare w gifts hand (R.Enqueue item start left (E.MoveHead ends)) fits positive out = (fits.2, fits.1)
@@ -191,19 +211,23 @@ out_is bare w gifts hand (R.Enqueue item start left phase) fits = fits.0
 out_is bare w gifts hand (R.Dequeue start left phase) fits = fits
 
 -- a won undo finds the thread's own payload
-undo_gift : {T : Type 0} (bare : Bool) (shape : Shape) (w : ℕ → ℕ) (gifts : Gifts T) (hand : Hand T) (r : Running) (x : ℕ)
-    → CallFits bare w gifts hand (Some r) → move r (w (accessed (access shape r))) ≡ Lifts x → beside x gifts ≡ hand.payload
+undo_gift : {T : Type 0} (bare : Bool) (shape : Shape) (w : ℕ → ℕ) (gifts : Gifts T) (hand : Hand T) (r : Running)
+    (x : ℕ)
+    → CallFits bare w gifts hand (Some r) → move r (w (accessed (access shape r))) ≡ Lifts x
+    → beside x gifts ≡ hand.payload
 undo_gift bare shape w gifts hand (R.Enqueue item start left E.LoadEnds) x fits is = absurd (cc)
 undo_gift bare shape w gifts hand (R.Enqueue item start left (E.ScanTail ends offset)) x fits is = absurd (cc)
 undo_gift bare shape w gifts hand (R.Enqueue item start left (E.Recheck ends seen)) x fits is = absurd (cc)
-undo_gift bare shape w gifts hand (R.Enqueue item start left (E.Put ends index empty)) x fits is = absurd (by_test (w index == empty) is)
+undo_gift bare shape w gifts hand (R.Enqueue item start left (E.Put ends index empty)) x fits is =
+    absurd (by_test (w index == empty) is)
   where
     by_test : (b : Bool) → cond b (Lays index) Stays ≡ Lifts x → ⊥
     by_test true e = cc
     by_test false e = cc
 undo_gift bare shape w gifts hand (R.Enqueue item start left (E.ReloadSlot ends index filled)) x fits is = absurd (cc)
 undo_gift bare shape w gifts hand (R.Enqueue item start left (E.ReloadEnds ends index filled)) x fits is = absurd (cc)
-undo_gift bare shape w gifts hand (R.Enqueue item start left (E.HoldHead ends index filled held)) x fits is = absurd (cc)
+undo_gift bare shape w gifts hand (R.Enqueue item start left (E.HoldHead ends index filled held)) x fits is =
+    absurd (cc)
 undo_gift bare shape w gifts hand (R.Enqueue item start left (E.Undo index filled worn)) x fits is =
     elim (cases_eq (w index) filled) [
       | inl won ↦
@@ -225,7 +249,8 @@ undo_gift bare shape w gifts hand (R.Dequeue start left D.LoadEnds) x fits is = 
 undo_gift bare shape w gifts hand (R.Dequeue start left (D.ScanHead ends offset)) x fits is = absurd (cc)
 undo_gift bare shape w gifts hand (R.Dequeue start left (D.Recheck ends seen)) x fits is = absurd (cc)
 undo_gift bare shape w gifts hand (R.Dequeue start left (D.MoveTail ends index filled)) x fits is = absurd (cc)
-undo_gift bare shape w gifts hand (R.Dequeue start left (D.Take ends index filled)) x fits is = absurd (by_test (w index == filled) is)
+undo_gift bare shape w gifts hand (R.Dequeue start left (D.Take ends index filled)) x fits is =
+    absurd (by_test (w index == filled) is)
   where
     by_test : (b : Bool) → cond b (Takes (value_of filled)) Stays ≡ Lifts x → ⊥
     by_test true e = cc
@@ -244,12 +269,15 @@ pub record After {T : Type 0} (bare : Bool) (shape : Shape) (w v : ℕ → ℕ) 
   pub out : (hand_after m gifts' hand).out ≢ 0
       → (where_after thread (own_item r) m at (hand_after m gifts' hand).out ≡ Out thread)
       × ((hand_after m gifts' hand).out ≤ length (homes_after homes held (act_of 1 m gifts')))
-  pub others : (u : ℕ) (place : Option Running) (hand : Hand T) → u ≢ thread → ((s : Running) → place ≡ Some s → IsPlace shape s)
+  pub others : (u : ℕ) (place : Option Running) (hand : Hand T) → u ≢ thread
+      → ((s : Running) → place ≡ Some s → IsPlace shape s)
       → ((s : Running) → place ≡ Some s → Knows s)
-      → HandFits bare w place at gifts homes u hand → HandFits bare v place (where_after thread (own_item r) m at) gifts'
+      → HandFits bare w place at gifts homes u hand
+      → HandFits bare v place (where_after thread (own_item r) m at) gifts'
       (homes_after homes held (act_of 1 m gifts')) u hand
   pub taken : (x : ℕ) → m ≡ Takes x → (0 < x) × IsGift bare (beside x gifts')
-  pub carries : carried_after held (act_of 1 m gifts') ≡ slot_of (hand_after m gifts' hand).out (hand_after m gifts' hand).payload
+  pub carries : carried_after held (act_of 1 m gifts')
+      ≡ slot_of (hand_after m gifts' hand).out (hand_after m gifts' hand).payload
 
 Stays-not-Takes : (x : ℕ) → Stays ≡ Takes x → ⊥
 Stays-not-Takes x e = cc
@@ -272,9 +300,8 @@ slot-some : {T : Type 0} (out : ℕ) (payload : Option T) → 0 < out → slot_o
 slot-some zero payload positive = absurd (omega arith)
 slot-some (suc out) payload positive = ap (λ n. (n, payload) ∷ []) (let e : out ≡ suc out - 1 = omega arith in e)
 
-module _ {T : Type 0} (bare : Bool) (shape : Shape) (w v : ℕ → ℕ) (at : ℕ → Where) (gifts gifts' : Gifts T) (homes : Homes T)
-    (thread : ℕ) (r : Running)
-    (hand : Hand T) (held : List (ℕ × Option T))
+module _ {T : Type 0} (bare : Bool) (shape : Shape) (w v : ℕ → ℕ) (at : ℕ → Where) (gifts gifts' : Gifts T)
+    (homes : Homes T) (thread : ℕ) (r : Running) (hand : Hand T) (held : List (ℕ × Option T))
     (same_gift : (x : ℕ) → at x ≢ Out thread → beside x gifts' ≡ beside x gifts)
     (rises : (i : ℕ) → (v i ≡ w i) ⊎ (version_of (w i) < version_of (v i)))
     (slots : SlotsFit bare (clock_at shape.k shape.n) w at gifts homes)
@@ -282,30 +309,36 @@ module _ {T : Type 0} (bare : Bool) (shape : Shape) (w v : ℕ → ℕ) (at : �
     (out : hand.out ≢ 0 → (at hand.out ≡ Out thread) × (hand.out ≤ length homes))
     (stands : CallFits bare w gifts' hand (Some r))
     (held_is : held ≡ slot_of hand.out hand.payload) where
-  quiet : ((i : ℕ) → 0 < i → i < clock_at shape.k shape.n → v i ≡ w i) → After bare shape w v at gifts gifts' homes thread r hand held Stays
+  quiet : ((i : ℕ) → 0 < i → i < clock_at shape.k shape.n → v i ≡ w i)
+      → After bare shape w v at gifts gifts' homes thread r hand held Stays
   quiet same = record {
     valid = tt;
-    slots = λ i above below filled. slot_on bare shape w v at at gifts gifts' homes homes thread same_gift rises slots refl
-        (λ x t j p e. (refl, refl)) (λ x u ne e. refl) i above below (same i above below) (λ x p e. (refl, refl)) filled;
+    slots = λ i above below filled. slot_on bare shape w v at at gifts gifts' homes homes thread same_gift rises
+        slots refl
+        (λ x t j p e. (refl, refl)) (λ x u ne e. refl) i above below (same i above below) (λ x p e. (refl, refl))
+        filled;
     home = home;
     out = out;
     others = λ u place other ne is_place knows fits.
-        other_hand bare shape w v at at gifts gifts' homes homes thread same_gift rises slots refl (λ x t j p e. (refl, refl)) (λ x u ne e. refl)
+        other_hand bare shape w v at at gifts gifts' homes homes thread same_gift rises slots refl
+        (λ x t j p e. (refl, refl)) (λ x u ne e. refl)
         u place other ne is_place knows fits;
     taken = λ x e. absurd (Stays-not-Takes x e);
     carries = held_is;
   }
 
-  laid : (index : ℕ) → 0 < own_item r → out_at r ≡ own_item r → value_of (v index) ≡ own_item r → ((i : ℕ) → i ≢ index → v i ≡ w i)
+  laid : (index : ℕ) → 0 < own_item r → out_at r ≡ own_item r → value_of (v index) ≡ own_item r
+      → ((i : ℕ) → i ≢ index → v i ≡ w i)
       → After bare shape w v at gifts gifts' homes thread r hand held (Lays index)
   laid index positive mine put same = record {
     valid = tt;
     slots = λ i above below filled. slots_laid i above below filled;
-    home = home_on bare shape w v at at' gifts gifts' homes homes' thread same_gift rises slots size stays_home stays_out thread hand.at_home
-        home;
+    home = home_on bare shape w v at at' gifts gifts' homes homes' thread same_gift rises slots size stays_home
+        stays_out thread hand.at_home home;
     out = λ some_out. absurd (some_out refl);
     others = λ u place other ne is_place knows fits.
-        other_hand bare shape w v at at' gifts gifts' homes homes' thread same_gift rises slots size stays_home stays_out u place other ne
+        other_hand bare shape w v at at' gifts gifts' homes homes' thread same_gift rises slots size stays_home
+        stays_out u place other ne
         is_place knows fits;
     taken = λ x e. absurd (Lays-not-Takes index x e);
     carries = ap (λ (xs : List (ℕ × Option T)). carried_after xs (act_of 1 (Lays index) gifts')) held_now;
@@ -346,8 +379,10 @@ module _ {T : Type 0} (bare : Bool) (shape : Shape) (w v : ℕ → ℕ) (at : �
       apart : (x : ℕ) (y : Where) → at x ≡ y → y ≢ Out thread → x ≢ own
       apart x y e ne same_token = ne (sym e ∙ ap at same_token ∙ own_out.0)
 
-      stays_home : (x t j : ℕ) → 0 < x → at x ≡ Home t j → (at' x ≡ at x) × (get_elem? homes' (x - 1) ≡ get_elem? homes (x - 1))
-      stays_home x t j p e = let ne = apart x (Home t j) e (λ h. Out-not-Home thread t j (sym h)) in (at_other x ne, home_other x p ne)
+      stays_home : (x t j : ℕ) → 0 < x → at x ≡ Home t j → (at' x ≡ at x)
+          × (get_elem? homes' (x - 1) ≡ get_elem? homes (x - 1))
+      stays_home x t j p e = let ne = apart x (Home t j) e (λ h. Out-not-Home thread t j (sym h)) in
+          (at_other x ne, home_other x p ne)
 
       stays_out : (x u : ℕ) → u ≢ thread → at x ≡ Out u → at' x ≡ at x
       stays_out x u ne e = at_other x (apart x (Out u) e (λ h. ne (Out-injective u thread h)))
@@ -361,20 +396,25 @@ module _ {T : Type 0} (bare : Bool) (shape : Shape) (w v : ℕ → ℕ) (at : �
             | inl here ↦
                 let is : value_of (v i) ≡ own = ap (λ n. value_of (v n)) here ∙ put in
                 let g = out_gift bare w gifts' hand r stands positive mine in
-                let there : at' own ≡ In i = ap (λ b. cond b (In index) (at own)) (eq-eqb own own refl) ∙ ap In (sym here) in
+                let there : at' own ≡ In i = ap (λ b. cond b (In index) (at own)) (eq-eqb own own refl)
+                ∙ ap In (sym here) in
                 let le = own_out.1 in
                 let stored : get_elem? homes' (own - 1) ≡ some (some (beside own gifts')) =
-                ap (λ (hs : Homes T). get_elem? hs (own - 1)) homes_are ∙ set_here homes (own - 1) (some hand.payload) (omega arith)
+                ap (λ (hs : Homes T). get_elem? hs (own - 1)) homes_are
+                ∙ set_here homes (own - 1) (some hand.payload) (omega arith)
                 ∙ ap (λ (p : Option T). some (some p)) (sym g.0) in
                 subst (λ (x : ℕ). (at' x ≡ In i) × IsGift bare (beside x gifts')
-                × (get_elem? homes' (x - 1) ≡ some (some (beside x gifts')))) (sym is) (there, subst (IsGift bare) (sym g.0) g.1, stored)
-            | inr else ↦ slot_on bare shape w v at at' gifts gifts' homes homes' thread same_gift rises slots size stays_home stays_out i above
-                below (same i else) (stays_in i) filled
+                × (get_elem? homes' (x - 1) ≡ some (some (beside x gifts')))) (sym is)
+                (there, subst (IsGift bare) (sym g.0) g.1, stored)
+            | inr else ↦ slot_on bare shape w v at at' gifts gifts' homes homes' thread same_gift rises slots size
+                stays_home stays_out i above below (same i else) (stays_in i) filled
           ]
 
-  lifted : (m : Move) (index x : ℕ) → (m ≡ Lifts x) ⊎ (m ≡ Takes x) → 0 < index → index < clock_at shape.k shape.n → value_of (w index) ≡ x
+  lifted : (m : Move) (index x : ℕ) → (m ≡ Lifts x) ⊎ (m ≡ Takes x) → 0 < index → index < clock_at shape.k shape.n
+      → value_of (w index) ≡ x
       → 0 < x → value_of (v index) ≡ 0 → ((i : ℕ) → i ≢ index → v i ≡ w i)
-      → out_at r ≡ 0 → ((m ≡ Lifts x) → beside x gifts' ≡ hand.payload) → After bare shape w v at gifts gifts' homes thread r hand held m
+      → out_at r ≡ 0 → ((m ≡ Lifts x) → beside x gifts' ≡ hand.payload)
+      → After bare shape w v at gifts gifts' homes thread r hand held m
   lifted m index x kind above below value positive gone same none_out own_gift =
       elim kind [
         | inl e ↦ subst (After bare shape w v at gifts gifts' homes thread r hand held) (sym e) (of_lift (own_gift e))
@@ -384,7 +424,8 @@ module _ {T : Type 0} (bare : Bool) (shape : Shape) (w v : ℕ → ℕ) (at : �
       there : (at x ≡ In index) × IsGift bare (beside x gifts)
           × (get_elem? homes (x - 1) ≡ some (some (beside x gifts)))
       there = subst (λ (y : ℕ). (at y ≡ In index) × IsGift bare (beside y gifts)
-          × (get_elem? homes (y - 1) ≡ some (some (beside y gifts)))) value (slots index above below (λ none_there. absurd (omega arith)))
+          × (get_elem? homes (y - 1) ≡ some (some (beside y gifts)))) value
+          (slots index above below (λ none_there. absurd (omega arith)))
 
       now_gift : beside x gifts' ≡ beside x gifts
       now_gift = same_gift x (λ e. In-not-Out index thread (sym there.0 ∙ e))
@@ -410,8 +451,10 @@ module _ {T : Type 0} (bare : Bool) (shape : Shape) (w v : ℕ → ℕ) (at : �
       apart : (y : ℕ) (z : Where) → at y ≡ z → z ≢ In index → y ≢ x
       apart y z e ne same_token = ne (sym e ∙ ap at same_token ∙ there.0)
 
-      stays_home : (y t j : ℕ) → 0 < y → at y ≡ Home t j → (at' y ≡ at y) × (get_elem? homes' (y - 1) ≡ get_elem? homes (y - 1))
-      stays_home y t j p e = let ne = apart y (Home t j) e (λ h. In-not-Home index t j (sym h)) in (at_other y ne, home_other y p ne)
+      stays_home : (y t j : ℕ) → 0 < y → at y ≡ Home t j → (at' y ≡ at y)
+          × (get_elem? homes' (y - 1) ≡ get_elem? homes (y - 1))
+      stays_home y t j p e = let ne = apart y (Home t j) e (λ h. In-not-Home index t j (sym h)) in
+          (at_other y ne, home_other y p ne)
 
       stays_out : (y u : ℕ) → u ≢ thread → at y ≡ Out u → at' y ≡ at y
       stays_out y u ne e = at_other y (apart y (Out u) e (λ h. In-not-Out index u (sym h)))
@@ -420,9 +463,10 @@ module _ {T : Type 0} (bare : Bool) (shape : Shape) (w v : ℕ → ℕ) (at : �
       slots_lifted i low high filled =
           elim (cases_eq i index) [
             | inl here ↦ absurd (filled (ap (λ n. value_of (v n)) here ∙ gone))
-            | inr else ↦ slot_on bare shape w v at at' gifts gifts' homes homes' thread same_gift rises slots size stays_home stays_out i low
-                high (same i else)
-                (λ y p e. let ne = apart y (In i) e (λ h. else (In-injective i index h)) in (at_other y ne, home_other y p ne)) filled
+            | inr else ↦ slot_on bare shape w v at at' gifts gifts' homes homes' thread same_gift rises slots size
+                stays_home stays_out i low high (same i else)
+                (λ y p e. let ne = apart y (In i) e (λ h. else (In-injective i index h)) in
+                (at_other y ne, home_other y p ne)) filled
           ]
 
       out_now : (at' x ≡ Out thread) × (x ≤ length homes')
@@ -441,11 +485,12 @@ module _ {T : Type 0} (bare : Bool) (shape : Shape) (w v : ℕ → ℕ) (at : �
       of_take = record {
         valid = valid_now;
         slots = slots_lifted;
-        home = home_on bare shape w v at at' gifts gifts' homes homes' thread same_gift rises slots size stays_home stays_out thread hand.at_home
-            home;
+        home = home_on bare shape w v at at' gifts gifts' homes homes' thread same_gift rises slots size stays_home
+            stays_out thread hand.at_home home;
         out = λ some_out. out_now;
         others = λ u place other ne is_place knows fits.
-            other_hand bare shape w v at at' gifts gifts' homes homes' thread same_gift rises slots size stays_home stays_out u place other ne
+            other_hand bare shape w v at at' gifts gifts' homes homes' thread same_gift rises slots size stays_home
+            stays_out u place other ne
             is_place knows fits;
         taken = λ y e. subst (λ (z : ℕ). (0 < z) × IsGift bare (beside z gifts')) (Takes-injective x y e)
             (positive, subst (IsGift bare) (sym now_gift) there.1);
@@ -456,11 +501,12 @@ module _ {T : Type 0} (bare : Bool) (shape : Shape) (w v : ℕ → ℕ) (at : �
       of_lift own = record {
         valid = valid_now;
         slots = slots_lifted;
-        home = home_on bare shape w v at at' gifts gifts' homes homes' thread same_gift rises slots size stays_home stays_out thread hand.at_home
-            home;
+        home = home_on bare shape w v at at' gifts gifts' homes homes' thread same_gift rises slots size stays_home
+            stays_out thread hand.at_home home;
         out = λ some_out. out_now;
         others = λ u place other ne is_place knows fits.
-            other_hand bare shape w v at at' gifts gifts' homes homes' thread same_gift rises slots size stays_home stays_out u place other ne
+            other_hand bare shape w v at at' gifts gifts' homes homes' thread same_gift rises slots size stays_home
+            stays_out u place other ne
             is_place knows fits;
         taken = λ y e. absurd (Lifts-not-Takes x y e);
         carries = slot_now hand.payload own;
@@ -471,94 +517,28 @@ pub after_step : {T : Type 0} (bare : Bool) (shape : Shape) (w : ℕ → ℕ) (a
     (homes : Homes T) (thread : ℕ)
     (r : Running) (hand : Hand T) (held : List (ℕ × Option T))
     → ((x : ℕ) → at x ≢ Out thread → beside x gifts' ≡ beside x gifts)
-    → ((i : ℕ) → (words_by (access shape r) w i ≡ w i) ⊎ (version_of (w i) < version_of (words_by (access shape r) w i)))
+    → ((i : ℕ) → (words_by (access shape r) w i ≡ w i)
+    ⊎ (version_of (w i) < version_of (words_by (access shape r) w i)))
     → SlotsFit bare (clock_at shape.k shape.n) w at gifts homes → AllHome at homes thread hand.at_home
     → (hand.out ≢ 0 → (at hand.out ≡ Out thread) × (hand.out ≤ length homes)) → CallFits bare w gifts' hand (Some r)
     → held ≡ slot_of hand.out hand.payload
-    → IsPlace shape r → Knows r → After bare shape w (words_by (access shape r) w) at gifts gifts' homes thread r hand held
+    → IsPlace shape r → Knows r
+    → After bare shape w (words_by (access shape r) w) at gifts gifts' homes thread r hand held
     (move r (w (accessed (access shape r))))
-after_step bare shape w at gifts gifts' homes thread r hand held same_gift rises slots home out stands held_is place knows =
+after_step bare shape w at gifts gifts' homes thread r hand held same_gift rises slots home out stands held_is place
+    knows =
     let v = words_by (access shape r) w in
     elim (turns shape w r place knows) [
       | Quiet e same ↦ subst (After bare shape w v at gifts gifts' homes thread r hand held) (sym e)
-          (quiet bare shape w v at gifts gifts' homes thread r hand held same_gift rises slots home out stands held_is same)
-      | Laid index e positive mine put same ↦ subst (After bare shape w v at gifts gifts' homes thread r hand held) (sym e)
-          (laid bare shape w v at gifts gifts' homes thread r hand held same_gift rises slots home out stands held_is index positive mine put
+          (quiet bare shape w v at gifts gifts' homes thread r hand held same_gift rises slots home out stands held_is
+          same)
+      | Laid index e positive mine put same ↦ subst (After bare shape w v at gifts gifts' homes thread r hand held)
+          (sym e)
+          (laid bare shape w v at gifts gifts' homes thread r hand held same_gift rises slots home out stands held_is
+          index positive mine put
           same)
       | Lifted index x kind above below value positive none_out gone same ↦
           lifted bare shape w v at gifts gifts' homes thread r hand held same_gift rises slots home out stands held_is
           (move r (w (accessed (access shape r)))) index x kind above below value positive gone same none_out
           (λ e. undo_gift bare shape w gifts' hand r x stands e)
     ]
-
--- where one step leaves its thread's token
-abbrev NotGot : Next → Type 0
-NotGot (Answers (Got item)) = ⊥
-NotGot next = Unit {0}
-
-enqueue_fits : (shape : Shape) (item start left : ℕ) (phase : EnqueuePhase) (word : ℕ) → 0 < item
-    → FitsOwn item (enqueue_advance shape item start left phase word)
-enqueue_fits shape item start left phase word positive = grind (arith, nat_tests)
-
-dequeue_fits : (shape : Shape) (start left : ℕ) (phase : DequeuePhase) (word : ℕ)
-    → FitsOwn 0 (advance shape (R.Dequeue start left phase) word)
-dequeue_fits shape start left phase word = grind (arith, nat_tests)
-
-abbrev SameOwn : ℕ → Next → Type 0
-SameOwn own (Goes place) = own_item place ≡ own
-SameOwn own (Answers answer) = Unit {0}
-
-abbrev GotMove : Move → Next → Type 0
-GotMove m (Answers (Got item)) = m ≡ Takes item
-GotMove m next = Unit {0}
-
-enqueue_not_got : (shape : Shape) (item start left : ℕ) (phase : EnqueuePhase) (word : ℕ)
-    → NotGot (enqueue_advance shape item start left phase word)
-enqueue_not_got shape item start left phase word = grind (arith, nat_tests)
-
-enqueue_own : (shape : Shape) (item start left : ℕ) (phase : EnqueuePhase) (word : ℕ)
-    → SameOwn item (enqueue_advance shape item start left phase word)
-enqueue_own shape item start left phase word = grind (arith, nat_tests)
-
-dequeue_own : (shape : Shape) (start left : ℕ) (phase : DequeuePhase) (word : ℕ)
-    → SameOwn 0 (advance shape (R.Dequeue start left phase) word)
-dequeue_own shape start left phase word = grind (arith, nat_tests)
-
-dequeue_got : (shape : Shape) (start left : ℕ) (phase : DequeuePhase) (word : ℕ)
-    → GotMove (move (R.Dequeue start left phase) word) (advance shape (R.Dequeue start left phase) word)
-dequeue_got shape start left phase word = grind (arith, nat_tests)
-
-pub leaves_step : {T : Type 0} (bare : Bool) (shape : Shape) (r : Running) (word : ℕ) (gifts : Gifts T) (hand : Hand T) (payload : Option T)
-    → IsPlace shape r → hand.out ≡ out_at r → (0 < own_item r → hand.payload ≡ payload)
-    → ((x : ℕ) → move r word ≡ Takes x → (0 < x) × IsGift bare (beside x gifts))
-    → Leaves bare (own_item r) payload gifts (hand_after (move r word) gifts hand) (advance shape r word)
-leaves_step bare shape (R.Enqueue item start left phase) word gifts hand payload place out is takes_some =
-    let r = R.Enqueue item start left phase in
-    record {
-      out = out-hand_after (move r word) gifts hand ∙ ap (λ o. out_after o (move r word)) out
-          ∙ sym (enqueue_out shape item start left phase word);
-      kept = λ positive. enqueue_payload item start left phase word gifts hand ∙ is positive;
-      taken = λ got e. absurd (subst NotGot e (enqueue_not_got shape item start left phase word));
-      fits = enqueue_fits shape item start left phase word place.0;
-      same_own = λ place e. subst (SameOwn item) e (enqueue_own shape item start left phase word);
-    }
-leaves_step bare shape (R.Dequeue start left phase) word gifts hand payload place out is takes_some =
-    let r = R.Dequeue start left phase in
-    record {
-      out = out-hand_after (move r word) gifts hand ∙ ap (λ o. out_after o (move r word)) out
-          ∙ sym (dequeue_out shape start left phase word);
-      kept = λ positive. absurd (omega arith);
-      taken = λ got e.
-          let m = subst (GotMove (move r word)) e (dequeue_got shape start left phase word) in
-          let some = takes_some got m in
-          (some.0, ap (λ m. (hand_after m gifts hand).payload) m, some.1);
-      fits = dequeue_fits shape start left phase word;
-      same_own = λ place e. subst (SameOwn 0) e (dequeue_own shape start left phase word);
-    }
-
--- a step leaves the tokens at home
-pub home_step : {T : Type 0} (m : Move) (gifts : Gifts T) (hand : Hand T) → (hand_after m gifts hand).at_home ≡ hand.at_home
-home_step Stays gifts hand = refl
-home_step (Lays index) gifts hand = refl
-home_step (Lifts item) gifts hand = refl
-home_step (Takes item) gifts hand = refl

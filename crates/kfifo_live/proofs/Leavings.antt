@@ -1,7 +1,7 @@
 -- What is left in a payload queue at its end: each token once, its payload in its slot.
-use Rattle.std.proofs.Common.{◌≡◌, ◌≢◌, ◌⊎◌, ℕ, zero, suc, ◌+◌, ◌-◌, ◌*◌, ◌<◌, ◌≤◌, List, [], ◌∷◌, ◌++◌, append_assoc, drop, length, map}
-use Rattle.std.proofs.Common.{get_or, set, Option, Some, None, refl, sym, ap, ◌∙◌, subst, inl, inr, arith, cond, eq-eqb, ne_eqb}
-use Rattle.std.proofs.Common.{mul-le-mul_right, suc-mul}
+use Rattle.std.proofs.Common.{◌≡◌, ◌≢◌, ◌⊎◌, ℕ, zero, suc, ◌+◌, ◌-◌, ◌*◌, ◌<◌, ◌≤◌, List, [], ◌∷◌, ◌++◌, append_assoc}
+use Rattle.std.proofs.Common.{drop, length, map, get_or, set, Option, Some, None, refl, sym, ap, ◌∙◌, subst, inl, inr}
+use Rattle.std.proofs.Common.{arith, cond, eq-eqb, ne_eqb, mul-le-mul_right, suc-mul}
 use Rattle.std.specs.Prelude.{◌==◌, false}
 use Rattle.std.proofs.lemmas.List.{append-nil, drop_more, length-replicate, map-append}
 use Rattle.std.proofs.lemmas.Bool.{cases_eq}
@@ -21,7 +21,8 @@ use Rattle.kfifo_live.specs.Balance.{times, undos, takes}
 use Rattle.kfifo_live.specs.Hands.{Gifts, In, IsGift, beside}
 use Rattle.kfifo_live.specs.Left.{item_in, slots_left, segments_left, items_left}
 use Rattle.kfifo_live.specs.Pass.{AllIdle, AllSeen, OpenQueue}
-use Rattle.kfifo_live.specs.Payloads.{EndsIn, HavePayloads, IsEnded, PayCloses, PayJoins, PayPassView, in_slot, passes_of, pay_pass_view}
+use Rattle.kfifo_live.specs.Payloads.{EndsIn, HavePayloads, IsEnded, PayCloses, PayJoins, PayPassView, in_slot}
+use Rattle.kfifo_live.specs.Payloads.{passes_of, pay_pass_view}
 use Rattle.kfifo_live.specs.Schedule.{OneSchedule, gifts_of, seen_of, world_after}
 use Rattle.kfifo_live.proofs.Balance.{balance}
 use Rattle.kfifo_live.proofs.ClosedEmpty.{sealed_closes}
@@ -42,12 +43,14 @@ sum_none f i (suc m) none =
     let later : sum f (suc i) m ≡ 0 = sum_none f (suc i) m (λ j low high. none j (omega arith) (omega arith)) in
     omega arith
 
-sum_once : (f : ℕ → ℕ) (i m : ℕ) → ((j : ℕ) → f j ≤ 1) → ((j l : ℕ) → i ≤ j → j < l → l < i + m → f j ≡ 1 → f l ≡ 0) → sum f i m ≤ 1
+sum_once : (f : ℕ → ℕ) (i m : ℕ) → ((j : ℕ) → f j ≤ 1) → ((j l : ℕ) → i ≤ j → j < l → l < i + m → f j ≡ 1 → f l ≡ 0)
+    → sum f i m ≤ 1
 sum_once f i zero one once = omega arith
 sum_once f i (suc m) one once =
     elim (cases_eq (f i) 1) [
       | inl is ↦
-          let later : sum f (suc i) m ≡ 0 = sum_none f (suc i) m (λ j low high. once i j (omega arith) (omega arith) (omega arith) is) in
+          let later : sum f (suc i) m ≡ 0 =
+          sum_none f (suc i) m (λ j low high. once i j (omega arith) (omega arith) (omega arith) is) in
           omega arith
       | inr not ↦
           let le = one i in
@@ -60,14 +63,16 @@ no_item : (word : ℕ) → value_of word ≡ 0 → item_in word ≡ []
 no_item word empty = ap (λ b. cond b [] (value_of word ∷ [])) (eq-eqb (value_of word) 0 empty)
 
 -- a slot's word has an item once at most
-item_once : (x word : ℕ) → (times x (item_in word) ≡ 0) ⊎ ((times x (item_in word) ≡ 1) × (value_of word ≡ x) × (value_of word ≢ 0))
+item_once : (x word : ℕ) → (times x (item_in word) ≡ 0)
+    ⊎ ((times x (item_in word) ≡ 1) × (value_of word ≡ x) × (value_of word ≢ 0))
 item_once x word =
     elim (cases_eq (value_of word) 0) [
       | inl empty ↦ inl (ap (times x) (no_item word empty))
       | inr filled ↦
           let all = ap (times x) (filled_item word filled) in
           elim (cases_eq (value_of word) x) [
-            | inl same ↦ let t : cond {A = ℕ} (value_of word == x) 1 0 ≡ 1 = ap (λ b. cond {A = ℕ} b 1 0) (eq-eqb (value_of word) x same) in
+            | inl same ↦ let t : cond {A = ℕ} (value_of word == x) 1 0 ≡ 1 =
+                ap (λ b. cond {A = ℕ} b 1 0) (eq-eqb (value_of word) x same) in
                 inr ((omega (arith, all, t)), same, filled)
             | inr other ↦ let t : cond {A = ℕ} (value_of word == x) 1 0 ≡ 0 =
                 ap (λ b. cond {A = ℕ} b 1 0) (ne_eqb (value_of word) x other) in inl (omega (arith, all, t))
@@ -76,7 +81,8 @@ item_once x word =
 
 -- words that name an item at one index alone leave it once at most
 pub left_once : (x : ℕ) (shape : Shape) (words : List ℕ) → head_of (get_or words 0 0) < shape.n
-    → ((i j : ℕ) → 0 < i → i < clock_at shape.k shape.n → 0 < j → j < clock_at shape.k shape.n → value_of (get_or words i 0) ≡ x
+    → ((i j : ℕ) → 0 < i → i < clock_at shape.k shape.n → 0 < j → j < clock_at shape.k shape.n
+    → value_of (get_or words i 0) ≡ x
     → value_of (get_or words j 0) ≡ x → x ≢ 0 → i ≡ j) → times x (items_left shape words) ≤ 1
 left_once x shape words head one =
     let all = times-left x shape words head in
@@ -103,18 +109,22 @@ next_below n s h = grind (arith, nat_tests)
 
 -- what is so of the item of each filled slot is so of all that is left
 module _ (shape : Shape) (words : List ℕ) (P : ℕ → Type 0)
-    (each : (i : ℕ) → 0 < i → i < clock_at shape.k shape.n → value_of (get_or words i 0) ≢ 0 → P (value_of (get_or words i 0))) where
+    (each : (i : ℕ) → 0 < i → i < clock_at shape.k shape.n → value_of (get_or words i 0) ≢ 0
+    → P (value_of (get_or words i 0))) where
   each_item : (i : ℕ) → 0 < i → i < clock_at shape.k shape.n → AllByRecursion P (item_in (get_or words i 0))
   each_item i above within =
       elim (cases_eq (value_of (get_or words i 0)) 0) [
         | inl empty ↦ subst (AllByRecursion P) (sym (no_item (get_or words i 0) empty)) tt
-        | inr filled ↦ subst (AllByRecursion P) (sym (filled_item (get_or words i 0) filled)) (each i above within filled, tt)
+        | inr filled ↦ subst (AllByRecursion P) (sym (filled_item (get_or words i 0) filled))
+            (each i above within filled, tt)
       ]
 
-  each_slot : (index count : ℕ) → 0 < index → index + count ≤ clock_at shape.k shape.n → AllByRecursion P (slots_left words index count)
+  each_slot : (index count : ℕ) → 0 < index → index + count ≤ clock_at shape.k shape.n
+      → AllByRecursion P (slots_left words index count)
   each_slot index zero above within = tt
   each_slot index (suc count) above within =
-      AllByRecursion-append P (item_in (get_or words index 0)) (slots_left words (suc index) count) (each_item index above (omega arith))
+      AllByRecursion-append P (item_in (get_or words index 0)) (slots_left words (suc index) count)
+      (each_item index above (omega arith))
       (each_slot (suc index) count (omega arith) (omega arith))
 
   each_segment : (segment count : ℕ) → segment < shape.n → AllByRecursion P (segments_left shape words segment count)
@@ -141,7 +151,8 @@ module _ {T : Type 0} where
   HasGift slots gifts x = (0 < x) × (x ≤ length slots) × ((payload : T) × (in_slot slots x ≡ Some payload))
       × (in_slot slots x ≡ beside x gifts)
 
-  have_payloads : (slots : List (Option T)) (gifts : Gifts T) (tokens : List ℕ) → AllByRecursion (HasGift slots gifts) tokens
+  have_payloads : (slots : List (Option T)) (gifts : Gifts T) (tokens : List ℕ)
+      → AllByRecursion (HasGift slots gifts) tokens
       → ((x : ℕ) → times x tokens ≤ 1) → HavePayloads slots tokens
   have_payloads slots gifts [] all once = tt
   have_payloads slots gifts (x ∷ xs) all once =
@@ -151,14 +162,17 @@ module _ {T : Type 0} where
         have_payloads slots gifts xs all.1 (λ y. let le = once y in omega (arith, le)),
       )
 
-  gifts_are : (slots : List (Option T)) (gifts : Gifts T) (tokens : List ℕ) → AllByRecursion (HasGift slots gifts) tokens
+  gifts_are : (slots : List (Option T)) (gifts : Gifts T) (tokens : List ℕ)
+      → AllByRecursion (HasGift slots gifts) tokens
       → map (in_slot slots) tokens ≡ map (λ x. beside x gifts) tokens
   gifts_are slots gifts [] all = refl
   gifts_are slots gifts (x ∷ xs) all = λ i. all.0.3 i ∷ gifts_are slots gifts xs all.1 i
 
   -- one payload is taken out, which no later token names
-  pub still_there : (slots : List (Option T)) (x : ℕ) (tokens : List ℕ) → 0 < x → times x tokens ≡ 0 → HavePayloads slots tokens
-      → HavePayloads (set slots (x - 1) None) tokens × (map (in_slot (set slots (x - 1) None)) tokens ≡ map (in_slot slots) tokens)
+  pub still_there : (slots : List (Option T)) (x : ℕ) (tokens : List ℕ) → 0 < x → times x tokens ≡ 0
+      → HavePayloads slots tokens
+      → HavePayloads (set slots (x - 1) None) tokens
+      × (map (in_slot (set slots (x - 1) None)) tokens ≡ map (in_slot slots) tokens)
   still_there slots x [] above apart have = (tt, refl)
   still_there slots x (y ∷ ys) above apart have =
       let other : y ≢ x = λ e. absurd (let t : cond {A = ℕ} (y == x) 1 0
@@ -192,12 +206,14 @@ module _ {T : Type 0} where
   get_or_any (x ∷ xs) (suc i) d e less = get_or_any xs i d e (omega (arith, less))
 
   -- the payload of the next token is picked
-  pub picks : (slots first : List (Option T)) (tokens : List ℕ) (index : ℕ) (payloads : List T) (payload : T) (held : Option T)
+  pub picks : (slots first : List (Option T)) (tokens : List ℕ) (index : ℕ) (payloads : List T) (payload : T)
+      (held : Option T)
       → index < length tokens → HavePayloads slots (drop index tokens)
       → held ≡ get_or slots (get_or tokens index 0 - 1) held → held ≡ Some payload
       → map Some payloads ++ map (in_slot slots) (drop index tokens) ≡ map (in_slot first) tokens
       → HavePayloads (set slots (get_or tokens index 0 - 1) None) (drop (index + 1) tokens)
-      × (map Some (payloads ++ payload ∷ []) ++ map (in_slot (set slots (get_or tokens index 0 - 1) None)) (drop (index + 1) tokens)
+      × (map Some (payloads ++ payload ∷ []) ++ map (in_slot (set slots (get_or tokens index 0 - 1) None))
+      (drop (index + 1) tokens)
       ≡ map (in_slot first) tokens)
   picks slots first tokens index payloads payload held less have there is upto =
       let x = get_or tokens index 0 in
@@ -206,7 +222,8 @@ module _ {T : Type 0} where
       let all = subst (HavePayloads slots) more have in
       let positive = all.0.0 in
       let within = all.0.1 in
-      let here : Some payload ≡ in_slot slots x = sym is ∙ there ∙ get_or_any slots (x - 1) held None (omega (arith, positive, within)) in
+      let here : Some payload ≡ in_slot slots x = sym is ∙ there
+      ∙ get_or_any slots (x - 1) held None (omega (arith, positive, within)) in
       let left = still_there slots x later all.0.0 all.0.3 all.1 in (
         left.0,
         ap (λ ys. ys ++ map (in_slot (set slots (x - 1) None)) later) (map-append Some payloads (payload ∷ []))
@@ -220,7 +237,8 @@ In-injective : (i j : ℕ) → In i ≡ In j → i ≡ j
 In-injective i j e = cc
 
 -- with one thread no event of another follows
-none_other : (shape : Shape) (here there : World) (rest : List Event) → length here.places ≡ 1 → run shape (Some here) rest ≡ Some there
+none_other : (shape : Shape) (here there : World) (rest : List Event) → length here.places ≡ 1
+    → run shape (Some here) rest ≡ Some there
     → own 0 rest ≡ [] → rest ≡ []
 none_other shape here there [] one is none = refl
 none_other shape here there (e ∷ es) one is none =
@@ -228,13 +246,15 @@ none_other shape here there (e ∷ es) one is none =
     let within = made_within shape here e m.0 m.1.0 m.1.1.0 in
     absurd ((own_none 0 e es none).0 (omega (arith, within, one)))
 
-threads_are : (o : Opening) (seen : List Event) (here : World) → world_after o seen ≡ Some here → length here.places ≡ o.threads
+threads_are : (o : Opening) (seen : List Event) (here : World) → world_after o seen ≡ Some here
+    → length here.places ≡ o.threads
 unfolding opening
 threads_are o seen here reached =
     let idle : Option Running = None in
     still_threads o.shape (opening o.shape o.threads) here seen reached ∙ length-replicate o.threads idle
 
-all_seen : {T : Type 0} (all : List Event) (gifts : Gifts T) (ps : List (PayPassView T)) → AllByRecursion (EndsIn all gifts) ps
+all_seen : {T : Type 0} (all : List Event) (gifts : Gifts T) (ps : List (PayPassView T))
+    → AllByRecursion (EndsIn all gifts) ps
     → AllSeen (passes_of ps) all
 all_seen all gifts [] ends = tt
 all_seen all gifts (p ∷ ps) ends = (ends.0.0, all_seen all gifts ps ends.1)
@@ -303,7 +323,8 @@ module _ {T : Type 0} (q : OpenQueue) (table : TableId) {thread id : ℕ} {me : 
       (λ i j above_i below_i above_j below_j at_i at_j filled.
       In-injective i j (sym (where_is i above_i below_i at_i filled) ∙ where_is j above_j below_j at_j filled))
     where
-      where_is : (i : ℕ) → 0 < i → i < clock_at q.opened.shape.k q.opened.shape.n → value_of (get_or words i 0) ≡ x → x ≢ 0
+      where_is : (i : ℕ) → 0 < i → i < clock_at q.opened.shape.k q.opened.shape.n → value_of (get_or words i 0) ≡ x
+          → x ≢ 0
           → kept.at x ≡ In i
       where_is i above below is filled =
           let there = ap (λ ws. value_of (get_or ws i 0)) (sym words_are) ∙ is in
@@ -323,9 +344,11 @@ module _ {T : Type 0} (q : OpenQueue) (table : TableId) {thread id : ℕ} {me : 
       let seen = seen_of me.0 in
       let parts = joined.all_end kept.all kept.gifts fit.begin fit.given in
       let ended : Begins thread seen kept.all × ((later : Gifts T) × (kept.gifts ≡ gifts_of me.0 ++ later)) =
-      pass_ends thread me (pay_pass_view table thread me.0) kept.all kept.gifts p.0 refl refl refl parts.0.0 parts.0.1 in
+      pass_ends thread me (pay_pass_view table thread me.0) kept.all kept.gifts p.0 refl refl refl parts.0.0
+      parts.0.1 in
       let b : Begins thread seen kept.all = ended.0 in
-      let tokens_are : items_left o.shape words ≡ items_left o.shape kept.world.words = ap (items_left o.shape) words_are in
+      let tokens_are : items_left o.shape words ≡ items_left o.shape kept.world.words =
+      ap (items_left o.shape) words_are in
       record {
         all = kept.all;
         gifts = kept.gifts;
@@ -335,21 +358,24 @@ module _ {T : Type 0} (q : OpenQueue) (table : TableId) {thread id : ℕ} {me : 
         ends = (ended, parts.1);
         alone = λ one.
             let here = p.0.idle.here in
-            let reached : world_after o seen ≡ Some here = ap (λ (x : Opening). world_after x seen) (sym same) ∙ p.0.idle.reached in
+            let reached : world_after o seen ≡ Some here = ap (λ (x : Opening). world_after x seen) (sym same)
+            ∙ p.0.idle.reached in
             let size = threads_are o seen here reached in
             let within = p.0.idle.within in
             let mine = pass_thread thread me p.0 in
             let zero_is : thread ≡ 0 = omega (arith, within, size, one, mine) in
-            let arrived : world_after o (seen ++ b.rest) ≡ Some kept.world = ap (world_after o) (sym b.goes_on) ∙ kept.runs in
+            let arrived : world_after o (seen ++ b.rest) ≡ Some kept.world = ap (world_after o) (sym b.goes_on)
+            ∙ kept.runs in
             let onward = sym (run_on o.shape (Some (opening o.shape o.threads)) here seen b.rest reached) ∙ arrived in
-            let none = none_other o.shape here kept.world b.rest (size ∙ one) onward (ap (λ t. own t b.rest) (sym zero_is) ∙ b.no_own) in
+            let none = none_other o.shape here kept.world b.rest (size ∙ one) onward
+            (ap (λ t. own t b.rest) (sym zero_is) ∙ b.no_own) in
             b.goes_on ∙ ap (λ es. seen ++ es) none ∙ append-nil seen;
         in_turn = kept.in_turn.in_turn;
         holder_law = kept.in_turn.holder_law some_tokens;
         tokens_are = tokens_are;
         payloads_are = are ∙ gifts_are slots kept.gifts tokens all_filled;
-        were_put = λ i above below filled. was_put o kept.all kept.gifts i (word_at kept.world i) (value_of (word_at kept.world i))
-            kept.in_turn.in_turn
+        were_put = λ i above below filled. was_put o kept.all kept.gifts i (word_at kept.world i)
+            (value_of (word_at kept.world i)) kept.in_turn.in_turn
             (who_put o kept.all kept.world kept.runs (kept.in_turn.holder_law some_tokens) i above below filled);
         balance = λ token. balance o kept.all kept.world token kept.runs
             ∙ ap (λ xs. undos token o kept.all + (takes token o kept.all + times token xs)) (sym tokens_are);

@@ -1,6 +1,7 @@
 pub mod Types
 pub mod OtherHands
 pub mod Hands
+pub mod LeftInHand
 pub mod TokensAfterStep
 pub mod Ticks
 pub mod GiftsInTurn
@@ -10,7 +11,7 @@ pub mod SealSteps
 pub mod Cuts
 pub mod Draws
 pub mod Resting
-pub mod Whole
+pub mod CompleteExecutions
 pub mod CarriedWords
 pub mod Givers
 pub mod TakenGifts
@@ -31,7 +32,7 @@ pub mod Rotation
 pub mod Balance
 pub mod CallScans
 pub mod Made
-pub mod Pays
+pub mod TokenMoves
 pub mod PaySeals
 pub mod TokenCalls
 pub mod Minting

@@ -1,6 +1,7 @@
 -- A stamped call adds one call to the log, and nothing else.
-use Rattle.std.proofs.Common.{◌≡◌, ◌≢◌, ℕ, ◌+◌, ◌*◌, ◌<◌, ◌≤◌, List, [], ◌∷◌, ◌++◌, length, filter, drop, Option, Some, None, Ok, false}
-use Rattle.std.proofs.Common.{refl, sym, ap, ◌∙◌, subst, inl, inr, arith, append_assoc, cond, length-append}
+use Rattle.std.proofs.Common.{◌≡◌, ◌≢◌, ℕ, ◌+◌, ◌*◌, ◌<◌, ◌≤◌, List, [], ◌∷◌, ◌++◌, length, filter, drop, Option, Some}
+use Rattle.std.proofs.Common.{None, Ok, false, refl, sym, ap, ◌∙◌, subst, inl, inr, arith, append_assoc, cond}
+use Rattle.std.proofs.Common.{length-append}
 use Rattle.std.proofs.Math.ListN.{get_or-append}
 use Rattle.std.proofs.Math.Seq.{drop-append_seam, get_or-append_seam}
 use Rattle.std.proofs.lemmas.Bool.{cases_eq, cases_lt}
@@ -23,8 +24,8 @@ use Rattle.kfifo_live.specs.Schedule.{begins_tick, ticks, world_after}
 use Rattle.kfifo_live.specs.Pass.{PassView, IsSamePass}
 use Rattle.kfifo_live.specs.Promise.{calls_of}
 use Rattle.kfifo_live.specs.Calls.{Makes, MakesCall, added}
-use Rattle.kfifo_live.specs.Stamps.{Draws, HasCalls, IsLog, IsLogIn, IsStamped, MakesStamped, TakesFewStampedSteps, logged_by}
-use Rattle.kfifo_live.specs.Stamps.{stamped_call}
+use Rattle.kfifo_live.specs.Stamps.{Draws, HasCalls, IsLog, IsLogIn, IsStamped, MakesStamped, TakesFewStampedSteps}
+use Rattle.kfifo_live.specs.Stamps.{logged_by, stamped_call}
 use Rattle.kfifo_live.proofs.Keeps.{own_same}
 use Rattle.kfifo_live.proofs.Ticks.{clock_is, ticks-append, ticks_of_one}
 use Rattle.kfifo_machine.proofs.OwnCalls.{AddsCall, KeepsCalls, RunAdds, keeps_trans, others_keep, run_adds, tick_keeps}
@@ -38,7 +39,8 @@ stamped_on new all more is c d s = subst (λ (es : List Event). IsStamped es c d
   between = s.between;
   begin = s.begin;
   rest = s.rest ++ more;
-  split = ap (λ es. es ++ more) s.split ∙ append_assoc (s.before ++ event c.thread (Some Tick) ∷ s.between) (s.begin ∷ s.rest) more;
+  split = ap (λ es. es ++ more) s.split ∙ append_assoc (s.before ++ event c.thread (Some Tick) ∷ s.between)
+      (s.begin ∷ s.rest) more;
   quiet = s.quiet;
   own_begin = s.own_begin;
   first_is = s.first_is;
@@ -54,7 +56,8 @@ stamped_on new all more is c d s = subst (λ (es : List Event). IsStamped es c d
 }
 
 -- a longer schedule in which no call of the thread comes
-pub has_on : (o : Opening) (new seen more : List Event) → new ≡ seen ++ more → (thread : ℕ) (log : List Call) → HasCalls o seen thread log
+pub has_on : (o : Opening) (new seen more : List Event) → new ≡ seen ++ more → (thread : ℕ) (log : List Call)
+    → HasCalls o seen thread log
     → KeepsCalls thread (calls_of o seen) (calls_of o new) → HasCalls o new thread log
 has_on o new seen more is thread log has k = record {
   made = λ i less.
@@ -68,8 +71,12 @@ has_on o new seen more is thread log has k = record {
   logged = λ n less mine.
       let old = k.none n less mine in
       let own_call = k.mine n old mine in
-      let m = has.logged n old own_call in
-      (m.0, m.1, subst (IsStamped new (call log m.0)) (sym (k.same n old own_call)) (stamped_on new seen more is _ _ m.2));
+      let m = has.logged n old own_call in (
+        m.0,
+        m.1,
+        subst (IsStamped new (call log m.0)) (sym (k.same n old own_call))
+            (stamped_on new seen more is _ _ m.2),
+      );
 }
 
 -- a log with one call more
@@ -90,7 +97,8 @@ has_more o new seen more on thread log c d has k of_thread stamped =
         | inl old ↦
             let m = has.made i old in
             let same : call (calls_of o new) m.0 ≡ call (calls_of o seen) m.0 = k.same m.0 m.1 m.2 in
-            let inside : m.0 < length (calls_of o new) = let a = m.1 in let b = k.beyond in let e = k.within in omega arith in (
+            let inside : m.0 < length (calls_of o new) = let a = m.1 in let b = k.beyond in let e = k.within in
+            omega arith in (
               m.0,
               inside,
               ap (λ (x : Call). x.thread) same ∙ m.2,
@@ -128,7 +136,8 @@ has_more o new seen more on thread log c d has k of_thread stamped =
     }
 
 -- a call comes between schedules in which none comes
-adds_between : (thread : ℕ) (a b c e : List Call) (d : Call) → d.thread ≡ thread → KeepsCalls thread a b → AddsCall thread b c d
+adds_between : (thread : ℕ) (a b c e : List Call) (d : Call) → d.thread ≡ thread → KeepsCalls thread a b
+    → AddsCall thread b c d
     → KeepsCalls thread c e → AddsCall thread a e d
 adds_between thread a b c e d mine x y z =
     let is_mine : (call c y.number).thread ≡ thread = ap (λ (k : Call). k.thread) y.is ∙ mine in
@@ -185,8 +194,10 @@ module _ (o : Opening) (thread stamp : ℕ) (old new : List Event) (d : DrawsIn 
   draw_keeps few =
       let split = run_before o.shape (Some (opening o.shape o.threads)) d.here old d.between d.reached in
       let a = others_keep o.shape o.threads thread old d.between split.0 d.here few split.1 split.2 d.others in
-      let b = tick_keeps o.shape o.threads thread (old ++ d.between) d.here (ticked o.shape d.here) Went d.reached d.made in
-      subst (λ (es : List Event). KeepsCalls thread (calls_of o old) (calls_of o es)) (sym d.new_is) (keeps_trans thread _ _ _ a b)
+      let b = tick_keeps o.shape o.threads thread (old ++ d.between) d.here (ticked o.shape d.here) Went d.reached
+      d.made in
+      subst (λ (es : List Event). KeepsCalls thread (calls_of o old) (calls_of o es)) (sym d.new_is)
+      (keeps_trans thread _ _ _ a b)
 
   -- the stamp is the number of ticks before
   draw_ticks : stamp ≡ ticks (old ++ d.between)
@@ -197,7 +208,8 @@ module _ (o : Opening) (thread stamp : ℕ) (old new : List Event) (d : DrawsIn 
   draw_own =
       ap (own thread) d.new_is
       ∙ own-append thread (old ++ d.between) (event thread (Some Tick) ∷ [])
-      ∙ (λ i. (own-append thread old d.between ∙ ap (λ es. own thread old ++ es) d.others ∙ append-nil (own thread old)) i
+      ∙ (λ i. (own-append thread old d.between ∙ ap (λ es. own thread old ++ es) d.others
+      ∙ append-nil (own thread old)) i
       ++ own_same thread (Some Tick) i)
 
   draw_count : ticks (own thread new) ≡ ticks (own thread old) + 1
@@ -207,7 +219,8 @@ module _ (o : Opening) (thread stamp : ℕ) (old new : List Event) (d : DrawsIn 
   draw_length = ap length draw_own ∙ length-append (own thread old) (event thread (Some Tick) ∷ [])
 
   draw_more : ticks new ≡ stamp + 1
-  draw_more = ap ticks d.new_is ∙ ticks-append (old ++ d.between) (event thread (Some Tick) ∷ []) ∙ ap (λ n. n + 1) (sym draw_ticks)
+  draw_more = ap ticks d.new_is ∙ ticks-append (old ++ d.between) (event thread (Some Tick) ∷ [])
+      ∙ ap (λ n. n + 1) (sym draw_ticks)
 
   draw_from : ticks old ≤ stamp
   draw_from = let a = draw_ticks in let b = ticks-append old d.between in omega arith
@@ -215,7 +228,8 @@ module _ (o : Opening) (thread stamp : ℕ) (old new : List Event) (d : DrawsIn 
 -- a run makes no tick
 no_ticks : (events : List Event) → AllGoOn events → ticks events ≡ 0
 no_ticks [] go_on = refl
-no_ticks (e ∷ es) go_on = ap (λ b. length (cond (begins_tick b) (e ∷ filter_ticks es) (filter_ticks es))) go_on.0 ∙ no_ticks es go_on.1
+no_ticks (e ∷ es) go_on = ap (λ b. length (cond (begins_tick b) (e ∷ filter_ticks es) (filter_ticks es))) go_on.0
+    ∙ no_ticks es go_on.1
   where
     filter_ticks : List Event → List Event
     filter_ticks es = filter (λ (x : Event). begins_tick x.begin) es
@@ -223,7 +237,8 @@ no_ticks (e ∷ es) go_on = ap (λ b. length (cond (begins_tick b) (e ∷ filter
 EachPair-push : {X : Type 0} (R : X → X → Type 0) (xs : List X) (x : X) → EachPair R xs → AllByRecursion (λ y. R y x) xs
     → EachPair R (xs ++ x ∷ [])
 EachPair-push R [] x pairs all = (tt, tt)
-EachPair-push R (y ∷ ys) x pairs all = (AllByRecursion-push (R y) ys x pairs.0 all.0, EachPair-push R ys x pairs.1 all.1)
+EachPair-push R (y ∷ ys) x pairs all =
+    (AllByRecursion-push (R y) ys x pairs.0 all.0, EachPair-push R ys x pairs.1 all.1)
 
 ends_later : (end : Option End) (m n : ℕ) → m ≤ n → EndsBelow end m → EndsBelow end n
 ends_later None m n le below = below
@@ -242,7 +257,8 @@ module _ (o : Opening) (thread : ℕ) (begin : Begin) (answer : Answer) (old new
   run_count no_tick =
       let split = ap ticks (ap (own thread) run_is ∙ own-append thread old run_more)
       ∙ ticks-append (own thread old) (own thread run_more) in
-      let first : ticks (event thread (Some begin) ∷ []) ≡ 0 = ticks_of_one (event thread (Some begin)) ∙ ap (λ b. cond b 1 0) no_tick in
+      let first : ticks (event thread (Some begin) ∷ []) ≡ 0 = ticks_of_one (event thread (Some begin))
+      ∙ ap (λ b. cond b 1 0) no_tick in
       let others = no_ticks w.one_call.others w.one_call.go_on in
       let both : ticks (own thread run_more) ≡ ticks (event thread (Some begin) ∷ []) + ticks w.one_call.others =
       ap ticks w.one_call.first ∙ ticks-append (event thread (Some begin) ∷ []) w.one_call.others in
@@ -252,8 +268,8 @@ module _ (o : Opening) (thread : ℕ) (begin : Begin) (answer : Answer) (old new
   run_from = let a = ap ticks run_is ∙ ticks-append old run_more in omega arith
 
 -- A stamped call: a tick, a run, a tick
-module _ (o : Opening) (thread first last : ℕ) (begin : Begin) (answer : Answer) (old begun ended new : List Event) (few : o.threads ≤ 64)
-    (no_tick : begins_tick (Some begin) ≡ false)
+module _ (o : Opening) (thread first last : ℕ) (begin : Begin) (answer : Answer) (old begun ended new : List Event)
+    (few : o.threads ≤ 64) (no_tick : begins_tick (Some begin) ≡ false)
     (a : DrawsIn o thread first old begun) (w : CompleteExecution o.shape o.threads thread begin answer begun ended)
     (b : DrawsIn o thread last ended new) where
   abbrev run : RunAdds o.shape o.threads thread begin answer begun ended
@@ -269,9 +285,11 @@ module _ (o : Opening) (thread first last : ℕ) (begin : Begin) (answer : Answe
   tail = b.between ++ event thread (Some Tick) ∷ []
 
   up_to_run : begun ++ run.before ≡ (old ++ a.between) ++ event thread (Some Tick) ∷ run.before
-  up_to_run = ap (λ es. es ++ run.before) a.new_is ∙ append_assoc (old ++ a.between) (event thread (Some Tick) ∷ []) run.before
+  up_to_run = ap (λ es. es ++ run.before) a.new_is ∙ append_assoc (old ++ a.between) (event thread (Some Tick) ∷ [])
+      run.before
 
-  split : new ≡ ((old ++ a.between) ++ event thread (Some Tick) ∷ run.before) ++ event thread (Some begin) ∷ (run.rest ++ tail)
+  split : new ≡ ((old ++ a.between) ++ event thread (Some Tick) ∷ run.before) ++ event thread (Some begin)
+      ∷ (run.rest ++ tail)
   split =
       b.new_is
       ∙ append_assoc ended b.between (event thread (Some Tick) ∷ [])
@@ -285,8 +303,10 @@ module _ (o : Opening) (thread first last : ℕ) (begin : Begin) (answer : Answe
   goes_on : new ≡ old ++ more
   goes_on =
       split
-      ∙ append_assoc (old ++ a.between) (event thread (Some Tick) ∷ run.before) (event thread (Some begin) ∷ (run.rest ++ tail))
-      ∙ append_assoc old a.between (event thread (Some Tick) ∷ run.before ++ event thread (Some begin) ∷ (run.rest ++ tail))
+      ∙ append_assoc (old ++ a.between) (event thread (Some Tick) ∷ run.before)
+      (event thread (Some begin) ∷ (run.rest ++ tail))
+      ∙ append_assoc old a.between (event thread (Some Tick) ∷ run.before ++ event thread (Some begin)
+      ∷ (run.rest ++ tail))
 
   stamped : IsStamped new the_call made_call
   stamped = record {
@@ -316,7 +336,8 @@ module _ (o : Opening) (thread first last : ℕ) (begin : Begin) (answer : Answe
       (draw_keeps o thread last ended new b few)
 
   -- the log has one call more
-  logs_on : (log : List Call) (p u : PassView) → p.opened ≡ o → u.opened ≡ o → p.thread ≡ thread → u.thread ≡ thread → p.seen ≡ old
+  logs_on : (log : List Call) (p u : PassView) → p.opened ≡ o → u.opened ≡ o → p.thread ≡ thread → u.thread ≡ thread
+      → p.seen ≡ old
       → u.seen ≡ new → length log < o.calls → IsLog p log → IsLog u (log ++ the_call ∷ [])
   logs_on log p u p_opened u_opened p_thread u_thread p_seen u_seen room is =
       let size : length (log ++ the_call ∷ []) ≡ length log + 1 = length-append log (the_call ∷ []) in
@@ -324,7 +345,8 @@ module _ (o : Opening) (thread first last : ℕ) (begin : Begin) (answer : Answe
       let R : Opening × ℕ × List Event → Type 0 = λ x. IsLogIn x.0 x.1 x.2 log in
       let old_log = subst R (λ i. (p_opened i, p_thread i, p_seen i)) (is) in
       let counted : ticks (own thread new) ≡ ticks (own thread old) + 2 =
-      (let x = draw_count o thread first old begun a in let y = run_count o thread begin answer begun ended w no_tick in let z =
+      (let x = draw_count o thread first old begun a in let y = run_count o thread begin answer begun ended w no_tick in
+      let z =
       draw_count o thread last ended new b in omega arith) in
       let from = draw_from o thread first old begun a in
       let later = draw_more o thread first old begun a in
@@ -338,7 +360,8 @@ module _ (o : Opening) (thread first last : ℕ) (begin : Begin) (answer : Answe
         in_turn = EachPair-push (λ c d. EndsBelow c.end d.first) log the_call old_log.in_turn
             (AllByRecursion-weaker _ _ (λ c. ends_later c.end (ticks old) first from) log old_log.past);
         past = AllByRecursion-push (λ c. EndsBelow c.end (ticks new)) log the_call
-            (AllByRecursion-weaker _ _ (λ c. ends_later c.end (ticks old) (ticks new) (omega arith)) log old_log.past) (omega arith);
+            (AllByRecursion-weaker _ _ (λ c. ends_later c.end (ticks old) (ticks new) (omega arith)) log old_log.past)
+            (omega arith);
         calls = has_more o new old more goes_on thread log the_call made_call old_log.calls adds refl stamped;
       } in
       (subst Q (λ i. (sym u_opened i, sym u_thread i, sym u_seen i)) new_log)
@@ -361,7 +384,8 @@ module _ (p q r u : PassView) (begin : Begin) (answer : Answer) (first last : �
       let no_more = run_count p.opened p.thread begin answer q.seen r.seen run_between no_tick in
       let count = is.count in
       let few : ticks (own p.thread r.seen) < 2 * p.opened.calls = omega arith in
-      subst (λ (x : Opening × ℕ). ticks (own x.1 r.seen) < 2 * x.0.calls) (λ i. (sym (same.1 ∙ a.same.1) i, sym (same.2 ∙ a.same.2) i)) few
+      subst (λ (x : Opening × ℕ). ticks (own x.1 r.seen) < 2 * x.0.calls)
+      (λ i. (sym (same.1 ∙ a.same.1) i, sym (same.2 ∙ a.same.2) i)) few
 
   module _ (few : p.opened.threads ≤ 64) (b : Draws last r u) where
     drawn_last : DrawsIn p.opened p.thread last r.seen u.seen
@@ -370,7 +394,8 @@ module _ (p q r u : PassView) (begin : Begin) (answer : Answer) (first last : �
     -- its log has one call more
     logs_more : IsLog u (log ++ stamped_call p.thread (op_asked begin) first last answer ∷ [])
     logs_more =
-        logs_on p.opened p.thread first last begin answer p.seen q.seen r.seen u.seen few no_tick drawn_first run_between drawn_last log p u
+        logs_on p.opened p.thread first last begin answer p.seen q.seen r.seen u.seen few no_tick drawn_first
+        run_between drawn_last log p u
         refl (b.same.1 ∙ same.1 ∙ a.same.1) refl (b.same.2 ∙ same.2 ∙ a.same.2) refl refl room is
 
     -- and it has made two steps more than the run
@@ -381,38 +406,46 @@ module _ (p q r u : PassView) (begin : Begin) (answer : Answer) (first last : �
         let x = draw_length o t first p.seen q.seen drawn_first in
         let z = draw_length o t last r.seen u.seen drawn_last in
         let whole : u.seen ≡ p.seen ++ added p u =
-        from_start p.seen u.seen _ (goes_on o t first last begin answer p.seen q.seen r.seen u.seen few no_tick drawn_first run_between
+        from_start p.seen u.seen _ (goes_on o t first last begin answer p.seen q.seen r.seen u.seen few no_tick
+        drawn_first run_between
         drawn_last) in
-        let part : r.seen ≡ q.seen ++ added q r = from_start q.seen r.seen _ (run_is o t begin answer q.seen r.seen run_between) in
-        let w = ap length (ap (own t) whole ∙ own-append t p.seen (added p u)) ∙ length-append (own t p.seen) (own t (added p u)) in
-        let y = ap length (ap (own t) part ∙ own-append t q.seen (added q r)) ∙ length-append (own t q.seen) (own t (added q r)) in
-        let n : length (own q.thread (added q r)) ≡ length (own t (added q r)) = ap (λ k. length (own k (added q r))) a.same.2 in
+        let part : r.seen ≡ q.seen ++ added q r =
+        from_start q.seen r.seen _ (run_is o t begin answer q.seen r.seen run_between) in
+        let w = ap length (ap (own t) whole ∙ own-append t p.seen (added p u))
+        ∙ length-append (own t p.seen) (own t (added p u)) in
+        let y = ap length (ap (own t) part ∙ own-append t q.seen (added q r))
+        ∙ length-append (own t q.seen) (own t (added q r)) in
+        let n : length (own q.thread (added q r)) ≡ length (own t (added q r)) =
+        ap (λ k. length (own k (added q r))) a.same.2 in
         omega arith
       where
         from_start : (old new later : List Event) → new ≡ old ++ later → new ≡ old ++ drop (length old) new
-        from_start old new later is = is ∙ ap (λ es. old ++ es) (sym (ap (drop (length old)) is ∙ drop-append_seam old later))
+        from_start old new later is = is
+            ∙ ap (λ es. old ++ es) (sym (ap (drop (length old)) is ∙ drop-append_seam old later))
 
 -- a log that is not full has room
 pub has_room : (n m calls len : ℕ) → n ≤ m → m ≡ calls → len ≡ n → len ≢ calls → n < m
 has_room n m calls len le same size ne = elim (cases_lt n m) [ inl less ↦ less | inr ge ↦ absurd (ne (omega arith)) ]
 
 -- What is known of a stamped call: a tick, a run, a tick
-pub record StampedRun (p q r u : PassView) (begin : Begin) (answer : Answer) (first last : ℕ) (log : List Call) : Type 0 where
-  pub is : IsLog p log
-  pub room : length log < p.opened.calls
-  pub no_tick : begins_tick (Some begin) ≡ false
-  pub few : p.opened.threads ≤ 64
-  pub draws_first : Draws first p q
-  pub same : IsSamePass q r
-  pub call : MakesCall begin answer q r
-  pub draws_last : Draws last r u
+pub record StampedRun (p q r u : PassView) (begin : Begin) (answer : Answer) (first last : ℕ) (log : List Call) : Type 0
+  where
+    pub is : IsLog p log
+    pub room : length log < p.opened.calls
+    pub no_tick : begins_tick (Some begin) ≡ false
+    pub few : p.opened.threads ≤ 64
+    pub draws_first : Draws first p q
+    pub same : IsSamePass q r
+    pub call : MakesCall begin answer q r
+    pub draws_last : Draws last r u
 
 module _ {p q r u : PassView} {begin : Begin} {answer : Answer} {first last : ℕ} {log : List Call}
     (s : StampedRun p q r u begin answer first last log) where
   -- its own events are those of the run and two ticks
   few_steps_more : TakesFewStampedSteps begin p u
   few_steps_more =
-      let two = two_more p q r u begin answer first last log s.is s.room s.no_tick s.draws_first s.same s.call.run s.few s.draws_last in
+      let two = two_more p q r u begin answer first last log s.is s.room s.no_tick s.draws_first s.same s.call.run s.few
+      s.draws_last in
       let few : length (own q.thread (added q r)) ≤ most_events q.opened.shape begin = s.call.few_steps in
       let shape : most_events q.opened.shape begin ≡ most_events p.opened.shape begin =
       ap (λ (o : Opening). most_events o.shape begin) s.draws_first.same.1 in
@@ -427,7 +460,8 @@ module _ {p q r u : PassView} {begin : Begin} {answer : Answer} {first last : �
 
     pub log_grows : IsLog u items
     log_grows = subst (IsLog u) (sym added_call)
-        (logs_more p q r u begin answer first last log s.is s.room s.no_tick s.draws_first s.same s.call.run s.few s.draws_last)
+        (logs_more p q r u begin answer first last log s.is s.room s.no_tick s.draws_first s.same s.call.run s.few
+        s.draws_last)
 
     pub makes_stamped : MakesStamped begin answer (logged_by p log) (logged_by u items)
     makes_stamped = record {

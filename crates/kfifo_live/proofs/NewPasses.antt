@@ -1,12 +1,13 @@
 -- The passes of an opening.
-use Rattle.std.proofs.Common.{◌≡◌, ℕ, zero, suc, ◌+◌, ◌-◌, ◌*◌, ◌<◌, [], ◌∷◌, ◌++◌, Option, Some, None, get_or, replicate, length, refl}
-use Rattle.std.proofs.Common.{sym, ap, ◌∙◌, subst, arith, All}
+use Rattle.std.proofs.Common.{◌≡◌, ℕ, zero, suc, ◌+◌, ◌-◌, ◌*◌, ◌<◌, [], ◌∷◌, ◌++◌, Option, Some, None, get_or}
+use Rattle.std.proofs.Common.{replicate, length, refl, sym, ap, ◌∙◌, subst, arith, All}
 use Rattle.std.proofs.lemmas.List.{length-replicate}
 use Rattle.std.proofs.lemmas.List.Elements.{All-map}
 use Rattle.atomic_table.specs.Table.{Me}
 use Rattle.kfifo_live.proofs.Types.{Opening, Running, View}
 use Rattle.kfifo_machine.specs.Machine.{World, opening, place_of, word_at}
-use Rattle.kfifo_live.specs.Schedule.{IsSmall, part, view_of, fresh, first_hand, seen_of, gifts_of, hand_of, first_part, other_parts}
+use Rattle.kfifo_live.specs.Schedule.{IsSmall, part, view_of, fresh, first_hand, seen_of, gifts_of, hand_of, first_part}
+use Rattle.kfifo_live.specs.Schedule.{other_parts}
 use Rattle.kfifo_live.specs.Hands.{carrying}
 use Rattle.kfifo_live.specs.Step.{IsAt}
 use Rattle.kfifo_live.specs.Pass.{OpenQueue, new_passes, IsPassOf, IsPass, IsZeroed}
@@ -19,15 +20,26 @@ pub fresh_more : {T : Type 0} (tokens first count : ℕ) → first < count
 fresh_more tokens first count lt =
     let n : count - first ≡ suc (count - (first + 1)) = omega arith in
     let m : suc first ≡ first + 1 = omega arith in
-    ap (fresh tokens first) n ∙ ap (λ (k : ℕ). part first [] [] (first_hand tokens first) ∷ fresh tokens k (count - (first + 1))) m
+    ap (fresh tokens first) n
+    ∙ ap (λ (k : ℕ). part first [] [] (first_hand tokens first) ∷ fresh tokens k (count - (first + 1))) m
 
 pub new_passes-snoc : (q : OpenQueue) (first n : ℕ)
-    → new_passes q first (n + 1) ≡ new_passes q first n ++ record { table = q.table; opened = q.opened; thread = first + n; seen = [] } ∷ []
+    → new_passes q first (n + 1) ≡ new_passes q first n ++ record {
+      table = q.table;
+      opened = q.opened;
+      thread = first + n;
+      seen = [];
+    } ∷ []
 new_passes-snoc q first zero = ap (λ (k : ℕ). record { table = q.table; opened = q.opened; thread = k; seen = [] } ∷ [])
     (let e : first ≡ first + zero = omega arith in e)
 new_passes-snoc q first (suc n) =
     ap (new_passes q first) (let e : suc n + 1 ≡ suc (n + 1) = omega arith in e)
-    ∙ ap (λ ps. record { table = q.table; opened = q.opened; thread = first; seen = [] } ∷ ps) (new_passes-snoc q (suc first) n)
+    ∙ ap (λ ps. record {
+      table = q.table;
+      opened = q.opened;
+      thread = first;
+      seen = [];
+    } ∷ ps) (new_passes-snoc q (suc first) n)
     ∙ ap (λ (k : ℕ). record { table = q.table; opened = q.opened; thread = first; seen = [] }
     ∷ (new_passes q (suc first) n ++ record { table = q.table; opened = q.opened; thread = k; seen = [] } ∷ []))
     (let e : suc first + n ≡ first + suc n = omega arith in e)
@@ -63,7 +75,8 @@ new_pass {T} o thread me lt few is held =
       carries = (None, held ∙ sym (no_slot o.tokens None));
     } in
     record {
-      alone = ap (λ v. v.parts) is ∙ (λ i. part thread (sym (ap seen_of is) i) (sym (ap gifts_of is) i) (sym (ap hand_of is) i)
+      alone = ap (λ v. v.parts) is
+          ∙ (λ i. part thread (sym (ap seen_of is) i) (sym (ap gifts_of is) i) (sym (ap hand_of is) i)
           ∷ []);
       held = held;
       idle = subst (λ (x : View T). IsAt None (x, me.1)) (sym is) idle;

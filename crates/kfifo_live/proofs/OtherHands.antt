@@ -1,6 +1,6 @@
 -- What a step of a thread leaves to the others: their tokens and slots.
-use Rattle.std.proofs.Common.{◌≡◌, ◌≢◌, ◌⊎◌, ℕ, zero, suc, ◌-◌, ◌<◌, List, [], ◌∷◌, ◌++◌, length, Option, Some, None, Bool}
-use Rattle.std.proofs.Common.{refl, sym, ap, ◌∙◌, subst, inl, inr, arith, cond, eq-eqb, ne_eqb}
+use Rattle.std.proofs.Common.{◌≡◌, ◌≢◌, ◌⊎◌, ℕ, zero, suc, ◌-◌, ◌<◌, List, [], ◌∷◌, ◌++◌, length, Option, Some, None}
+use Rattle.std.proofs.Common.{Bool, refl, sym, ap, ◌∙◌, subst, inl, inr, arith, cond, eq-eqb, ne_eqb}
 use Rattle.std.specs.Prelude.{◌==◌}
 use Rattle.std.proofs.lemmas.Bool.{cases_eq}
 use Rattle.std.proofs.lemmas.Bool.Decides.{nat_tests}
@@ -20,9 +20,9 @@ use Rattle.kfifo_machine.specs.Places.{IsPlace}
 use Rattle.kfifo_machine.proofs.EndsUndisturbed.{slots_stay}
 use Rattle.kfifo_machine.proofs.RoundsUndisturbed.{words_by}
 use Rattle.kfifo_machine.proofs.Tokens.{EnqueueKnows, value-emptied, value-filled_with}
-use Rattle.kfifo_live.specs.Hands.{Gifts, Homes, Where, Home, Out, In, Move, Stays, Lays, Lifts, Takes, move, out_in, out_at}
-use Rattle.kfifo_live.specs.Hands.{own_item, out_next, last_gift, beside, AllHome, PutFits, GiftFits, CallFits, HandFits, SlotsFit}
-use Rattle.kfifo_live.specs.Hands.{IsGift}
+use Rattle.kfifo_live.specs.Hands.{Gifts, Homes, Where, Home, Out, In, Move, Stays, Lays, Lifts, Takes, move, out_in}
+use Rattle.kfifo_live.specs.Hands.{out_at, own_item, out_next, last_gift, beside, AllHome, PutFits, GiftFits, CallFits}
+use Rattle.kfifo_live.specs.Hands.{HandFits, SlotsFit, IsGift}
 use Rattle.kfifo_live.proofs.Balance.{DequeueKnows, Knows}
 
 -- the last gift of an item, after one more
@@ -36,14 +36,16 @@ beside-same x p gifts = last_gift-snoc x x None p gifts ∙ ap (λ b. cond b p (
 
 pub beside-other : {T : Type 0} (item x : ℕ) (p : Option T) (gifts : Gifts T) → x ≢ item
     → beside item (gifts ++ (x, p) ∷ []) ≡ beside item gifts
-beside-other item x p gifts ne = last_gift-snoc item x None p gifts ∙ ap (λ b. cond b p (beside item gifts)) (ne_eqb x item ne)
+beside-other item x p gifts ne = last_gift-snoc item x None p gifts
+    ∙ ap (λ b. cond b p (beside item gifts)) (ne_eqb x item ne)
 
 -- what a step does to the slots and the tokens
 pub data Turn (c : ℕ) (w v : ℕ → ℕ) (r : Running) (m : Move) : Type 0 where
   Quiet : m ≡ Stays → ((i : ℕ) → 0 < i → i < c → v i ≡ w i) → Turn c w v r m
   Laid : (index : ℕ) → m ≡ Lays index → 0 < own_item r → out_at r ≡ own_item r → value_of (v index) ≡ own_item r
       → ((i : ℕ) → i ≢ index → v i ≡ w i) → Turn c w v r m
-  Lifted : (index x : ℕ) → (m ≡ Lifts x) ⊎ (m ≡ Takes x) → 0 < index → index < c → value_of (w index) ≡ x → 0 < x → out_at r ≡ 0
+  Lifted : (index x : ℕ) → (m ≡ Lifts x) ⊎ (m ≡ Takes x) → 0 < index → index < c → value_of (w index) ≡ x → 0 < x
+      → out_at r ≡ 0
       → value_of (v index) ≡ 0 → ((i : ℕ) → i ≢ index → v i ≡ w i) → Turn c w v r m
 
 other_word : (w : ℕ → ℕ) (index from to i : ℕ) → i ≢ index → words_by (Exchange index from to) w i ≡ w i
@@ -69,7 +71,8 @@ module _ (shape : Shape) (w : ℕ → ℕ) where
   abbrev pub Turns : Running → Type 0
   Turns r = Turn (clock_at shape.k shape.n) w (words_by (access shape r) w) r (move r (w (accessed (access shape r))))
 
-  turns_enqueue : (item start left : ℕ) (phase : EnqueuePhase) → IsPlace shape (R.Enqueue item start left phase) → EnqueueKnows item phase
+  turns_enqueue : (item start left : ℕ) (phase : EnqueuePhase) → IsPlace shape (R.Enqueue item start left phase)
+      → EnqueueKnows item phase
       → Turns (R.Enqueue item start left phase)
   turns_enqueue item start left E.LoadEnds place knows = Quiet refl (λ i a b. refl)
   turns_enqueue item start left (E.ScanTail ends offset) place knows = Quiet refl (λ i a b. refl)
@@ -79,25 +82,31 @@ module _ (shape : Shape) (w : ℕ → ℕ) where
         | inl won ↦ Laid index (won_move (w index) empty (Lays index) won) place.0 refl
             (ap value_of (this_word w index empty (filled_with item empty) won) ∙ value-filled_with item empty place.1)
             (λ i ne. other_word w index empty (filled_with item empty) i ne)
-        | inr lost ↦ Quiet (lost_move (w index) empty (Lays index) lost) (λ i a b. lost_word w index empty (filled_with item empty) i lost)
+        | inr lost ↦
+            Quiet (lost_move (w index) empty (Lays index) lost)
+            (λ i a b. lost_word w index empty (filled_with item empty) i lost)
       ]
   turns_enqueue item start left (E.ReloadSlot ends index filled) place knows = Quiet refl (λ i a b. refl)
   turns_enqueue item start left (E.ReloadEnds ends index filled) place knows = Quiet refl (λ i a b. refl)
-  turns_enqueue item start left (E.HoldHead ends index filled held) place knows = Quiet refl (λ i a b. slots_stay w held _ i a)
+  turns_enqueue item start left (E.HoldHead ends index filled held) place knows =
+      Quiet refl (λ i a b. slots_stay w held _ i a)
   turns_enqueue item start left (E.Undo index filled worn) place knows =
       elim (cases_eq (w index) filled) [
         | inl won ↦ Lifted index item (inl (won_move (w index) filled (Lifts item) won)) place.4.1.above place.4.1.below
             (ap value_of won ∙ knows) place.0 refl
             (ap value_of (this_word w index filled (emptied filled) won) ∙ value-emptied filled)
             (λ i ne. other_word w index filled (emptied filled) i ne)
-        | inr lost ↦ Quiet (lost_move (w index) filled (Lifts item) lost) (λ i a b. lost_word w index filled (emptied filled) i lost)
+        | inr lost ↦
+            Quiet (lost_move (w index) filled (Lifts item) lost) (λ i a b. lost_word w index filled (emptied filled) i
+            lost)
       ]
   turns_enqueue item start left (E.ScanHead ends offset) place knows = Quiet refl (λ i a b. refl)
   turns_enqueue item start left (E.ConfirmFull ends) place knows = Quiet refl (λ i a b. refl)
   turns_enqueue item start left (E.MoveHead ends) place knows = Quiet refl (λ i a b. slots_stay w ends _ i a)
   turns_enqueue item start left (E.MoveTail ends) place knows = Quiet refl (λ i a b. slots_stay w ends _ i a)
 
-  turns_dequeue : (start left : ℕ) (phase : DequeuePhase) → IsPlace shape (R.Dequeue start left phase) → DequeueKnows phase
+  turns_dequeue : (start left : ℕ) (phase : DequeuePhase) → IsPlace shape (R.Dequeue start left phase)
+      → DequeueKnows phase
       → Turns (R.Dequeue start left phase)
   turns_dequeue start left D.LoadEnds place knows = Quiet refl (λ i a b. refl)
   turns_dequeue start left (D.ScanHead ends offset) place knows = Quiet refl (λ i a b. refl)
@@ -105,8 +114,8 @@ module _ (shape : Shape) (w : ℕ → ℕ) where
   turns_dequeue start left (D.MoveTail ends index filled) place knows = Quiet refl (λ i a b. slots_stay w ends _ i a)
   turns_dequeue start left (D.Take ends index filled) place knows =
       elim (cases_eq (w index) filled) [
-        | inl won ↦ Lifted index (value_of filled) (inr (won_move (w index) filled (Takes (value_of filled)) won)) place.2.1.above
-            place.2.1.below (ap value_of won) (above_zero (value_of filled) knows) refl
+        | inl won ↦ Lifted index (value_of filled) (inr (won_move (w index) filled (Takes (value_of filled)) won))
+            place.2.1.above place.2.1.below (ap value_of won) (above_zero (value_of filled) knows) refl
             (ap value_of (this_word w index filled (emptied filled) won) ∙ value-emptied filled)
             (λ i ne. other_word w index filled (emptied filled) i ne)
         | inr lost ↦ Quiet (lost_move (w index) filled (Takes (value_of filled)) lost)
@@ -132,7 +141,8 @@ unfolding out_after
 enqueue_out shape item start left phase word = grind (arith, nat_tests)
 
 pub dequeue_out : (shape : Shape) (start left : ℕ) (phase : DequeuePhase) (word : ℕ)
-    → out_next 0 (advance shape (R.Dequeue start left phase) word) ≡ out_after 0 (move (R.Dequeue start left phase) word)
+    → out_next 0 (advance shape (R.Dequeue start left phase) word)
+    ≡ out_after 0 (move (R.Dequeue start left phase) word)
 unfolding out_after
 dequeue_out shape start left phase word = grind (arith, nat_tests)
 
@@ -150,10 +160,12 @@ module _ {T : Type 0} (shape : Shape) (w : ℕ → ℕ) (gifts : Gifts T) (paylo
 
 -- an item that was put
 module _ {T : Type 0} (shape : Shape) (w : ℕ → ℕ) (gifts : Gifts T) (payload : Option T) (item start left : ℕ) where
-  pub put_on : (phase : EnqueuePhase) (v : ℕ → ℕ) (word : ℕ) → move (R.Enqueue item start left phase) word ≡ Stays → out_in item phase ≡ 0
+  pub put_on : (phase : EnqueuePhase) (v : ℕ → ℕ) (word : ℕ) → move (R.Enqueue item start left phase) word ≡ Stays
+      → out_in item phase ≡ 0
       → 0 < item
       → ((index filled : ℕ) → PutFits w gifts payload item index filled → PutFits v gifts payload item index filled)
-      → GiftFits w gifts payload item phase → NextGift v gifts payload (enqueue_advance shape item start left phase word)
+      → GiftFits w gifts payload item phase
+      → NextGift v gifts payload (enqueue_advance shape item start left phase word)
   put_on phase v word stays out positive same fits = grind (arith, nat_tests)
 
 pub Out-injective : (t u : ℕ) → Out t ≡ Out u → t ≡ u
@@ -171,12 +183,14 @@ Out-not-Home i u j e = cc
 pub In-injective : (i j : ℕ) → In i ≡ In j → i ≡ j
 In-injective i j e = cc
 
-module _ {T : Type 0} (bare : Bool) (shape : Shape) (w v : ℕ → ℕ) (at at' : ℕ → Where) (gifts gifts' : Gifts T) (homes homes' : Homes T) (thread : ℕ)
+module _ {T : Type 0} (bare : Bool) (shape : Shape) (w v : ℕ → ℕ) (at at' : ℕ → Where) (gifts gifts' : Gifts T)
+    (homes homes' : Homes T) (thread : ℕ)
     (same_gift : (x : ℕ) → at x ≢ Out thread → beside x gifts' ≡ beside x gifts)
     (rises : (i : ℕ) → (v i ≡ w i) ⊎ (version_of (w i) < version_of (v i)))
     (slots : SlotsFit bare (clock_at shape.k shape.n) w at gifts homes)
     (size : length homes' ≡ length homes)
-    (stays_home : (x t j : ℕ) → 0 < x → at x ≡ Home t j → (at' x ≡ at x) × (get_elem? homes' (x - 1) ≡ get_elem? homes (x - 1)))
+    (stays_home : (x t j : ℕ) → 0 < x → at x ≡ Home t j → (at' x ≡ at x)
+    × (get_elem? homes' (x - 1) ≡ get_elem? homes (x - 1)))
     (stays_out : (x u : ℕ) → u ≢ thread → at x ≡ Out u → at' x ≡ at x) where
   pub home_on : (t : ℕ) (xs : List ℕ) → AllHome at homes t xs → AllHome at' homes' t xs
   home_on t [] a = tt
@@ -184,10 +198,12 @@ module _ {T : Type 0} (bare : Bool) (shape : Shape) (w v : ℕ → ℕ) (at at' 
       let s = stays_home x t (length xs) a.0.0 a.0.1 in
       ((a.0.0, s.0 ∙ a.0.1, s.1 ∙ a.0.2), home_on t xs a.1)
 
-  gift_held : (u item : ℕ) (payload : Option T) → u ≢ thread → at item ≡ Out u → beside item gifts ≡ payload → beside item gifts' ≡ payload
+  gift_held : (u item : ℕ) (payload : Option T) → u ≢ thread → at item ≡ Out u → beside item gifts ≡ payload
+      → beside item gifts' ≡ payload
   gift_held u item payload ne there is = same_gift item (λ e. ne (Out-injective u thread (sym there ∙ e))) ∙ is
 
-  gift_put : (item index filled : ℕ) (payload : Option T) → 0 < item → value_of filled ≡ item → 0 < index → index < clock_at shape.k shape.n
+  gift_put : (item index filled : ℕ) (payload : Option T) → 0 < item → value_of filled ≡ item → 0 < index
+      → index < clock_at shape.k shape.n
       → PutFits w gifts payload item index filled → PutFits v gifts' payload item index filled
   gift_put item index filled payload positive value above below fits =
       elim (rises index) [
@@ -196,7 +212,8 @@ module _ {T : Type 0} (bare : Bool) (shape : Shape) (w v : ℕ → ℕ) (at at' 
           λ is.
               let was : w index ≡ filled = sym same ∙ is in
               let stands : value_of (w index) ≡ item = ap value_of was ∙ value in
-              let there : at item ≡ In index = ap at (sym stands) ∙ (slots index above below (λ none. absurd (omega arith))).0 in
+              let there : at item ≡ In index = ap at (sym stands)
+              ∙ (slots index above below (λ none. absurd (omega arith))).0 in
               same_gift item (λ e. In-not-Out index thread (sym there ∙ e)) ∙ fits.1 was,
         )
         | inr more ↦ (
@@ -234,7 +251,8 @@ module _ {T : Type 0} (bare : Bool) (shape : Shape) (w v : ℕ → ℕ) (at at' 
   gift_other u item start left (E.MoveTail ends) payload ne place knows out fits =
       gift_held u item payload ne (out (λ none. absurd (let positive = place.0 in omega arith))) fits
 
-  calls_other : (u : ℕ) (place : Option Running) (hand : Hand T) → u ≢ thread → ((r : Running) → place ≡ Some r → IsPlace shape r)
+  calls_other : (u : ℕ) (place : Option Running) (hand : Hand T) → u ≢ thread
+      → ((r : Running) → place ≡ Some r → IsPlace shape r)
       → ((r : Running) → place ≡ Some r → Knows r) → (hand.out ≢ 0 → at hand.out ≡ Out u)
       → CallFits bare w gifts hand place → CallFits bare v gifts' hand place
   calls_other u None hand ne is_place knows out fits = tt
@@ -248,7 +266,8 @@ module _ {T : Type 0} (bare : Bool) (shape : Shape) (w v : ℕ → ℕ) (at at' 
   )
 
   -- the hand of another thread
-  pub other_hand : (u : ℕ) (place : Option Running) (hand : Hand T) → u ≢ thread → ((r : Running) → place ≡ Some r → IsPlace shape r)
+  pub other_hand : (u : ℕ) (place : Option Running) (hand : Hand T) → u ≢ thread
+      → ((r : Running) → place ≡ Some r → IsPlace shape r)
       → ((r : Running) → place ≡ Some r → Knows r)
       → HandFits bare w place at gifts homes u hand → HandFits bare v place at' gifts' homes' u hand
   other_hand u place hand ne is_place knows fits = record {

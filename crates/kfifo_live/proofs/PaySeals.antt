@@ -19,11 +19,11 @@ use Rattle.kfifo_live.specs.Seals.{FailsToSeal, KeepsTokens, SealsFrom, StaysOpe
 use Rattle.kfifo_live.specs.Tokens.{Dequeues, GetsWith}
 use Rattle.kfifo_live.proofs.Made.{makes_call}
 use Rattle.kfifo_live.proofs.Passes.{looked}
-use Rattle.kfifo_live.proofs.Pays.{hand_of_pass, in_turn_as, pass_of_hand}
+use Rattle.kfifo_live.proofs.TokenMoves.{hand_of_pass, in_turn_as, pass_of_hand}
 use Rattle.kfifo_live.proofs.Sealed.{pass_on, sealed_empty, seen_before, whole_from}
 
-module _ {T : Type 0} {thread : ℕ} {home : List ℕ} {old new : Me (Option T) (View T)} (h : HasInHand thread home 0 None old)
-    (slots : new.1 ≡ old.1) where
+module _ {T : Type 0} {thread : ℕ} {home : List ℕ} {old new : Me (Option T) (View T)}
+    (h : HasInHand thread home 0 None old) (slots : new.1 ≡ old.1) where
   -- after a look
   module _ {index word : ℕ} (l : Looks index word old.0 new.0) where
     looked_opened : new.0.opened ≡ old.0.opened
@@ -39,9 +39,11 @@ module _ {T : Type 0} {thread : ℕ} {home : List ℕ} {old new : Me (Option T) 
     looked_home = ap (λ (v : View T). (hand_of v).at_home) l.afterwards
 
     pub looked_hand : HasInHand thread home 0 None new
-    looked_hand = hand_of_pass (looked thread index word old new (pass_of_hand h) slots l) looked_some looked_fit (looked_home ∙ h.at_home)
+    looked_hand = hand_of_pass (looked thread index word old new (pass_of_hand h) slots l) looked_some looked_fit
+        (looked_home ∙ h.at_home)
 
-    pub looked_keeps : (table table_now : TableId) → KeepsTokens (pay_pass_view table thread old.0) (pay_pass_view table_now thread new.0)
+    pub looked_keeps : (table table_now : TableId)
+        → KeepsTokens (pay_pass_view table thread old.0) (pay_pass_view table_now thread new.0)
     looked_keeps table table_now =
         let first = (subst (λ (ps : List (Part T)). AllGiven ps l.gifts) h.alone l.given).0 in (
           looked_home,
@@ -70,9 +72,11 @@ module _ {T : Type 0} {thread : ℕ} {home : List ℕ} {old new : Me (Option T) 
     sealed_home = ap (λ (v : View T). (hand_of v).at_home) is
 
     pub sealed_hand : HasInHand thread home 0 None new
-    sealed_hand = hand_of_pass (pass_on given thread old new (pass_of_hand h) slots idle is) sealed_some sealed_fit (sealed_home ∙ h.at_home)
+    sealed_hand = hand_of_pass (pass_on given thread old new (pass_of_hand h) slots idle is) sealed_some sealed_fit
+        (sealed_home ∙ h.at_home)
 
-    pub sealed_keeps : (table table_now : TableId) → KeepsTokens (pay_pass_view table thread old.0) (pay_pass_view table_now thread new.0)
+    pub sealed_keeps : (table table_now : TableId)
+        → KeepsTokens (pay_pass_view table thread old.0) (pay_pass_view table_now thread new.0)
     sealed_keeps table table_now = (
       sealed_home,
       record {
@@ -87,16 +91,22 @@ pub same_since : (old looked made : PassView) → IsSamePass old looked → IsSa
 same_since old looked made first then = (then.0 ∙ first.0, then.1 ∙ first.1, then.2 ∙ first.2)
 
 -- a take after a look that found these ends is one from before the look, and what follows it
-module _ {T : Type 0} (old looked taken : PayPassView T) (start turns : ℕ) {ends : ℕ} (same : IsSamePass old.pass looked.pass)
+module _ {T : Type 0} (old looked taken : PayPassView T) (start turns : ℕ) {ends : ℕ}
+    (same : IsSamePass old.pass looked.pass)
     (finds : Finds old.pass looked.pass 0 ends) (keeps : KeepsTokens old looked) where
   whole_since : {call : Begin} {answer : Answer}
-      → CompleteExecution looked.pass.opened.shape looked.pass.opened.threads looked.pass.thread call answer looked.pass.seen taken.pass.seen
-      → CompleteExecution old.pass.opened.shape old.pass.opened.threads old.pass.thread call answer old.pass.seen taken.pass.seen
+      → CompleteExecution looked.pass.opened.shape looked.pass.opened.threads looked.pass.thread call answer
+      looked.pass.seen taken.pass.seen
+      → CompleteExecution old.pass.opened.shape old.pass.opened.threads old.pass.thread call answer old.pass.seen
+      taken.pass.seen
   whole_since {call} {answer} run =
-      whole_from finds.others (subst (λ (x : Opening × ℕ). CompleteExecution x.0.shape x.0.threads x.1 call answer looked.pass.seen taken.pass.seen)
+      whole_from finds.others
+      (subst (λ (x : Opening × ℕ). CompleteExecution x.0.shape x.0.threads x.1 call answer looked.pass.seen
+      taken.pass.seen)
       (λ i. (same.1 i, same.2 i)) run)
 
-  pub dequeues_since : {answer : Answer} → DequeuesWith start turns answer looked taken → DequeuesWith start turns answer old taken
+  pub dequeues_since : {answer : Answer} → DequeuesWith start turns answer looked taken
+      → DequeuesWith start turns answer old taken
   dequeues_since {answer} d = record {
     call = makes_call (B.Dequeue start turns) answer old.pass taken.pass (whole_since d.call.run);
     gifts = record {
@@ -110,7 +120,8 @@ module _ {T : Type 0} (old looked taken : PayPassView T) (start turns : ℕ) {en
     };
   }
 
-  pub takes_since : (answer : Taken T) → TakesOut start turns answer looked taken → TakesOut start turns answer old taken
+  pub takes_since : (answer : Taken T) → TakesOut start turns answer looked taken
+      → TakesOut start turns answer old taken
   takes_since (K.Got payload) t = (t.0, t.1 ∙ ap (λ xs. t.0 ∷ xs) keeps.0, t.2, t.3, dequeues_since t.4)
   takes_since K.Empty t = (t.0 ∙ keeps.0, dequeues_since t.1)
   takes_since K.Busy t = (t.0 ∙ keeps.0, dequeues_since t.1)
@@ -138,20 +149,24 @@ module _ {T : Type 0} (old looked taken : PayPassView T) (start turns : ℕ) {en
       (seen_before looked.pass.opened looked_at finds.word_is d.call.run)
 
   -- a seal from these ends leaves the queue sealed empty
-  pub sealed_since : (new : PayPassView T) → DequeuesWith start turns A.Empty looked taken → IsSamePass looked.pass taken.pass
-      → IsSamePass taken.pass new.pass → SealsFrom taken.pass.opened taken.pass.thread ends taken.pass.seen new.pass.seen
+  pub sealed_since : (new : PayPassView T) → DequeuesWith start turns A.Empty looked taken
+      → IsSamePass looked.pass taken.pass
+      → IsSamePass taken.pass new.pass
+      → SealsFrom taken.pass.opened taken.pass.thread ends taken.pass.seen new.pass.seen
       → IsSealedEmpty new.pass
   sealed_since new d then later seal =
       let all = new.pass.seen in
       let from : SealsFrom looked.pass.opened taken.pass.thread ends taken.pass.seen all =
       subst (λ (o : Opening). SealsFrom o taken.pass.thread ends taken.pass.seen all) then.1 seal in
       subst (λ (o : Opening). SealedEmpty o.shape o.threads all) (sym (later.1 ∙ then.1))
-      (sealed_empty looked.pass.opened looked.pass.thread (B.Dequeue start turns) looked.pass.seen taken.pass.seen all ends finds.world
+      (sealed_empty looked.pass.opened looked.pass.thread (B.Dequeue start turns) looked.pass.seen taken.pass.seen all
+      ends finds.world
       looked_at finds.word_is d.call.run from)
 
   -- a try that failed leaves it open
   pub open_since : (new : PayPassView T) → {answer : Answer} → DequeuesWith start turns answer looked taken
-      → FailsToSeal taken.pass.opened taken.pass.thread ends taken.pass.seen new.pass.seen → KeepsTokens taken new → StaysOpen old taken new
+      → FailsToSeal taken.pass.opened taken.pass.thread ends taken.pass.seen new.pass.seen → KeepsTokens taken new
+      → StaysOpen old taken new
   open_since new d fails kept =
       let run = d.call.run in
       record {

@@ -1,6 +1,6 @@
 -- The logs of all passes, and the passes alone.
-use Rattle.std.proofs.Common.{◌≡◌, ◌≢◌, ℕ, zero, suc, ◌<◌, ◌≤◌, Some, List, [], ◌∷◌, ◌++◌, length, refl, sym, ap, ◌∙◌, subst, arith}
-use Rattle.std.proofs.Common.{append_assoc}
+use Rattle.std.proofs.Common.{◌≡◌, ◌≢◌, ℕ, zero, suc, ◌<◌, ◌≤◌, Some, List, [], ◌∷◌, ◌++◌, length, refl, sym, ap, ◌∙◌}
+use Rattle.std.proofs.Common.{subst, arith, append_assoc}
 use Rattle.std.proofs.lemmas.List.{append-nil}
 use Rattle.std.specs.Prelude.{◌==◌, ◌||◌, IsPermutation}
 use Rattle.std.specs.List.{list_any, AllByRecursion, All}
@@ -20,14 +20,17 @@ use Rattle.kfifo_machine.proofs.Schedules.{run_before}
 use Rattle.kfifo_live.specs.Pass.{AllSeen, Closes, IsComplete, IsPassOf, PassView, OpenQueue, new_passes}
 use Rattle.kfifo_live.specs.Promise.{KeepsPromise, calls_of}
 use Rattle.kfifo_live.specs.Schedule.{ticks, world_after}
-use Rattle.kfifo_live.specs.Stamps.{Gathers, calls_by, HasCalls, IsLog, Logged, all_logs, logged_by, new_logs, passes_of}
+use Rattle.kfifo_live.specs.Stamps.{Gathers, calls_by, HasCalls, IsLog, Logged, all_logs, logged_by, new_logs}
+use Rattle.kfifo_live.specs.Stamps.{passes_of}
 use Rattle.kfifo_live.proofs.Logs.{has_on}
 use Rattle.kfifo_live.proofs.Passes.{keeps_promise}
 use Rattle.kfifo_live.proofs.Shuffles.{all_once}
-use Rattle.kfifo_live.proofs.Stamping.{IsGoodLog, log_rises, logs_few, logs_history, logs_legal, logs_order, rises, threads_of}
+use Rattle.kfifo_live.proofs.Stamping.{IsGoodLog, log_rises, logs_few, logs_history, logs_legal, logs_order, rises}
+use Rattle.kfifo_live.proofs.Stamping.{threads_of}
 use Rattle.kfifo_live.proofs.Threads.{Has, each_by_has, has_of, log_of_thread, pairs_from}
 
-pub any_of : (t : ℕ) (ps : List Logged) → list_any (λ p. p.pass.thread == t) ps ≡ list_any (λ p. p.thread == t) (passes_of ps)
+pub any_of : (t : ℕ) (ps : List Logged) → list_any (λ p. p.pass.thread == t) ps
+    ≡ list_any (λ p. p.thread == t) (passes_of ps)
 any_of t [] = refl
 any_of t (p ∷ ps) = ap (λ b. (p.pass.thread == t) || b) (any_of t ps)
 
@@ -84,7 +87,8 @@ pub new_promise : (p : PassView) → p.seen ≡ [] → p.opened.threads ≤ 64 �
 new_promise p none few = subst (KeepsPromise p.opened) (sym none)
     (keeps_promise p.opened [] (opening p.opened.shape p.opened.threads) few refl)
 
-any_thread : (t : ℕ) (ps : List Logged) → list_any (λ y. y == t) (threads_of ps) ≡ list_any (λ p. p.thread == t) (passes_of ps)
+any_thread : (t : ℕ) (ps : List Logged) → list_any (λ y. y == t) (threads_of ps)
+    ≡ list_any (λ p. p.thread == t) (passes_of ps)
 any_thread t [] = refl
 any_thread t (p ∷ ps) = ap (λ b. (p.pass.thread == t) || b) (any_thread t ps)
 
@@ -93,7 +97,8 @@ threads-length [] = refl
 threads-length (p ∷ ps) = ap suc (threads-length ps)
 
 -- a log in a schedule which what its pass has seen begins
-good_log : (o : Opening) (all : List Event) (here : World) → world_after o all ≡ Some here → o.threads ≤ 64 → (p : Logged)
+good_log : (o : Opening) (all : List Event) (here : World) → world_after o all ≡ Some here → o.threads ≤ 64
+    → (p : Logged)
     → IsLog p.pass p.log → p.pass.opened ≡ o → Begins p.pass.thread p.pass.seen all → IsGoodLog o all p
 good_log o all here reached few p is opened b =
     let t = p.pass.thread in
@@ -102,14 +107,16 @@ good_log o all here reached few p is opened b =
     (ap (λ es. world_after o es) (sym b.goes_on) ∙ reached) in
     let keeps = others_keep o.shape o.threads t seen b.rest mid.0 here few mid.1 mid.2 b.no_own in
     record {
-      calls = has_on o all seen b.rest b.goes_on t p.log (subst (λ (x : Opening). HasCalls x seen t p.log) opened is.calls)
-          (subst (λ (es : List Event). KeepsCalls t (calls_of o seen) (calls_of o es)) (sym b.goes_on) keeps);
+      calls = has_on o all seen b.rest b.goes_on t p.log (subst (λ (x : Opening). HasCalls x seen t p.log) opened
+          is.calls) (subst (λ (es : List Event). KeepsCalls t (calls_of o seen) (calls_of o es)) (sym b.goes_on) keeps);
       mine = is.mine;
       in_turn = is.in_turn;
     }
 
-good_logs : (q : OpenQueue) (all : List Event) (here : World) → world_after q.opened all ≡ Some here → q.opened.threads ≤ 64
-    → (ps : List Logged) → AllByRecursion (λ p. IsLog p.pass p.log) ps → All (λ p. IsPassOf q p.pass) ps → AllSeen (passes_of ps) all
+good_logs : (q : OpenQueue) (all : List Event) (here : World) → world_after q.opened all ≡ Some here
+    → q.opened.threads ≤ 64
+    → (ps : List Logged) → AllByRecursion (λ p. IsLog p.pass p.log) ps → All (λ p. IsPassOf q p.pass) ps
+    → AllSeen (passes_of ps) all
     → AllByRecursion (IsGoodLog q.opened all) ps
 good_logs q all here reached few [] is of seen = tt
 good_logs q all here reached few (p ∷ ps) is of seen =
@@ -124,8 +131,8 @@ each_mine [] is = tt
 each_mine (p ∷ ps) is = (is.0.mine, each_mine ps is.1)
 
 -- What is gathered when a queue was closed
-module _ (q : OpenQueue) (ps : List Logged) (calls h : List Call) (plain : List PassView) (items : List ℕ) (few : q.opened.threads ≤ 64)
-    (passes : plain ≡ passes_of ps) (logs : calls ≡ all_logs ps)
+module _ (q : OpenQueue) (ps : List Logged) (calls h : List Call) (plain : List PassView) (items : List ℕ)
+    (few : q.opened.threads ≤ 64) (passes : plain ≡ passes_of ps) (logs : calls ≡ all_logs ps)
     (are_logs : AllByRecursion (λ p. IsLog p.pass p.log) ps) (of : All (λ p. IsPassOf q p.pass) ps)
     (complete : IsComplete q.opened.threads (passes_of ps)) (closed : Closes q plain items)
     (shuffled : IsPermutation calls h) (sorted : IsNonDecreasingBy (λ c. c.first) h) where
@@ -141,16 +148,19 @@ module _ (q : OpenQueue) (ps : List Logged) (calls h : List Call) (plain : List 
   in_order = subst (λ (cs : List Call). IsPermutation cs h) logs shuffled
 
   pub gathered_history : IsHistory h
-  gathered_history = logs_history q.opened closed.all closed.world closed.reached few ps h good once complete.each in_order sorted
+  gathered_history = logs_history q.opened closed.all closed.world closed.reached few ps h good once complete.each
+      in_order sorted
 
   rising : (i j : ℕ) → i < j → j < length h → (call h i).first < (call h j).first
-  rising = λ i j lt within. rises q.opened closed.all closed.world closed.reached few ps h good once complete.each in_order sorted i j lt
-      within
+  rising = λ i j lt within. rises q.opened closed.all closed.world closed.reached few ps h good once complete.each
+      in_order sorted i j lt within
 
   own_log : (p : Logged) → Has p ps → calls_by p.pass.thread h ≡ p.log
   own_log p there =
-      log_of_thread ps h p there once (each_mine ps are_logs) in_order (pairs_from no_call (λ c d. c.first < d.first) h rising)
-      (log_rises q.opened closed.all closed.world closed.reached few p (has_of (IsGoodLog q.opened closed.all) ps p good there))
+      log_of_thread ps h p there once (each_mine ps are_logs) in_order
+      (pairs_from no_call (λ c d. c.first < d.first) h rising)
+      (log_rises q.opened closed.all closed.world closed.reached few p
+      (has_of (IsGoodLog q.opened closed.all) ps p good there))
 
   pub gathered : Gathers q.opened ps h
   gathered = record {
@@ -159,5 +169,6 @@ module _ (q : OpenQueue) (ps : List Logged) (calls h : List Call) (plain : List 
     each_log = each_by_has (λ p. calls_by p.pass.thread h ≡ p.log) ps own_log;
     order = logs_order q.opened closed.all closed.world closed.reached few ps h good once complete.each in_order sorted;
     legal = logs_legal q.opened closed.all closed.world closed.reached few ps h good once complete.each in_order sorted;
-    few_certainly_overtake = logs_few q.opened closed.all closed.world closed.reached few ps h good once complete.each in_order sorted;
+    few_certainly_overtake = logs_few q.opened closed.all closed.world closed.reached few ps h good once complete.each
+        in_order sorted;
   }

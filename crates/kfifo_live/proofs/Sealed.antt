@@ -11,12 +11,14 @@ use Rattle.kfifo_model.specs.declared.calls.Answer.TheVariants.{Empty}
 use Rattle.kfifo_machine.specs.declared.event.Begin.TheVariants.{Seal}
 use Rattle.kfifo_machine.specs.Machine.{World, after, opening, place_of, run, word_at, world_of}
 use Rattle.kfifo_machine.specs.Runs.{Begins, BeginsOnce, CompleteExecution, event, own}
-use Rattle.kfifo_machine.proofs.Schedules.{Some-injective, after-snoc, first_made, own-append, run_on, same_place, stepped, still_threads}
+use Rattle.kfifo_machine.proofs.Schedules.{Some-injective, after-snoc, first_made, own-append, run_on, same_place}
+use Rattle.kfifo_machine.proofs.Schedules.{stepped, still_threads}
 use Rattle.kfifo_machine.proofs.Sound.{IsSound, sound}
 use Rattle.kfifo_machine.proofs.Versions.{no_going_seal, run_rises, sealable, sealed-ends, sealed-same}
 use Rattle.kfifo_linear.specs.Seals.{IsSealed, SealedEmpty}
 use Rattle.kfifo_linear.proofs.Seals.{run_stands}
-use Rattle.kfifo_live.specs.Schedule.{GiftsFit, part, view_of, world_after, thread_of, seen_of, gifts_of, hand_of, with_seen}
+use Rattle.kfifo_live.specs.Schedule.{GiftsFit, part, view_of, world_after, thread_of, seen_of, gifts_of, hand_of}
+use Rattle.kfifo_live.specs.Schedule.{with_seen}
 use Rattle.kfifo_live.specs.Step.{IsAt, TriesSeal}
 use Rattle.kfifo_live.specs.Pass.{IsPass}
 use Rattle.kfifo_live.specs.Hands.{Gifts}
@@ -24,8 +26,10 @@ use Rattle.kfifo_live.specs.Seals.{FailsToSeal, SealsFrom, WasSeen}
 use Rattle.kfifo_live.proofs.Passes.{alone_with, few_same}
 
 -- a seal, or none, leaves the threads where they were
-seal_stays : (shape : Shape) (here end : World) (t : ℕ) (b : Bool) (seal : List Event) → seal ≡ cond b (event t (Some Seal) ∷ []) []
-    → run shape (Some here) seal ≡ Some end → (length end.places ≡ length here.places) × (place_of end t ≡ place_of here t)
+seal_stays : (shape : Shape) (here end : World) (t : ℕ) (b : Bool) (seal : List Event)
+    → seal ≡ cond b (event t (Some Seal) ∷ []) []
+    → run shape (Some here) seal ≡ Some end → (length end.places ≡ length here.places)
+    × (place_of end t ≡ place_of here t)
 seal_stays shape here end t b seal is made = by_test b (ap (run shape (Some here)) (sym is) ∙ made)
   where
     by_test : (b : Bool) → run shape (Some here) (cond b (event t (Some Seal) ∷ []) []) ≡ Some end
@@ -53,14 +57,17 @@ tried {T} sought word old new idle slots d =
     let all = (seen_of v ++ d.between) ++ d.seal in
     let gifts = gifts_of v ++ d.given in
     let onward : run shape (Some idle.here) d.between ≡ Some d.here =
-    sym (run_on shape (Some (opening shape v.opened.threads)) idle.here (seen_of v) d.between idle.reached) ∙ d.reached in
+    sym (run_on shape (Some (opening shape v.opened.threads)) idle.here (seen_of v) d.between idle.reached)
+    ∙ d.reached in
     let still = still_threads shape idle.here d.here d.between onward in
-    let there : place_of d.here t ≡ None = same_place shape idle.here d.here d.between t d.others onward ∙ idle.place_is in
+    let there : place_of d.here t ≡ None = same_place shape idle.here d.here d.between t d.others onward
+    ∙ idle.place_is in
     let stays = seal_stays shape d.here d.end t (word == sought) d.seal d.seal_is d.made in
     let at : IsAt None (with_seen v all gifts (hand_of v), new.1) = record {
       here = d.end;
       seated = refl;
-      reached = run_on shape (Some (opening shape v.opened.threads)) d.here (seen_of v ++ d.between) d.seal d.reached ∙ d.made;
+      reached = run_on shape (Some (opening shape v.opened.threads)) d.here (seen_of v ++ d.between) d.seal d.reached
+          ∙ d.made;
       within = let w = idle.within in let s = stays.0 in omega arith;
       place_is = stays.1 ∙ there;
       carries = (idle.carries.0, slots ∙ idle.carries.1);
@@ -70,17 +77,22 @@ tried {T} sought word old new idle slots d =
 -- where nothing was tried the view is as it was
 pub untried : {T : Type 0} (me : Me (Option T) (View T)) → IsAt None me
     → me.0 ≡ with_seen me.0 (seen_of me.0) (gifts_of me.0 ++ []) (hand_of me.0)
-untried me idle = idle.seated ∙ ap (λ gifts. with_seen me.0 (seen_of me.0) gifts (hand_of me.0)) (sym (append-nil (gifts_of me.0)))
+untried me idle = idle.seated ∙ ap (λ gifts. with_seen me.0 (seen_of me.0) gifts (hand_of me.0))
+    (sym (append-nil (gifts_of me.0)))
 
 -- a pass whose view has seen more, with more gifts, is still a pass
-pub pass_on : {T : Type 0} (given : Gifts T) (thread : ℕ) (old new : Me (Option T) (View T)) → IsPass thread old → new.1 ≡ old.1
-    → IsAt None new → new.0 ≡ with_seen old.0 (seen_of new.0) (gifts_of old.0 ++ given) (hand_of old.0) → IsPass thread new
+pub pass_on : {T : Type 0} (given : Gifts T) (thread : ℕ) (old new : Me (Option T) (View T)) → IsPass thread old
+    → new.1 ≡ old.1
+    → IsAt None new → new.0 ≡ with_seen old.0 (seen_of new.0) (gifts_of old.0 ++ given) (hand_of old.0)
+    → IsPass thread new
 pass_on {T} given thread old new p slots idle on =
     let all = seen_of new.0 in
     let gifts = gifts_of old.0 ++ given in
-    let is : new.0 ≡ view_of old.0.opened (part thread all gifts (hand_of old.0) ∷ []) = on ∙ alone_with thread old all gifts (hand_of old.0) p in
+    let is : new.0 ≡ view_of old.0.opened (part thread all gifts (hand_of old.0) ∷ []) = on
+    ∙ alone_with thread old all gifts (hand_of old.0) p in
     record {
-      alone = ap (λ v. v.parts) is ∙ (λ i. part thread (sym (ap seen_of is) i) (sym (ap gifts_of is) i) (sym (ap hand_of is) i) ∷ []);
+      alone = ap (λ v. v.parts) is
+          ∙ (λ i. part thread (sym (ap seen_of is) i) (sym (ap gifts_of is) i) (sym (ap hand_of is) i) ∷ []);
       held = slots ∙ p.held;
       idle = idle;
       few = few_same old.0 new.0 (part thread all gifts (hand_of old.0) ∷ []) is p.few;
@@ -100,7 +112,8 @@ seal_made shape threads seen here end t safe made =
             let word = ap (λ (w : World). word_at w 0) (sym same ∙ z.there_is) ∙ sealed-ends shape here safe in
             let k = sealed-same shape (word_at here 0) in
             record {
-              together = ap head_of word ∙ k.0 ∙ (sealable shape (word_at here 0) z.may).0 ∙ sym k.1 ∙ ap tail_of (sym word);
+              together = ap head_of word ∙ k.0 ∙ (sealable shape (word_at here 0) z.may).0 ∙ sym k.1
+                  ∙ ap tail_of (sym word);
               last = ap version_of word ∙ k.2;
             }
       ]
@@ -114,7 +127,8 @@ tries_gifts {T} {sought} {word} {v} {w} d =
 
 pub tries_fit : {T : Type 0} {sought word : ℕ} {v w : View T} → TriesSeal sought v word w
     → GiftsFit v.opened (seen_of w) (gifts_of w)
-tries_fit {T} {sought} {word} {v} {w} d = subst (λ (x : View T). GiftsFit v.opened (seen_of x) (gifts_of x)) (sym d.afterwards) d.in_turn
+tries_fit {T} {sought} {word} {v} {w} d = subst (λ (x : View T). GiftsFit v.opened (seen_of x) (gifts_of x))
+    (sym d.afterwards) d.in_turn
 
 pub tries_won : {T : Type 0} (sought word : ℕ) (v w : View T) → TriesSeal sought v word w → word ≡ sought
     → SealsFrom v.opened (thread_of v) sought (seen_of v) (seen_of w)
@@ -163,7 +177,8 @@ sealed_before o thread ends seen s sealed =
     let shape = o.shape in
     let safe : IsSound shape s.world = sound shape o.threads s.before s.world s.reached in
     let on : run shape (Some s.world) s.rest ≡ Some s.now =
-    sym (run_on shape (Some (opening shape o.threads)) s.world s.before s.rest s.reached) ∙ ap (world_after o) (sym s.split) ∙ s.seen_at in
+    sym (run_on shape (Some (opening shape o.threads)) s.world s.before s.rest s.reached)
+    ∙ ap (world_after o) (sym s.split) ∙ s.seen_at in
     let stands : word_at s.now 0 ≡ ends =
     run_stands shape s.world s.now s.rest safe on (ap version_of (sym s.word_is) ∙ sealed.last) ∙ sym s.word_is in
     record {
@@ -187,7 +202,8 @@ pub whole_from : {shape : Shape} {threads thread : ℕ} {call : Begin} {answer :
 whole_from {shape} {threads} {thread} {call} {answer} {old} {looked} {made} b whole =
     let so_far : looked ++ whole.between ≡ old ++ (b.rest ++ whole.between) =
     ap (λ es. es ++ whole.between) b.goes_on ∙ append_assoc old b.rest whole.between in
-    let mine : own thread ((b.rest ++ whole.between) ++ whole.last ∷ []) ≡ own thread (whole.between ++ whole.last ∷ []) =
+    let mine : own thread ((b.rest ++ whole.between) ++ whole.last ∷ [])
+    ≡ own thread (whole.between ++ whole.last ∷ []) =
     ap (own thread) (append_assoc b.rest whole.between (whole.last ∷ []))
     ∙ own-append thread b.rest (whole.between ++ whole.last ∷ [])
     ∙ ap (λ es. es ++ own thread (whole.between ++ whole.last ∷ [])) b.no_own in
@@ -204,7 +220,8 @@ whole_from {shape} {threads} {thread} {call} {answer} {old} {looked} {made} b wh
     }
 
 -- what a look found was seen when a complete execution has followed it
-pub seen_before : (o : Opening) {thread ends : ℕ} {call : Begin} {answer : Answer} {looked made : List Event} {world : World}
+pub seen_before : (o : Opening) {thread ends : ℕ} {call : Begin} {answer : Answer} {looked made : List Event}
+    {world : World}
     → world_after o looked ≡ Some world → ends ≡ word_at world 0
     → CompleteExecution o.shape o.threads thread call answer looked made → WasSeen o ends made
 seen_before o {thread} {ends} {call} {answer} {looked} {made} {world} reached is whole = record {
@@ -238,7 +255,8 @@ sealed_empty o thread call looked made all ends world reached is whole {owner} f
     let to_end : run shape (Some whole.before) (whole.last ∷ f.rest) ≡ Some f.here =
     sym (run_on shape start whole.before (looked ++ whole.between) (whole.last ∷ f.rest) whole.reached)
     ∙ ap (world_after o) (sym split) ∙ f.reached in
-    let low : word_at world 0 ≤ word_at whole.before 0 = run_rises shape world whole.before whole.between 0 safe to_empty in
+    let low : word_at world 0 ≤ word_at whole.before 0 = run_rises shape world whole.before whole.between 0 safe
+    to_empty in
     let high : word_at whole.before 0 ≤ word_at f.here 0 =
     run_rises shape whole.before f.here (whole.last ∷ f.rest) 0
     (sound shape o.threads (looked ++ whole.between) whole.before whole.reached) to_end in

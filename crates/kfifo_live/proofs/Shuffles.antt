@@ -1,6 +1,6 @@
 -- Pairs of a list in another order, and lists that have each number below their length.
-use Rattle.std.proofs.Common.{◌≡◌, ◌≢◌, ℕ, zero, suc, ◌<◌, List, [], ◌∷◌, ◌++◌, length, set, get_or, Bool, true, false, refl, sym, ap, ◌∙◌}
-use Rattle.std.proofs.Common.{subst, inl, inr, arith, cond}
+use Rattle.std.proofs.Common.{◌≡◌, ◌≢◌, ℕ, zero, suc, ◌<◌, List, [], ◌∷◌, ◌++◌, length, set, get_or, Bool, true, false}
+use Rattle.std.proofs.Common.{refl, sym, ap, ◌∙◌, subst, inl, inr, arith, cond}
 use Rattle.std.specs.Prelude.{IsPermutation, ◌==◌, ◌||◌}
 use Rattle.std.specs.List.{swap, list_any, AllByRecursion}
 use Rattle.std.proofs.lemmas.Bool.{cases_eq}
@@ -36,23 +36,27 @@ module _ {X : Type 0} (d : X) (R : X → X → Type 0) where
   AnyPair l = (i j : ℕ) → i < length l → j < length l → i ≢ j → R (get_or l i d) (get_or l j d)
 
   -- what stands at a place when two elements have changed places
-  reads_swapped : (l : List X) (i j n : ℕ) → i < length l → j < length l → get_or (swap l i j) n d ≡ get_or l (turned i j n) d
+  reads_swapped : (l : List X) (i j n : ℕ) → i < length l → j < length l
+      → get_or (swap l i j) n d ≡ get_or l (turned i j n) d
   reads_swapped l i j n p q =
       let w : List X = set l i (get_or l j d) in
       let long = length-set l i (get_or l j d) in
       let is : get_or (swap l i j) n d ≡ get_or (set w j (get_or l i d)) n d =
       ap (λ (x : List X). get_or x n d) (sym (swap_is l i j d p q)) in
       elim (cases_eq n j) [
-        | inl at_j ↦ is ∙ get_or-set_at w j n (get_or l i d) d at_j (omega arith) ∙ ap (λ m. get_or l m d) (sym (turned_j i j n at_j))
+        | inl at_j ↦ is ∙ get_or-set_at w j n (get_or l i d) d at_j (omega arith)
+            ∙ ap (λ m. get_or l m d) (sym (turned_j i j n at_j))
         | inr not_j ↦ elim (cases_eq n i) [
           | inl at_i ↦ is ∙ get_or-set_other w j n (get_or l i d) d not_j ∙ get_or-set_at l i n (get_or l j d) d at_i p
               ∙ ap (λ m. get_or l m d) (sym (turned_i i j n not_j at_i))
-          | inr not_i ↦ is ∙ get_or-set_other w j n (get_or l i d) d not_j ∙ get_or-set_other l i n (get_or l j d) d not_i
+          | inr not_i ↦ is ∙ get_or-set_other w j n (get_or l i d) d not_j
+              ∙ get_or-set_other l i n (get_or l j d) d not_i
               ∙ ap (λ m. get_or l m d) (sym (turned_none i j n not_j not_i))
         ]
       ]
 
-  swapped_pairs : (l : List X) (i j : ℕ) → i < length l → j < length l → AnyPair l → length (swap l i j) ≡ length l → AnyPair (swap l i j)
+  swapped_pairs : (l : List X) (i j : ℕ) → i < length l → j < length l → AnyPair l → length (swap l i j) ≡ length l
+      → AnyPair (swap l i j)
   swapped_pairs l i j p q pairs long a b low high apart =
       let m_low : turned i j a < length l = turned_below i j a (length l) p q (omega arith) in
       let m_high : turned i j b < length l = turned_below i j b (length l) p q (omega arith) in
@@ -61,7 +65,8 @@ module _ {X : Type 0} (d : X) (R : X → X → Type 0) where
 
   -- so it does of the list in any order
   pub pairs_shuffled : (xs ys : List X) → IsPermutation xs ys → AnyPair xs → AnyPair ys
-  pairs_shuffled xs ys shuffled pairs = (IsPermutation-keeps xs (λ l. (length l ≡ length xs) × AnyPair l) (refl, pairs) (λ l i j p q h.
+  pairs_shuffled xs ys shuffled pairs =
+      (IsPermutation-keeps xs (λ l. (length l ≡ length xs) × AnyPair l) (refl, pairs) (λ l i j p q h.
       let long : length (swap l i j) ≡ length l =
       ap (λ (x : List X). length x) (sym (swap_is l i j d p q)) ∙ length-set (set l i (get_or l j d)) j (get_or l i d)
       ∙ length-set l i (get_or l j d) in
@@ -77,7 +82,8 @@ without t [] is = absurd (cc)
 without t (x ∷ xs) is = elim (cases_eq x t) [
   | inl same ↦ ([], xs, ap (λ y. y ∷ xs) same)
   | inr ne ↦
-      let rest : list_any (λ y. y == t) xs ≡ true = later (x == t) (list_any (λ y. y == t) xs) (not_it (x == t) refl ne) is in
+      let rest : list_any (λ y. y == t) xs ≡ true = later (x == t) (list_any (λ y. y == t) xs) (not_it (x == t) refl ne)
+      is in
       let w = without t xs rest in
       (x ∷ w.0, w.1, ap (λ ys. x ∷ ys) w.2)
 ]
@@ -97,9 +103,11 @@ EachPair-insert R [] vs x pairs all = (after vs all, pairs)
     after : (ys : List _) → AllByRecursion (λ y. R y x × R x y) ys → AllByRecursion (R x) ys
     after [] all = tt
     after (y ∷ ys) all = (all.0.1, after ys all.1)
-EachPair-insert R (u ∷ us) vs x pairs all = (AllByRecursion-insert (R u) us vs x pairs.0 all.0.0, EachPair-insert R us vs x pairs.1 all.1)
+EachPair-insert R (u ∷ us) vs x pairs all =
+    (AllByRecursion-insert (R u) us vs x pairs.0 all.0.0, EachPair-insert R us vs x pairs.1 all.1)
 
-any_without : (t x : ℕ) (us vs : List ℕ) → x ≢ t → list_any (λ y. y == t) (us ++ x ∷ vs) ≡ true → list_any (λ y. y == t) (us ++ vs) ≡ true
+any_without : (t x : ℕ) (us vs : List ℕ) → x ≢ t → list_any (λ y. y == t) (us ++ x ∷ vs) ≡ true
+    → list_any (λ y. y == t) (us ++ vs) ≡ true
 any_without t x [] vs ne is = later (x == t) (list_any (λ y. y == t) vs) (off (x == t) refl) is
   where
     off : (b : Bool) → (x == t) ≡ b → b ≡ false
@@ -111,7 +119,8 @@ any_without t x (u ∷ us) vs ne is = either_way (u == t) (λ rest. any_without 
     either_way true rest is = refl
     either_way false rest is = rest is
 
-pub all_once : (n : ℕ) (ts : List ℕ) → length ts ≡ n → ((t : ℕ) → t < n → list_any (λ y. y == t) ts ≡ true) → AllByRecursion (λ t. t < n) ts
+pub all_once : (n : ℕ) (ts : List ℕ) → length ts ≡ n → ((t : ℕ) → t < n → list_any (λ y. y == t) ts ≡ true)
+    → AllByRecursion (λ t. t < n) ts
     × EachPair (λ a b. a ≢ b) ts
 all_once zero [] size each = (tt, tt)
 all_once zero (t ∷ ts) size each = absurd (omega arith)

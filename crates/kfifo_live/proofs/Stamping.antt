@@ -1,13 +1,15 @@
--- The calls of all logs, by their first stamps, are a history: that of the schedule under other numbers and wider stamps. So an
+-- The calls of all logs, by their first stamps, are a history: that of the schedule under other numbers and wider
+-- stamps. So an
 -- order that is legal for the one is legal for the other.
-use Rattle.std.proofs.Common.{◌≡◌, ◌≢◌, ◌⊎◌, ℕ, zero, suc, ◌+◌, ◌<◌, ◌≤◌, List, [], ◌∷◌, ◌++◌, length, map, get_or, true, Option, Some}
-use Rattle.std.proofs.Common.{None, refl, sym, ap, ◌∙◌, subst, inl, inr, arith, cond, append_assoc, length-append, ne_eqb, ◌-◌}
+use Rattle.std.proofs.Common.{◌≡◌, ◌≢◌, ◌⊎◌, ℕ, zero, suc, ◌+◌, ◌<◌, ◌≤◌, List, [], ◌∷◌, ◌++◌, length, map, get_or}
+use Rattle.std.proofs.Common.{true, Option, Some, None, refl, sym, ap, ◌∙◌, subst, inl, inr, arith, cond, append_assoc}
+use Rattle.std.proofs.Common.{length-append, ne_eqb, ◌-◌}
 use Rattle.std.specs.Prelude.{IsPermutation, ◌==◌}
 use Rattle.std.specs.List.{All, Contains, list_any, AllByRecursion}
 use Rattle.std.specs.List.Sorted.{IsNonDecreasingBy}
 use Rattle.std.proofs.lemmas.Bool.{cases_eq, cases_lt}
-use Rattle.std.proofs.lemmas.List.Elements.{All-append, All-from_get_or, All-get_or, All-nil, Contains-append_left, Contains-append_right}
-use Rattle.std.proofs.lemmas.List.Elements.{Contains-get_or, recursion_from_All}
+use Rattle.std.proofs.lemmas.List.Elements.{All-append, All-from_get_or, All-get_or, All-nil, Contains-append_left}
+use Rattle.std.proofs.lemmas.List.Elements.{Contains-append_right, Contains-get_or, recursion_from_All}
 use Rattle.std.proofs.lemmas.List.Sorted.{All-permutation, Contains-permutation}
 use Rattle.kfifo_live.proofs.Types.{Call, Event, Opening, Shape}
 use Rattle.kfifo_model.specs.declared.calls.End.{End}
@@ -20,8 +22,8 @@ use Rattle.kfifo_model.specs.Overtaking.{certainly_overtaken}
 use Rattle.kfifo_model.specs.declared.effects.Effect.TheVariants.{Wrong}
 use Rattle.kfifo_model.specs.Relaxed.{effect}
 use Rattle.kfifo_model.specs.Validity.{Answers, EndInRange, EndsFrom, IsHistory, IsInRange, OpInRange}
-use Rattle.kfifo_model.proofs.Matching.{HasPartners, done_within, match_by, matched_distinct, matched_done, matched_legal}
-use Rattle.kfifo_model.proofs.Matching.{matched_overtaken}
+use Rattle.kfifo_model.proofs.Matching.{HasPartners, done_within, match_by, matched_distinct, matched_done}
+use Rattle.kfifo_model.proofs.Matching.{matched_legal, matched_overtaken}
 use Rattle.kfifo_model.proofs.Lists.{AllByRecursion-append}
 use Rattle.kfifo_machine.specs.declared.event.Begin.TheVariants.{Tick}
 use Rattle.kfifo_machine.specs.Machine.{World, opening, run}
@@ -52,10 +54,12 @@ ticks_up_to (x ∷ xs) a (y ∷ ys) b same le =
     omega arith
 
 -- and fewer, if a tick comes behind it
-ticks_behind : (xs : List Event) (t : ℕ) (a ys b : List Event) → xs ++ event t (Some Tick) ∷ a ≡ ys ++ b → length xs < length ys
+ticks_behind : (xs : List Event) (t : ℕ) (a ys b : List Event) → xs ++ event t (Some Tick) ∷ a ≡ ys ++ b
+    → length xs < length ys
     → ticks xs < ticks ys
 ticks_behind xs t a ys b same lt =
-    let longer : (xs ++ event t (Some Tick) ∷ []) ++ a ≡ ys ++ b = append_assoc xs (event t (Some Tick) ∷ []) a ∙ same in
+    let longer : (xs ++ event t (Some Tick) ∷ []) ++ a ≡ ys ++ b = append_assoc xs (event t (Some Tick) ∷ []) a
+    ∙ same in
     let size = length-append xs (event t (Some Tick) ∷ []) in
     let up = ticks_up_to (xs ++ event t (Some Tick) ∷ []) a ys b longer (omega arith) in
     let more = ticks-append xs (event t (Some Tick) ∷ []) in
@@ -72,7 +76,8 @@ same_front (x ∷ xs) a (y ∷ ys) b same size =
     ((λ i. first i ∷ k.0 i), k.1)
 
 -- the events between a place and the next event of a thread
-same_gap : (t : ℕ) (xs ys : List Event) (e f : Event) (a b : List Event) → xs ++ e ∷ a ≡ ys ++ f ∷ b → own t xs ≡ [] → own t ys ≡ []
+same_gap : (t : ℕ) (xs ys : List Event) (e f : Event) (a b : List Event) → xs ++ e ∷ a ≡ ys ++ f ∷ b → own t xs ≡ []
+    → own t ys ≡ []
     → e.thread ≡ t → f.thread ≡ t → xs ≡ ys
 same_gap t [] [] e f a b same x y own_e own_f = refl
 same_gap t [] (u ∷ ys) e f a b same x y own_e own_f =
@@ -90,7 +95,8 @@ own_there : (t : ℕ) (xs : List Event) (e : Event) (a : List Event) → e.threa
 own_there t [] e a mine none = (own_none t e a none).0 (sym mine)
 own_there t (x ∷ xs) e a mine none = own_there t xs e a mine (own_none t x (xs ++ e ∷ a) none).1
 
-same_last : (t : ℕ) (xs ys : List Event) (e f : Event) (a b : List Event) → xs ++ e ∷ a ≡ ys ++ f ∷ b → own t a ≡ [] → own t b ≡ []
+same_last : (t : ℕ) (xs ys : List Event) (e f : Event) (a b : List Event) → xs ++ e ∷ a ≡ ys ++ f ∷ b → own t a ≡ []
+    → own t b ≡ []
     → e.thread ≡ t → f.thread ≡ t → xs ≡ ys
 same_last t [] [] e f a b same x y own_e own_f = refl
 same_last t [] (u ∷ ys) e f a b same x y own_e own_f =
@@ -108,15 +114,18 @@ same_last t (u ∷ xs) (v ∷ ys) e f a b same x y own_e own_f =
 -- Stamped calls of one schedule
 module _ (all : List Event) where
   -- the schedule from the first tick on
-  from_tick : (c d : Call) (s : IsStamped all c d) → all ≡ s.before ++ event c.thread (Some Tick) ∷ (s.between ++ s.begin ∷ s.rest)
+  from_tick : (c d : Call) (s : IsStamped all c d) → all ≡ s.before ++ event c.thread (Some Tick)
+      ∷ (s.between ++ s.begin ∷ s.rest)
   from_tick c d s = s.split ∙ append_assoc s.before (event c.thread (Some Tick) ∷ s.between) (s.begin ∷ s.rest)
 
   -- one stamp was drawn by one tick
-  same_tick : (c d c' d' : Call) (s : IsStamped all c d) (s' : IsStamped all c' d') → c.first ≡ c'.first → (s.before ≡ s'.before)
+  same_tick : (c d c' d' : Call) (s : IsStamped all c d) (s' : IsStamped all c' d') → c.first ≡ c'.first
+      → (s.before ≡ s'.before)
       × (c.thread ≡ c'.thread) × (s.between ++ s.begin ∷ s.rest ≡ s'.between ++ s'.begin ∷ s'.rest)
   same_tick c d c' d' s s' same =
       let both : s.before ++ event c.thread (Some Tick) ∷ (s.between ++ s.begin ∷ s.rest)
-      ≡ s'.before ++ event c'.thread (Some Tick) ∷ (s'.between ++ s'.begin ∷ s'.rest) = sym (from_tick c d s) ∙ from_tick c' d' s' in
+      ≡ s'.before ++ event c'.thread (Some Tick) ∷ (s'.between ++ s'.begin ∷ s'.rest) = sym (from_tick c d s)
+      ∙ from_tick c' d' s' in
       let equal : ticks s.before ≡ ticks s'.before = sym s.first_is ∙ same ∙ s'.first_is in
       let size : length s.before ≡ length s'.before =
       elim (cases_lt (length s.before) (length s'.before)) [
@@ -135,7 +144,8 @@ module _ (all : List Event) where
   one_made : (c d d' : Call) → IsStamped all c d → IsStamped all c d' → d.first ≡ d'.first
   one_made c d d' s s' =
       let k = same_tick c d c d' s s' refl in
-      let gap = same_gap c.thread s.between s'.between s.begin s'.begin s.rest s'.rest k.2 s.quiet s'.quiet s.own_begin s'.own_begin in
+      let gap = same_gap c.thread s.between s'.between s.begin s'.begin s.rest s'.rest k.2 s.quiet s'.quiet s.own_begin
+      s'.own_begin in
       s.made_first ∙ (λ i. length (k.0 i ++ event c.thread (Some Tick) ∷ gap i)) ∙ sym s'.made_first
 
   one_logged : (c c' d : Call) → IsStamped all c d → IsStamped all c' d → c.first ≡ c'.first
@@ -152,7 +162,8 @@ module _ (all : List Event) where
   ends_after : (c d : Call) → EndsFrom d.first d.end → IsStamped all c d → EndsFrom c.first c.end
   ends_after c d from s =
       let step : d.first ≤ s.step = subst (EndsFrom d.first) s.made_end from in
-      let both : s.before ++ event c.thread (Some Tick) ∷ (s.between ++ s.begin ∷ s.rest) ≡ s.upto ++ event c.thread (Some Tick) ∷ s.later =
+      let both : s.before ++ event c.thread (Some Tick) ∷ (s.between ++ s.begin ∷ s.rest) ≡ s.upto
+      ++ event c.thread (Some Tick) ∷ s.later =
       sym (from_tick c d s) ∙ s.split_last in
       let first = s.made_first in
       let size = length-append s.before (event c.thread (Some Tick) ∷ s.between) in
@@ -163,7 +174,8 @@ module _ (all : List Event) where
       subst (EndsFrom c.first) (sym s.logged_end) fine
 
   -- what precedes by its stamps precedes by its steps
-  steps_apart : (c d c' d' : Call) → IsStamped all c d → IsStamped all c' d' → EndsBelow c.end c'.first → EndsBelow d.end d'.first
+  steps_apart : (c d c' d' : Call) → IsStamped all c d → IsStamped all c' d' → EndsBelow c.end c'.first
+      → EndsBelow d.end d'.first
   steps_apart c d c' d' s s' before =
       let stamps : ticks s.upto < c'.first = subst (λ (e : Option End). EndsBelow e c'.first) s.logged_end before in
       let both : s'.before ++ event c'.thread (Some Tick) ∷ (s'.between ++ s'.begin ∷ s'.rest)
@@ -210,7 +222,8 @@ abbrev pub threads_of : List Logged → List ℕ
 threads_of [] = []
 threads_of (p ∷ ps) = p.pass.thread ∷ threads_of ps
 
-each_both : {X : Type 0} (P Q T : X → Type 0) → ((x : X) → P x → Q x → T x) → (xs : List X) → AllByRecursion P xs → AllByRecursion Q xs
+each_both : {X : Type 0} (P Q T : X → Type 0) → ((x : X) → P x → Q x → T x) → (xs : List X) → AllByRecursion P xs
+    → AllByRecursion Q xs
     → AllByRecursion T xs
 each_both P Q T on [] p q = tt
 each_both P Q T on (x ∷ xs) p q = (on x p.0 q.0, each_both P Q T on xs p.1 q.1)
@@ -220,16 +233,19 @@ pairs_append : {X : Type 0} (R : X → X → Type 0) (xs ys : List X) → EachPa
 pairs_append R [] ys a b c = b
 pairs_append R (x ∷ xs) ys a b c = (AllByRecursion-append (R x) xs ys a.0 c.0, pairs_append R xs ys a.1 b c.1)
 
-each_at : {X : Type 0} (d : X) (P : X → Type 0) (xs : List X) (n : ℕ) → n < length xs → AllByRecursion P xs → P (get_or xs n d)
+each_at : {X : Type 0} (d : X) (P : X → Type 0) (xs : List X) (n : ℕ) → n < length xs → AllByRecursion P xs
+    → P (get_or xs n d)
 each_at d P [] n less all = absurd (omega arith)
 each_at d P (x ∷ xs) zero less all = all.0
 each_at d P (x ∷ xs) (suc n) less all = each_at d P xs n (omega arith) all.1
 
-any_from_each : {X : Type 0} (d : X) (R : X → X → Type 0) → ((x y : X) → R x y → R y x) → (l : List X) → EachPair R l → AnyPair d R l
+any_from_each : {X : Type 0} (d : X) (R : X → X → Type 0) → ((x y : X) → R x y → R y x) → (l : List X) → EachPair R l
+    → AnyPair d R l
 any_from_each d R turn [] pairs i j low high apart = absurd (omega arith)
 any_from_each d R turn (x ∷ xs) pairs zero zero low high apart = absurd (apart refl)
 any_from_each d R turn (x ∷ xs) pairs zero (suc j) low high apart = each_at d (R x) xs j (omega arith) pairs.0
-any_from_each d R turn (x ∷ xs) pairs (suc i) zero low high apart = turn x (get_or xs i d) (each_at d (R x) xs i (omega arith) pairs.0)
+any_from_each d R turn (x ∷ xs) pairs (suc i) zero low high apart =
+    turn x (get_or xs i d) (each_at d (R x) xs i (omega arith) pairs.0)
 any_from_each d R turn (x ∷ xs) pairs (suc i) (suc j) low high apart =
     any_from_each d R turn xs pairs.1 i j (omega arith) (omega arith) (λ same. apart (ap suc same))
 
@@ -252,7 +268,8 @@ first_below None f g from below = absurd below
 first_below (Some end) f g from below = omega arith
 
 -- the first stamps of a log rise
-rising_log : (log : List Call) → AllByRecursion (λ c. EndsFrom c.first c.end) log → EachPair (λ c d. EndsBelow c.end d.first) log
+rising_log : (log : List Call) → AllByRecursion (λ c. EndsFrom c.first c.end) log
+    → EachPair (λ c d. EndsBelow c.end d.first) log
     → EachPair (λ c d. c.first < d.first) log
 rising_log [] from turn = tt
 rising_log (c ∷ cs) from turn = (
@@ -276,14 +293,16 @@ own_beyond shape t here there (e ∷ es) beyond is =
     ∙ own_beyond shape t m.0 there es (omega arith) m.1.1.1
 
 -- All logs of a schedule
-module _ (o : Opening) (all : List Event) (here : World) (reached : world_after o all ≡ Some here) (few : o.threads ≤ 64) where
+module _ (o : Opening) (all : List Event) (here : World) (reached : world_after o all ≡ Some here)
+    (few : o.threads ≤ 64) where
   made_history : IsHistory (calls_of o all)
   made_history = history_is o.shape o.threads all here few reached
 
   abbrev Logs : Call → Type 0
   Logs c = (m : ℕ) × (m < length (calls_of o all)) × IsStamped all c (call (calls_of o all) m)
 
-  rises_by : (m k : ℕ) → m + suc k < length (calls_of o all) → (call (calls_of o all) m).first < (call (calls_of o all) (m + suc k)).first
+  rises_by : (m k : ℕ) → m + suc k < length (calls_of o all)
+      → (call (calls_of o all) m).first < (call (calls_of o all) (m + suc k)).first
   rises_by m zero within = (made_history (m + 1) within).rises m refl
   rises_by m (suc k) within =
       let before = rises_by m k (omega arith) in
@@ -295,11 +314,14 @@ module _ (o : Opening) (all : List Event) (here : World) (reached : world_after 
       → (call (calls_of o all) m).first ≡ (call (calls_of o all) p).first → m ≡ p
   one_number m p low high same =
       elim (cases_lt m p) [
-        | inl lt ↦ absurd (let less = subst (λ (n : ℕ). (call (calls_of o all) m).first < (call (calls_of o all) n).first)
+        | inl lt ↦ absurd (let less =
+            subst (λ (n : ℕ). (call (calls_of o all) m).first < (call (calls_of o all) n).first)
             (let e : m + suc (p - suc m) ≡ p = omega arith in e) (rises_by m (p - suc m) (omega arith)) in omega arith)
         | inr ge ↦ elim (cases_lt p m) [
-          | inl gt ↦ absurd (let less = subst (λ (n : ℕ). (call (calls_of o all) p).first < (call (calls_of o all) n).first)
-              (let e : p + suc (m - suc p) ≡ m = omega arith in e) (rises_by p (m - suc p) (omega arith)) in omega arith)
+          | inl gt ↦ absurd (let less =
+              subst (λ (n : ℕ). (call (calls_of o all) p).first < (call (calls_of o all) n).first)
+              (let e : p + suc (m - suc p) ≡ m = omega arith in e) (rises_by p (m - suc p) (omega arith)) in
+              omega arith)
           | inr le ↦ omega arith
         ]
       ]
@@ -332,8 +354,12 @@ module _ (o : Opening) (all : List Event) (here : World) (reached : world_after 
       let t = (call (calls_of o all) m).thread in
       elim (cases_eq p.pass.thread t) [
         | inl same ↦
-            let i = g.0.calls.logged m less (sym same) in
-            (call p.log i.0, Contains-append_left p.log (all_logs ps) (call p.log i.0) (Contains-get_or p.log i.0 no_call i.1), i.2)
+            let i = g.0.calls.logged m less (sym same) in (
+              call p.log i.0,
+              Contains-append_left p.log (all_logs ps) (call p.log i.0)
+                  (Contains-get_or p.log i.0 no_call i.1),
+              i.2,
+            )
         | inr ne ↦
             let f = find_log m less ps g.1 (later (p.pass.thread == t) (list_any (λ p. p.thread == t) (passes_of ps))
             (ne_eqb p.pass.thread t ne) is) in
@@ -345,9 +371,11 @@ module _ (o : Opening) (all : List Event) (here : World) (reached : world_after 
 
   pub log_rises : (p : Logged) → IsGoodLog o all p → EachPair (λ c d. c.first < d.first) p.log
   log_rises p g = let logs = recursion_from_All Logs p.log (log_calls p g) in
-      rising_log p.log (each_both Logs Logs (λ c. EndsFrom c.first c.end) (λ c l m. call_ends c l) p.log logs logs) g.in_turn
+      rising_log p.log (each_both Logs Logs (λ c. EndsFrom c.first c.end) (λ c l m. call_ends c l) p.log logs logs)
+      g.in_turn
 
-  in_log_pairs : (log : List Call) → AllByRecursion (λ c. EndsFrom c.first c.end) log → EachPair (λ c d. EndsBelow c.end d.first) log
+  in_log_pairs : (log : List Call) → AllByRecursion (λ c. EndsFrom c.first c.end) log
+      → EachPair (λ c d. EndsBelow c.end d.first) log
       → EachPair AreApart log
   in_log_pairs [] from turn = tt
   in_log_pairs (c ∷ cs) from turn = (
@@ -356,16 +384,19 @@ module _ (o : Opening) (all : List Event) (here : World) (reached : world_after 
     in_log_pairs cs from.1 turn.1,
   )
 
-  of_others : (t : ℕ) (ps : List Logged) → AllByRecursion (IsGoodLog o all) ps → AllByRecursion (λ u. t ≢ u) (threads_of ps)
+  of_others : (t : ℕ) (ps : List Logged) → AllByRecursion (IsGoodLog o all) ps
+      → AllByRecursion (λ u. t ≢ u) (threads_of ps)
       → AllByRecursion (λ d. (t ≢ d.thread) × Logs d) (all_logs ps)
   of_others t [] g apart = tt
   of_others t (p ∷ ps) g apart =
       AllByRecursion-append (λ d. (t ≢ d.thread) × Logs d) p.log (all_logs ps)
       (each_both (λ d. d.thread ≡ p.pass.thread) Logs (λ d. (t ≢ d.thread) × Logs d)
-      (λ d mine logs. ((λ same. apart.0 (same ∙ mine)), logs)) p.log g.0.mine (recursion_from_All Logs p.log (log_calls p g.0)))
+      (λ d mine logs. ((λ same. apart.0 (same ∙ mine)), logs)) p.log g.0.mine
+      (recursion_from_All Logs p.log (log_calls p g.0)))
       (of_others t ps g.1 apart.1)
 
-  across : (c : Call) → Logs c → (ds : List Call) → AllByRecursion (λ d. (c.thread ≢ d.thread) × Logs d) ds → AllByRecursion (AreApart c) ds
+  across : (c : Call) → Logs c → (ds : List Call) → AllByRecursion (λ d. (c.thread ≢ d.thread) × Logs d) ds
+      → AllByRecursion (AreApart c) ds
   across c logs [] others = tt
   across c logs (d ∷ ds) others = (
     ((λ same. others.0.0 (same_tick all c _ d _ logs.2 others.0.1.2 same).1), (λ same. absurd (others.0.0 same))),
@@ -386,12 +417,14 @@ module _ (o : Opening) (all : List Event) (here : World) (reached : world_after 
   all_pairs (p ∷ ps) g apart =
       let logs = recursion_from_All Logs p.log (log_calls p g.0) in
       pairs_append AreApart p.log (all_logs ps)
-      (in_log_pairs p.log (each_both Logs Logs (λ c. EndsFrom c.first c.end) (λ c l m. call_ends c l) p.log logs logs) g.0.in_turn)
+      (in_log_pairs p.log (each_both Logs Logs (λ c. EndsFrom c.first c.end) (λ c l m. call_ends c l) p.log logs logs)
+      g.0.in_turn)
       (all_pairs ps g.1 apart.1)
       (across_logs p.pass.thread p.log (all_logs ps) g.0.mine logs (of_others p.pass.thread ps g.1 apart.0))
 
   -- The calls of all logs in ascending order of their first stamps
-  module _ (ps : List Logged) (h : List Call) (g : AllByRecursion (IsGoodLog o all) ps) (apart : EachPair (λ t u. t ≢ u) (threads_of ps))
+  module _ (ps : List Logged) (h : List Call) (g : AllByRecursion (IsGoodLog o all) ps)
+      (apart : EachPair (λ t u. t ≢ u) (threads_of ps))
       (complete : (t : ℕ) → t < o.threads → list_any (λ p. p.thread == t) (passes_of ps) ≡ true)
       (shuffled : IsPermutation (all_logs ps) h) (sorted : IsNonDecreasingBy (λ c. c.first) h) where
     calls : All Logs h
@@ -421,8 +454,9 @@ module _ (o : Opening) (all : List Event) (here : World) (reached : world_after 
           rises = λ j e. rises j n (omega arith) less;
           apart = λ j before same. elim ((pairs j n (omega arith) less (λ e. absurd (omega arith))).1 same) [
             | inl below ↦ below
-            | inr other ↦ absurd (no_return (call h n).end (call h n).first (call h j).first (ends_after all (call h n) _ made.ends l.2)
-                other (rises j n before less))
+            | inr other ↦
+                absurd (no_return (call h n).end (call h n).first (call h j).first
+                (ends_after all (call h n) _ made.ends l.2) other (rises j n before less))
           ];
         }
 
@@ -431,12 +465,17 @@ module _ (o : Opening) (all : List Event) (here : World) (reached : world_after 
         let R : ℕ → ℕ → Type 0 = λ n m. IsStamped all (call h n) (call (calls_of o all) m) in
         let right : HasPartners (λ m n. R n m) (length (calls_of o all)) (length h) = λ m less.
         let f = find_log m less ps g (complete (call (calls_of o all) m).thread (thread_below m less)) in
-        let k = Contains-permutation (all_logs ps) h f.0 shuffled f.1 in
-        (k.0, k.1, subst (λ (c : Call). IsStamped all c (call (calls_of o all) m)) (sym (same_default h k.0 no_call f.0 k.1 ∙ k.2)) f.2) in
+        let k = Contains-permutation (all_logs ps) h f.0 shuffled f.1 in (
+          k.0,
+          k.1,
+          subst (λ (c : Call). IsStamped all c (call (calls_of o all) m))
+              (sym (same_default h k.0 no_call f.0 k.1 ∙ k.2)) f.2,
+        ) in
         let b = match_by R (length h) (length (calls_of o all)) at right
         (λ n p m n_in p_in m_in x y. elim (cases_eq n p) [
           | inl same ↦ same
-          | inr ne ↦ absurd ((pairs n p n_in p_in ne).0 (one_logged all (call h n) (call h p) (call (calls_of o all) m) x y))
+          | inr ne ↦ absurd ((pairs n p n_in p_in ne).0 (one_logged all (call h n) (call h p) (call (calls_of o all) m)
+              x y))
         ])
         (λ n m p n_in m_in p_in x y. one_number m p m_in p_in
         (one_made all (call h n) (call (calls_of o all) m) (call (calls_of o all) p) x y)) in
@@ -460,6 +499,7 @@ module _ (o : Opening) (all : List Event) (here : World) (reached : world_after 
     logs_few distinct c done =
         let within = done_within h c done in
         let less = few_certainly o.shape o.threads few all here reached (logs_match.numbers.to c)
-        (matched_done h (calls_of o all) logs_match c within done) (matched_distinct h (calls_of o all) logs_match distinct) in
+        (matched_done h (calls_of o all) logs_match c within done)
+        (matched_distinct h (calls_of o all) logs_match distinct) in
         let le = matched_overtaken h (calls_of o all) logs_match c within in
         omega arith

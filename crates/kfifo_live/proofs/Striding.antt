@@ -9,8 +9,13 @@ use Rattle.std.specs.Option.{SomeIff}
 use Rattle.kfifo_live.specs.Handles.{StartsDiffer, nth_start, slots_apart, start_after, stride}
 
 -- the start of the call after n others, with a stride that is given modulo k
-nth_is : (k d start n : ℕ) → start < k → nth_start (record { k = k; stride = d % k; start = start }) n ≡ (start + n * d) % k
-nth_is k d start zero within = let z : start ≡ start + 0 * d = omega arith in sym (mod-eq_of_lt within) ∙ ap (λ x. x % k) z
+nth_is : (k d start n : ℕ) → start < k → nth_start (record {
+  k = k;
+  stride = d % k;
+  start = start;
+}) n ≡ (start + n * d) % k
+nth_is k d start zero within = let z : start ≡ start + 0 * d = omega arith in sym (mod-eq_of_lt within)
+    ∙ ap (λ x. x % k) z
 nth_is k d start (suc n) within =
     let less : (start + d % k) % k < k = omega arith in
     let next : (start + d % k) % k ≡ (start + d) % k = add-mod-mod start d k in
@@ -96,8 +101,10 @@ starts_differ threads k some few = elim (cases_lt threads 3) [
   | inr many ↦ elim (cases_eq (k % 3) 0) [
     | inr not3 ↦ differ_by 3 threads k (ap (λ x. x % k) (is_3 threads k many not3)) (λ m q. no_multiple_3 k m q not3)
     | inl by3 ↦ elim (cases_eq (k % 5) 0) [
-      | inr not5 ↦ differ_by 5 threads k (ap (λ x. x % k) (is_5 threads k many by3 not5)) (λ m q. no_multiple_5 k m q not5)
-      | inl by5 ↦ differ_by 7 threads k (ap (λ x. x % k) (is_7 threads k many by3 by5)) (λ m q. no_multiple_7 k m q (λ by7. omega arith))
+      | inr not5 ↦ differ_by 5 threads k (ap (λ x. x % k) (is_5 threads k many by3 not5))
+          (λ m q. no_multiple_5 k m q not5)
+      | inl by5 ↦ differ_by 7 threads k (ap (λ x. x % k) (is_7 threads k many by3 by5))
+          (λ m q. no_multiple_7 k m q (λ by7. omega arith))
     ]
   ]
 ]

@@ -29,10 +29,12 @@ use Rattle.kfifo_live.specs.Hands.{Gifts, InTurn, beside, items_begun, last_gift
 use Rattle.kfifo_live.specs.Payloads.{PayPassView, TakesAtLast, TookWhatWasPut, WasPutWith}
 use Rattle.kfifo_live.proofs.Holders.{begin_free_before}
 use Rattle.kfifo_live.proofs.GiftsInTurn.{items_begun-append}
-use Rattle.kfifo_live.proofs.Givers.{Dequeues, Enqueues, Going, Lacks, On, PutLast, put_on, going_is, enqueue_not_dequeue, who_put}
+use Rattle.kfifo_live.proofs.Givers.{Dequeues, Enqueues, Going, Lacks, On, PutLast, put_on, going_is}
+use Rattle.kfifo_live.proofs.Givers.{enqueue_not_dequeue, who_put}
 
 module _ {T : Type 0} where
-  last_append : (x : ℕ) (found : Option T) (xs ys : Gifts T) → last_gift x found (xs ++ ys) ≡ last_gift x (last_gift x found xs) ys
+  last_append : (x : ℕ) (found : Option T) (xs ys : Gifts T)
+      → last_gift x found (xs ++ ys) ≡ last_gift x (last_gift x found xs) ys
   last_append x found [] ys = refl
   last_append x found (g ∷ xs) ys = last_append x (cond (g.0 == x) g.1 found) xs ys
 
@@ -50,7 +52,8 @@ module _ {T : Type 0} where
     first : map (λ g. g.0) earlier ≡ xs
     last : map (λ g. g.0) later ≡ ys
 
-  cut_at : (gifts : Gifts T) (xs : List ℕ) (token : ℕ) (ys : List ℕ) → map (λ g. g.0) gifts ≡ xs ++ token ∷ ys → IsCut gifts xs token ys
+  cut_at : (gifts : Gifts T) (xs : List ℕ) (token : ℕ) (ys : List ℕ) → map (λ g. g.0) gifts ≡ xs ++ token ∷ ys
+      → IsCut gifts xs token ys
   cut_at [] [] token ys is = absurd (cc)
   cut_at [] (x ∷ xs) token ys is = absurd (cc)
   cut_at (g ∷ gs) [] token ys is =
@@ -78,7 +81,8 @@ module _ {T : Type 0} where
       let put = event p.thread None in
       let behind = p.between ++ put ∷ p.after in
       let are : map (λ (g : ℕ × Option T). g.0) gifts ≡ items_begun p.before ++ token ∷ items_begun behind =
-      turns ∙ ap items_begun (p.all_are ∙ append_assoc p.before (begins ∷ p.between) (put ∷ p.after)) ∙ items_begun-append p.before
+      turns ∙ ap items_begun (p.all_are ∙ append_assoc p.before (begins ∷ p.between) (put ∷ p.after))
+      ∙ items_begun-append p.before
       (begins ∷ behind) in
       let c = cut_at gifts (items_begun p.before) token (items_begun behind) are in
       let so_far = last_gift token None c.earlier in
@@ -134,7 +138,8 @@ won_got : (shape : Shape) (start left ends index filled word x : ℕ) → word �
 won_got shape start left ends index filled word x won is = grind (arith, nat_tests)
 
 got_place : (shape : Shape) (r : Running) (word x : ℕ) → advance shape r word ≡ Answers (Got x) → IsTake r word x
-got_place shape (R.Enqueue item start left phase) word x is = absurd (enqueue_not_got shape item start left phase word x is)
+got_place shape (R.Enqueue item start left phase) word x is =
+    absurd (enqueue_not_got shape item start left phase word x is)
 got_place shape (R.Dequeue start left (D.Take ends index filled)) word x is =
     elim (cases_eq word filled) [
       | inl won ↦ record {
@@ -179,15 +184,18 @@ record TookLast (o : Opening) (thread token : ℕ) (seen : List Event) : Type 0 
   value : value_of word ≡ token
 
 took_last : (o : Opening) (thread start turns token : ℕ) (old new : List Event)
-    → CompleteExecution o.shape o.threads thread (B.Dequeue start turns) (Got token) old new → TookLast o thread token new
+    → CompleteExecution o.shape o.threads thread (B.Dequeue start turns) (Got token) old new
+    → TookLast o thread token new
 took_last o thread start turns token old new run =
     elim (stepped o.shape run.before run.last run.world (Ended (Got token)) run.ends) [
       | inr t ↦ absurd (let e : Ended (Got token) ≡ Went = t.outcome_is in cc)
       | inl s ↦
           let seen = found o.shape run.before s.running in
-          let g = got_place o.shape s.running seen token (answered (advance o.shape s.running seen) (Got token) s.outcome_is) in
+          let g = got_place o.shape s.running seen token (answered (advance o.shape s.running seen) (Got token)
+          s.outcome_is) in
           let take : Running = R.Dequeue g.start g.left (D.Take g.ends g.index seen) in
-          let on = take_goes_on o.shape (place_of run.before run.last.thread) run.last.begin g.start g.left g.ends g.index seen
+          let on = take_goes_on o.shape (place_of run.before run.last.thread) run.last.begin g.start g.left g.ends
+          g.index seen
           (s.goes ∙ ap Some g.place) in
           let place : IsPlace o.shape take = place_is o.shape run.before run.last.thread take
           (sound o.shape o.threads (old ++ run.between) run.before run.reached) on.1 in
@@ -214,8 +222,10 @@ took_last o thread start turns token old new run =
     ]
 
 -- What a pass took was put with the payload that it hands back
-pub took_what_was_put : {T : Type 0} (token : ℕ) (payload : Option T) (p : PayPassView T) (start turns : ℕ) (old : List Event)
-    → CompleteExecution p.pass.opened.shape p.pass.opened.threads p.pass.thread (B.Dequeue start turns) (Got token) old p.pass.seen
+pub took_what_was_put : {T : Type 0} (token : ℕ) (payload : Option T) (p : PayPassView T) (start turns : ℕ)
+    (old : List Event)
+    → CompleteExecution p.pass.opened.shape p.pass.opened.threads p.pass.thread (B.Dequeue start turns) (Got token) old
+    p.pass.seen
     → 0 < token → HolderLaw p.pass.opened p.pass.seen → InTurn p.pass.seen p.gifts → beside token p.gifts ≡ payload
     → TookWhatWasPut token payload p
 took_what_was_put token payload p start turns old run some law in_turn is =
@@ -231,13 +241,16 @@ took_what_was_put token payload p start turns old run some law in_turn is =
     let value : value_of (word_at t.taken.here t.index) ≡ token = ap value_of t.taken.stands ∙ t.value in
     let put = who_put o t.taken.before t.taken.here t.taken.reached first t.index t.above t.below
     (λ none. absurd (omega (arith, value, none, some))) in
-    let as_taken : PutLast o t.taken.before t.index t.word token = subst (λ (x : ℕ × ℕ). PutLast o t.taken.before t.index x.0 x.1)
+    let as_taken : PutLast o t.taken.before t.index t.word token =
+    subst (λ (x : ℕ × ℕ). PutLast o t.taken.before t.index x.0 x.1)
     (λ k. (t.taken.stands k, value k)) put in
-    let of_all : PutLast o all t.index t.word token = subst (λ (es : List Event). PutLast o es t.index t.word token) (sym t.taken.seen_is)
+    let of_all : PutLast o all t.index t.word token = subst (λ (es : List Event). PutLast o es t.index t.word token)
+    (sym t.taken.seen_is)
     (put_on o t.taken.before last t.index t.word token as_taken tt) in
     record {
       index = t.index;
       word = t.word;
       taken = t.taken;
-      put = subst (WasPutWith o all p.gifts t.index t.word token) is (was_put o all p.gifts t.index t.word token in_turn of_all);
+      put = subst (WasPutWith o all p.gifts t.index t.word token) is
+          (was_put o all p.gifts t.index t.word token in_turn of_all);
     }

@@ -1,6 +1,6 @@
 -- Of a history made of logs, the calls of one thread are its log.
-use Rattle.std.proofs.Common.{◌≡◌, ◌≢◌, ◌⊎◌, ℕ, zero, suc, ◌<◌, List, [], ◌∷◌, ◌++◌, length, get_or, refl, sym, ap, ◌∙◌, subst, inl, inr}
-use Rattle.std.proofs.Common.{arith, cond, eq-eqb, ne_eqb}
+use Rattle.std.proofs.Common.{◌≡◌, ◌≢◌, ◌⊎◌, ℕ, zero, suc, ◌<◌, List, [], ◌∷◌, ◌++◌, length, get_or, refl, sym, ap, ◌∙◌}
+use Rattle.std.proofs.Common.{subst, inl, inr, arith, cond, eq-eqb, ne_eqb}
 use Rattle.std.specs.Prelude.{IsPermutation}
 use Rattle.std.specs.List.{All, AllByRecursion}
 use Rattle.std.proofs.lemmas.Bool.{cases_eq}
@@ -32,7 +32,8 @@ pairs_from d R (x ∷ xs) on = (
   pairs_from d R xs (λ i j lt within. on (suc i) (suc j) (omega arith) (omega arith)),
 )
   where
-    each_place : {X : Type 0} (d : X) (P : X → Type 0) (xs : List X) → ((j : ℕ) → j < length xs → P (get_or xs j d)) → AllByRecursion P xs
+    each_place : {X : Type 0} (d : X) (P : X → Type 0) (xs : List X) → ((j : ℕ) → j < length xs → P (get_or xs j d))
+        → AllByRecursion P xs
     each_place d P [] on = tt
     each_place d P (x ∷ xs) on = (on 0 (omega arith), each_place d P xs (λ j within. on (suc j) (omega arith)))
 
@@ -103,9 +104,15 @@ by_has t (c ∷ cs) z is = elim (cases_eq c.thread t) [
 has_by : (t : ℕ) (cs : List Call) (z : Call) → Has z cs → z.thread ≡ t → Has z (calls_by t cs)
 has_by t [] z is mine = absurd is
 has_by t (c ∷ cs) z is mine = elim (cases_eq c.thread t) [
-  | inl own ↦ subst (Has z) (sym (kept t c cs own)) (elim is [ inl same ↦ inl same | inr later ↦ inr (has_by t cs z later mine) ])
+  | inl own ↦ subst (Has z) (sym (kept t c cs own)) (elim is [
+    | inl same ↦ inl same
+    | inr later ↦ inr (has_by t cs z later mine)
+  ])
   | inr other ↦ subst (Has z) (sym (left_out t c cs other))
-      (elim is [ inl same ↦ absurd (other (ap (λ (x : Call). x.thread) same ∙ mine)) | inr later ↦ has_by t cs z later mine ])
+      (elim is [
+        | inl same ↦ absurd (other (ap (λ (x : Call). x.thread) same ∙ mine))
+        | inr later ↦ has_by t cs z later mine
+      ])
 ]
 
 by_each : (t : ℕ) (P : Call → Type 0) (cs : List Call) → AllByRecursion P cs → AllByRecursion P (calls_by t cs)
@@ -138,7 +145,8 @@ thread_in p (q ∷ qs) there = elim there [
 ]
 
 in_own : (p : Logged) (ps : List Logged) (z : Call) → Has p ps → EachPair (λ t u. t ≢ u) (threads_of ps)
-    → AllByRecursion (λ q. AllByRecursion (λ c. c.thread ≡ q.pass.thread) q.log) ps → Has z (all_logs ps) → z.thread ≡ p.pass.thread
+    → AllByRecursion (λ q. AllByRecursion (λ c. c.thread ≡ q.pass.thread) q.log) ps → Has z (all_logs ps)
+    → z.thread ≡ p.pass.thread
     → Has z p.log
 in_own p [] z there apart mine is of = absurd there
 in_own p (q ∷ qs) z there apart mine is of = elim (has_append q.log (all_logs qs) z is) [
@@ -154,7 +162,8 @@ in_own p (q ∷ qs) z there apart mine is of = elim (has_append q.log (all_logs 
 ]
   where
     not_theirs : (q : Logged) (qs : List Logged) (z : Call) → AllByRecursion (λ u. q.pass.thread ≢ u) (threads_of qs)
-        → AllByRecursion (λ r. AllByRecursion (λ c. c.thread ≡ r.pass.thread) r.log) qs → Has z (all_logs qs) → z.thread ≢ q.pass.thread
+        → AllByRecursion (λ r. AllByRecursion (λ c. c.thread ≡ r.pass.thread) r.log) qs → Has z (all_logs qs)
+        → z.thread ≢ q.pass.thread
     not_theirs q [] z apart mine is = absurd is
     not_theirs q (r ∷ rs) z apart mine is = elim (has_append r.log (all_logs rs) z is) [
       | inl here ↦ λ of. apart.0 (sym of ∙ has_of (λ c. c.thread ≡ r.pass.thread) r.log z mine.0 here)
@@ -185,6 +194,8 @@ log_of_thread ps h p there apart mine shuffled rising log_rising =
     let own : AllByRecursion (λ c. c.thread ≡ t) p.log =
     has_of (λ q. AllByRecursion (λ c. c.thread ≡ q.pass.thread) q.log) ps p mine there in
     rising_one (calls_by t h) p.log (by_pairs t (λ c d. c.first < d.first) h rising) log_rising
-    (λ z is. let k = by_has t h z is in in_own p ps z there apart mine (has_shuffled (all_logs ps) h shuffled z k.0) k.1)
-    (λ z is. has_by t h z (has_shuffled h (all_logs ps) (IsPermutation-sym (all_logs ps) h shuffled) z (in_all p ps z there is))
+    (λ z is. let k =
+    by_has t h z is in in_own p ps z there apart mine (has_shuffled (all_logs ps) h shuffled z k.0) k.1)
+    (λ z is. has_by t h z (has_shuffled h (all_logs ps) (IsPermutation-sym (all_logs ps) h shuffled) z
+    (in_all p ps z there is))
     (has_of (λ c. c.thread ≡ t) p.log z own is))

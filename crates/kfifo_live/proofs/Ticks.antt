@@ -1,7 +1,7 @@
 -- The ticks of the clock: the clock has the number of them, and there are few.
-use Rattle.std.proofs.Common.{◌≡◌, ◌≢◌, ℕ, zero, suc, ◌+◌, ◌*◌, ◌<◌, ◌≤◌, ◌⊎◌, List, [], ◌∷◌, ◌++◌, length, filter, get_or, set, replicate}
-use Rattle.std.proofs.Common.{Bool, true, false, Option, Some, None, Ok, refl, ap, ◌∙◌, subst, inl, inr, arith, le_trans, cond}
-use Rattle.std.proofs.Common.{length-append}
+use Rattle.std.proofs.Common.{◌≡◌, ◌≢◌, ℕ, zero, suc, ◌+◌, ◌*◌, ◌<◌, ◌≤◌, ◌⊎◌, List, [], ◌∷◌, ◌++◌, length, filter}
+use Rattle.std.proofs.Common.{get_or, set, replicate, Bool, true, false, Option, Some, None, Ok, refl, ap, ◌∙◌, subst}
+use Rattle.std.proofs.Common.{inl, inr, arith, le_trans, cond, length-append}
 use Rattle.std.proofs.lemmas.List.Elements.{filter-append}
 use Rattle.std.specs.Prelude.{◌==◌, nat_lt}
 use Rattle.std.proofs.Math.Nat.{mul-le-mul_left, mul-le-mul_right}
@@ -38,7 +38,8 @@ ticks_of_one e = by_test (begins_tick e.begin)
     by_test false = refl
 
 -- a step of a call is no tick
-pub no_tick : (shape : Shape) (place : Option Running) (begin : Option Begin) (running : Running) → going shape place begin ≡ Some running
+pub no_tick : (shape : Shape) (place : Option Running) (begin : Option Begin) (running : Running)
+    → going shape place begin ≡ Some running
     → begins_tick begin ≡ false
 no_tick shape place None running is = refl
 no_tick shape place (Some (B.Enqueue item start turns)) running is = refl
@@ -60,7 +61,8 @@ own_more : (thread : ℕ) (all : List Event) (e : Event)
 own_more thread all e = ap ticks (own-append thread all (e ∷ [])) ∙ ticks-append (own thread all) (own thread (e ∷ []))
 
 -- another event leaves them few
-pub few_more : (o : Opening) (all : List Event) (e : Event) → begins_tick e.begin ≡ false → FewTicks o all → FewTicks o (all ++ e ∷ [])
+pub few_more : (o : Opening) (all : List Event) (e : Event) → begins_tick e.begin ≡ false → FewTicks o all
+    → FewTicks o (all ++ e ∷ [])
 few_more o all e none few thread =
     let old = few thread in
     let more = own_more thread all e in
@@ -78,7 +80,8 @@ few_tick o all e room few thread =
     let one : ticks (e ∷ []) ≤ 1 = at_most (begins_tick e.begin) (ticks_of_one e) in
     elim (cases_eq e.thread thread) [
       | inl mine ↦
-          let here : ticks (own thread all) < 2 * o.calls = subst (λ (t : ℕ). ticks (own t all) < 2 * o.calls) mine room in
+          let here : ticks (own thread all) < 2 * o.calls = subst (λ (t : ℕ). ticks (own t all) < 2 * o.calls) mine
+          room in
           let few_of : ticks (own thread (e ∷ [])) ≤ 1 =
           elim (own_one thread e) [ inl same ↦ rw same one | inr none ↦ rw none (omega arith) ] in
           omega arith
@@ -109,7 +112,8 @@ clock_after shape (Exchange index from to) words below = by_test (get_or words i
 clock-moved : (shape : Shape) (here : World) (thread : ℕ) (running : Running) → IsPlace shape running
     → word_at (moved shape here thread running) (clock_at shape.k shape.n) ≡ word_at here (clock_at shape.k shape.n)
 unfolding moved word_at
-clock-moved shape here thread running place = clock_after shape (access shape running) here.words (in_table shape running place)
+clock-moved shape here thread running place =
+    clock_after shape (access shape running) here.words (in_table shape running place)
 
 clock-ticked : (shape : Shape) (here : World) → length here.words ≡ 2 + shape.n * shape.k
     → word_at (ticked shape here) (clock_at shape.k shape.n) ≡ word_at here (clock_at shape.k shape.n) + 1
@@ -123,7 +127,8 @@ clock_on : (shape : Shape) (here there : World) (e : Event) (outcome : Outcome) 
 clock_on shape here there e outcome sound made =
     elim (stepped shape here e there outcome made) [
       | inl s ↦
-          let place = going_place shape (place_of here e.thread) e.begin s.running (λ r at. place_is shape here e.thread r sound at)
+          let place = going_place shape (place_of here e.thread) e.begin s.running
+          (λ r at. place_is shape here e.thread r sound at)
           s.goes in
           let same = ap (λ (w : World). word_at w (clock_at shape.k shape.n)) s.there_is
           ∙ clock-moved shape here e.thread s.running place in
@@ -132,7 +137,8 @@ clock_on shape here there e outcome sound made =
           omega arith
       | inr o ↦ elim o.by [
         | inl t ↦
-            let more = ap (λ (w : World). word_at w (clock_at shape.k shape.n)) t.there_is ∙ clock-ticked shape here sound.size in
+            let more = ap (λ (w : World). word_at w (clock_at shape.k shape.n)) t.there_is
+            ∙ clock-ticked shape here sound.size in
             let one : ticks (e ∷ []) ≡ 1 = ticks_of_one e ∙ ap (λ b. cond (begins_tick b) 1 0) t.begins in
             omega arith
         | inr z ↦
@@ -143,7 +149,8 @@ clock_on shape here there e outcome sound made =
       ]
     ]
 
-clock_along : (shape : Shape) (here there : World) (events : List Event) → IsSound shape here → run shape (Some here) events ≡ Some there
+clock_along : (shape : Shape) (here there : World) (events : List Event) → IsSound shape here
+    → run shape (Some here) events ≡ Some there
     → word_at there (clock_at shape.k shape.n) ≡ word_at here (clock_at shape.k shape.n) + ticks events
 clock_along shape here there [] sound is =
     let same = ap (λ (w : World). word_at w (clock_at shape.k shape.n)) (Some-injective here there is) in
@@ -160,7 +167,8 @@ pub clock_is : (o : Opening) (events : List Event) (here : World) → world_afte
     → word_at here (clock_at o.shape.k o.shape.n) ≡ ticks events
 unfolding opening word_at
 clock_is o events here is =
-    let along = clock_along o.shape (opening o.shape o.threads) here events (sound o.shape o.threads [] (opening o.shape o.threads) refl)
+    let along = clock_along o.shape (opening o.shape o.threads) here events
+    (sound o.shape o.threads [] (opening o.shape o.threads) refl)
     is in
     let zero_first : word_at (opening o.shape o.threads) (clock_at o.shape.k o.shape.n) ≡ 0 =
     all_zero (2 + o.shape.n * o.shape.k) (clock_at o.shape.k o.shape.n) in
@@ -175,7 +183,8 @@ clock_is o events here is =
 abbrev below : ℕ → List Event → List Event
 below n events = filter (λ (e : Event). nat_lt e.thread n) events
 
-ticks_kept : (b : Bool) (e : Event) (es : List Event) → ticks (cond b (e ∷ es) es) ≡ cond b (ticks (e ∷ [])) 0 + ticks es
+ticks_kept : (b : Bool) (e : Event) (es : List Event)
+    → ticks (cond b (e ∷ es) es) ≡ cond b (ticks (e ∷ [])) 0 + ticks es
 ticks_kept true e es = ticks-append (e ∷ []) es
 ticks_kept false e es = omega arith
 
@@ -183,7 +192,8 @@ one_of : (t n x : ℕ) → cond (nat_lt t (suc n)) x 0 ≡ cond (nat_lt t n) x 0
 one_of t n x = grind (arith, nat_tests)
 
 -- the ticks of the threads below the next number
-below_next : (n : ℕ) (events : List Event) → ticks (below (suc n) events) ≡ ticks (below n events) + ticks (own n events)
+below_next : (n : ℕ) (events : List Event)
+    → ticks (below (suc n) events) ≡ ticks (below n events) + ticks (own n events)
 below_next n [] = refl
 below_next n (e ∷ es) =
     let a = ticks_kept (nat_lt e.thread (suc n)) e (below (suc n) es) in
@@ -227,7 +237,8 @@ all_below shape here there (e ∷ es) is =
     omega arith
 
 -- The clock is never spent
-pub clock_below : (o : Opening) (events : List Event) (here : World) → o.threads ≤ 64 → o.calls ≤ 1024 → FewTicks o events
+pub clock_below : (o : Opening) (events : List Event) (here : World) → o.threads ≤ 64 → o.calls ≤ 1024
+    → FewTicks o events
     → world_after o events ≡ Some here
     → word_at here (clock_at o.shape.k o.shape.n) ≤ 131072
 clock_below o events here few few_calls ticks_few is =

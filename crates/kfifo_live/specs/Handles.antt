@@ -17,7 +17,8 @@ start_after k stride start = (start + stride) % k
 abbrev pub moved : Cycle → Cycle
 moved c = record { k = c.k; stride = c.stride; start = start_after c.k c.stride c.start }
 
--- how many slots apart the starts of a thread are in a queue of so many: 1 for at most two threads; else the least of 3,
+-- how many slots apart the starts of a thread are in a queue of so many: 1 for at most two threads; else the least of
+-- 3,
 -- 5 and 7 that does not divide k. One of them does not, since k is at most 64
 abbrev pub slots_apart : ℕ → ℕ → ℕ
 slots_apart threads k = if ltb threads 3 then 1 else if k % 3 == 0 then (if k % 5 == 0 then 7 else 5) else 3
@@ -52,17 +53,17 @@ abbrev pub cycle_at : PassView → ℕ → Cycle
 cycle_at p start = record { k = p.opened.shape.k; stride = stride p.opened.threads p.opened.shape.k; start = start }
 
 -- a pass in a handle, and the slots at which its next enqueue and its next dequeue begin
-pub record Held : Type 0 where
+pub record HandleView : Type 0 where
   pub pass : PassView
   pub enqueue_start : ℕ
   pub dequeue_start : ℕ
 
 -- a payload pass in a handle, and the slots at which its next `give` and its next `take` begin
-pub record PayHeld (T : Type 0) : Type 0 where
+pub record PayHandleView (T : Type 0) : Type 0 where
   pub pass : PayPassView T
   pub give_start : ℕ
   pub take_start : ℕ
 
 -- the pass of a handle, without its tokens and payloads
-abbrev pub pass_of : {T : Type 0} → PayHeld T → PassView
+abbrev pub pass_of : {T : Type 0} → PayHandleView T → PassView
 pass_of held = held.pass.pass

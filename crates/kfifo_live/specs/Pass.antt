@@ -1,5 +1,6 @@
 -- A queue and its passes, as callers see them.
-use Rattle.std.specs.Prelude.{◌<◌, ◌≡◌, ◌⊎◌, ℕ, zero, suc, List, [], ◌∷◌, Option, Some, None, ◌+◌, ◌++◌, length, true, ◌==◌}
+use Rattle.std.specs.Prelude.{◌<◌, ◌≡◌, ◌⊎◌, ℕ, zero, suc, List, [], ◌∷◌, Option, Some, None, ◌+◌, ◌++◌, length, true}
+use Rattle.std.specs.Prelude.{◌==◌}
 use Rattle.std.specs.List.{list_any}
 use Rattle.atomic_table.specs.Table.{Me}
 use Rattle.atomic_table.specs.Seated.{TableId}
@@ -113,8 +114,10 @@ pub record IsJoined {T : Type 0} (v : View T) (ps : List PassView) (w : View T) 
   pub all_idle : AllIdle v.opened ps
 
 -- What is left at the end: there is one schedule, a beginning of which each pass has seen with all its own events, and
--- the items are the ones in the filled slots after it, none where a pass saw the queue sealed empty. No item is lost and
--- none comes twice: the items put in that schedule are the ones undone, the ones taken and the ones left, each as often.
+-- the items are the ones in the filled slots after it, none where a pass saw the queue sealed empty. No item is lost
+-- and
+-- none comes twice: the items put in that schedule are the ones undone, the ones taken and the ones left, each as
+-- often.
 -- And that schedule keeps the promise
 pub record Closes (q : OpenQueue) (ps : List PassView) (items : List ℕ) : Type 0 where
   pub all : List Event

@@ -135,7 +135,7 @@ module _ {T : Type 0} where
   ReceivesOrSeals start turns R.Worn old new = Dequeues start turns A.Worn old new
 
 -- a pass of such a queue in a handle, and the slots at which its next enqueue and its next dequeue begin
-pub record TokenHeld (T : Type 0) : Type 0 where
+pub record TokenHandleView (T : Type 0) : Type 0 where
   pub pass : PayPassView T
   pub put_start : ℕ
   pub take_start : ℕ

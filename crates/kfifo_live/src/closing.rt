@@ -121,7 +121,8 @@ pub(crate) fn close_table(
     requires key { (shape ≡ table.shared.key.shape) × (threads ≡ table.shared.key.threads) × (0 < threads) }
     requires words { table.shared.table_id.words ≡ 2 + shape.n * shape.k }
     requires of { All (IsPassOf (queue_of table.shared.table_id table.shared.key)) passes.items }
-    ensures ok { IfOk result (λ items. Closes (queue_of table.shared.table_id table.shared.key) passes.items items.items) }
+    ensures ok { IfOk result (λ items. Closes (queue_of table.shared.table_id table.shared.key) passes.items
+        items.items) }
     ensures missing { IsErrOf result MissingPass ↔ ¬ IsComplete threads passes.items }
 {
     if !is_complete(passes.as_slice(), threads) {
@@ -141,9 +142,9 @@ pub(crate) fn close_table(
 
 /// Closes a queue and returns the items that are left, if each pass of the opening is given back: segment by segment
 /// from the head's round the ring, within a segment by slot number. Each item is among them as often as it was put,
-/// less how often it was undone and taken. None is left where a pass saw the queue sealed empty. The one schedule of all
-/// calls of the queue keeps its promise: a legal order of them, in which no item is overtaken k times where items are
-/// distinct.
+/// less how often it was undone and taken. None is left where a pass saw the queue sealed empty. The one schedule of
+/// all calls of the queue keeps its promise: a legal order of them, in which no item is overtaken k times where items
+/// are distinct.
 ///
 /// ```rust
 /// let left = close(alloc, queue, vec![in alloc; pass]?)?; // the items that are left

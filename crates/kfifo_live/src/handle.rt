@@ -3,7 +3,7 @@ ghost use Rattle.std.specs.Prelude.{◌≡◌, ◌<◌, ◌≤◌, ◌+◌, ◌*
 ghost use Rattle.kfifo_machine.specs.declared.event.Begin.TheVariants.{Enqueue, Dequeue};
 ghost use Rattle.kfifo_live.specs.Pass.{Finds, IsPassOf, IsSamePass, PassKeepsPromise};
 ghost use Rattle.kfifo_live.specs.Calls.{IsDisturbed, MakesCall};
-ghost use Rattle.kfifo_live.specs.Handles.{Held, cycle_at, first_of, further};
+ghost use Rattle.kfifo_live.specs.Handles.{HandleView, cycle_at, first_of, further};
 ghost use Rattle.kfifo_live.specs.declared.handle.TheConstants.{MAX_TURNS};
 
 use crate::queue::{Pass, Queue};
@@ -14,9 +14,9 @@ use std::marker::Model;
 /// The most rounds that a call can make, and those that the calls of a handle make.
 ///
 /// A call that nobody disturbs needs n + 2 at most, n being the number of segments, so Busy is always another thread's
-/// doing. In a queue that holds again and has more than twice as many segments as threads, or more segments than threads
-/// and 29 threads at most, they are also enough for progress: a call returns Busy only where another one returned another
-/// answer meanwhile.
+/// doing. In a queue that holds again and has more than twice as many segments as threads, or more segments than
+/// threads and 29 threads at most, they are also enough for progress: a call returns Busy only where another one
+/// returned another answer meanwhile.
 pub const MAX_TURNS: u16 = 65_535;
 
 /// A pass that chooses the starts and the rounds of its calls.
@@ -39,7 +39,7 @@ pub struct Handle {
 }
 
 impl Model for Handle {
-    ghost Value = { Held };
+    ghost Value = { HandleView };
 
     ghost view = { λ h. record { pass = h.pass; enqueue_start = h.enqueues.start; dequeue_start = h.dequeues.start } };
 

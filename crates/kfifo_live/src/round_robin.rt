@@ -28,9 +28,9 @@ impl Model for RoundRobin {
 }
 
 /// The stride of the threads of a queue, modulo k, which is 1 to 64.
-// A thread that catches up with another follows it slot by slot, both on one cache line, as long as each starts one slot
-// further: a scan goes on by one too. A longer stride lets it step aside. Two threads that only put and only take never
-// meet on a side, and for them nothing beats the next slot, which is on the same line.
+// A thread that catches up with another follows it slot by slot, both on one cache line, as long as each starts one
+// slot further: a scan goes on by one too. A longer stride lets it step aside. Two threads that only put and only take
+// never meet on a side, and for them nothing beats the next slot, which is on the same line.
 fn stride_of(threads: u32, k: u32) -> u32
     requires k { (1 ≤ k) × (k ≤ 64) }
     ensures stride { result ≡ stride threads k }

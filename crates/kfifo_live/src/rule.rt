@@ -54,7 +54,8 @@ impl<T> Play<Option<T>, View<T>> for DrawStamp {
     ghost then = { λ s v found w. DrawsStamp v.0 found w.0 × (w.1 ≡ v.1) };
 }
 
-/// A compare-and-exchange of the ends word by an idle thread, to the same with the last version: a seal where it is won.
+/// A compare-and-exchange of the ends word by an idle thread, to the same with the last version: a seal where it is
+/// won.
 pub struct SealStep;
 
 impl<T> Play<Option<T>, View<T>> for SealStep {

@@ -5,7 +5,8 @@ use Rattle.std.proofs.lemmas.Bool.{cases_lt, cases_eq}
 use Rattle.std.proofs.lemmas.Bool.Decides.{nat_tests}
 use Rattle.kfifo_words.specs.Ring.{next_segment, distance}
 
-pub distance-value : (n h t : ℕ) → h < n → t < n → ((h ≤ t) × (distance n h t + h ≡ t)) ⊎ ((t < h) × (distance n h t + h ≡ t + n))
+pub distance-value : (n h t : ℕ) → h < n → t < n → ((h ≤ t) × (distance n h t + h ≡ t))
+    ⊎ ((t < h) × (distance n h t + h ≡ t + n))
 unfolding distance
 distance-value n h t h_in t_in =
     elim (cases_lt t h) [
@@ -28,23 +29,27 @@ distance-below n h t h_in t_in = elim (distance-value n h t h_in t_in)
     [ inl k ↦ (let e = k.1 in omega arith) | inr k ↦ (let e = k.1 in let l = k.0 in omega arith) ]
 
 -- the tail moves on, unless the ring is full
-pub distance-tail_on : (n h t : ℕ) → h < n → t < n → next_segment n t ≢ h → (distance n h (next_segment n t) ≡ distance n h t + 1)
+pub distance-tail_on : (n h t : ℕ) → h < n → t < n → next_segment n t ≢ h
+    → (distance n h (next_segment n t) ≡ distance n h t + 1)
     × (distance n h t + 1 < n)
 distance-tail_on n h t h_in t_in room =
     elim (next-value n t t_in) [
-      | inl k ↦ let d = distance-value n h t h_in t_in in let e = distance-value n h (next_segment n t) h_in (let z = k.1 in omega arith) in
+      | inl k ↦ let d = distance-value n h t h_in t_in in
+          let e = distance-value n h (next_segment n t) h_in (let z = k.1 in omega arith) in
           go k.0 k.1 d e
       | inr k ↦ let d = distance-value n h t h_in t_in in let e =
           distance-value n h (next_segment n t) h_in (let z = k.1 in let l = k.0 in omega arith) in go_on k.0 k.1 d e
     ]
   where
-    go : t + 1 ≡ n → next_segment n t ≡ 0 → ((h ≤ t) × (distance n h t + h ≡ t)) ⊎ ((t < h) × (distance n h t + h ≡ t + n))
+    go : t + 1 ≡ n → next_segment n t ≡ 0 → ((h ≤ t) × (distance n h t + h ≡ t))
+        ⊎ ((t < h) × (distance n h t + h ≡ t + n))
         → ((h ≤ next_segment n t) × (distance n h (next_segment n t) + h ≡ next_segment n t))
         ⊎ ((next_segment n t < h) × (distance n h (next_segment n t) + h ≡ next_segment n t + n))
         → (distance n h (next_segment n t) ≡ distance n h t + 1) × (distance n h t + 1 < n)
     go last next d e = (omega arith, omega arith)
 
-    go_on : t + 1 < n → next_segment n t ≡ t + 1 → ((h ≤ t) × (distance n h t + h ≡ t)) ⊎ ((t < h) × (distance n h t + h ≡ t + n))
+    go_on : t + 1 < n → next_segment n t ≡ t + 1 → ((h ≤ t) × (distance n h t + h ≡ t))
+        ⊎ ((t < h) × (distance n h t + h ≡ t + n))
         → ((h ≤ next_segment n t) × (distance n h (next_segment n t) + h ≡ next_segment n t))
         ⊎ ((next_segment n t < h) × (distance n h (next_segment n t) + h ≡ next_segment n t + n))
         → (distance n h (next_segment n t) ≡ distance n h t + 1) × (distance n h t + 1 < n)
@@ -61,18 +66,21 @@ distance-full n h t h_in t_in full =
 pub distance-head_on : (n h t : ℕ) → h < n → t < n → t ≢ h → distance n (next_segment n h) t + 1 ≡ distance n h t
 distance-head_on n h t h_in t_in apart =
     elim (next-value n h h_in) [
-      | inl k ↦ go k.0 k.1 (distance-value n h t h_in t_in) (distance-value n (next_segment n h) t (let z = k.1 in omega arith) t_in)
+      | inl k ↦ go k.0 k.1 (distance-value n h t h_in t_in)
+          (distance-value n (next_segment n h) t (let z = k.1 in omega arith) t_in)
       | inr k ↦ go_on k.0 k.1 (distance-value n h t h_in t_in)
           (distance-value n (next_segment n h) t (let z = k.1 in let l = k.0 in omega arith) t_in)
     ]
   where
-    go : h + 1 ≡ n → next_segment n h ≡ 0 → ((h ≤ t) × (distance n h t + h ≡ t)) ⊎ ((t < h) × (distance n h t + h ≡ t + n))
+    go : h + 1 ≡ n → next_segment n h ≡ 0 → ((h ≤ t) × (distance n h t + h ≡ t))
+        ⊎ ((t < h) × (distance n h t + h ≡ t + n))
         → ((next_segment n h ≤ t) × (distance n (next_segment n h) t + next_segment n h ≡ t))
         ⊎ ((t < next_segment n h) × (distance n (next_segment n h) t + next_segment n h ≡ t + n))
         → distance n (next_segment n h) t + 1 ≡ distance n h t
     go last next d e = omega arith
 
-    go_on : h + 1 < n → next_segment n h ≡ h + 1 → ((h ≤ t) × (distance n h t + h ≡ t)) ⊎ ((t < h) × (distance n h t + h ≡ t + n))
+    go_on : h + 1 < n → next_segment n h ≡ h + 1 → ((h ≤ t) × (distance n h t + h ≡ t))
+        ⊎ ((t < h) × (distance n h t + h ≡ t + n))
         → ((next_segment n h ≤ t) × (distance n (next_segment n h) t + next_segment n h ≡ t))
         ⊎ ((t < next_segment n h) × (distance n (next_segment n h) t + next_segment n h ≡ t + n))
         → distance n (next_segment n h) t + 1 ≡ distance n h t

@@ -7,7 +7,8 @@ use Rattle.kfifo_words.specs.Words.{value_of}
 use Rattle.kfifo_words.specs.Ring.{next_segment, distance}
 use Rattle.kfifo_machine.specs.Program.{scan_index}
 use Rattle.kfifo_machine.proofs.Versions.{next_segment-below}
-use Rattle.kfifo_machine.proofs.Ahead.{distance-value, distance-below, distance-tail_on, distance-full, distance-head_on}
+use Rattle.kfifo_machine.proofs.Ahead.{distance-value, distance-below, distance-tail_on, distance-full}
+use Rattle.kfifo_machine.proofs.Ahead.{distance-head_on}
 use Rattle.kfifo_machine.proofs.Filled.{holds, filled_from, filled-same, filled-change, filled-cyclic}
 
 -- the items of a segment, and of all slots
@@ -49,16 +50,20 @@ pub between-head_on : (shape : Shape) (w : ℕ → ℕ) (h t : ℕ) → h < shap
     → Between shape w (next_segment shape.n h) t
 between-head_on shape w h t h_in t_in apart old s s_in above below =
     let on : next_segment shape.n h < shape.n = next_segment-below shape.n h h_in in
-    let far : distance shape.n (next_segment shape.n h) h + 1 ≡ shape.n = distance-full shape.n (next_segment shape.n h) h on h_in refl in
-    let t_far : distance shape.n (next_segment shape.n h) t + 1 ≡ distance shape.n h t = distance-head_on shape.n h t h_in t_in apart in
+    let far : distance shape.n (next_segment shape.n h) h + 1 ≡ shape.n =
+    distance-full shape.n (next_segment shape.n h) h on h_in refl in
+    let t_far : distance shape.n (next_segment shape.n h) t + 1 ≡ distance shape.n h t =
+    distance-head_on shape.n h t h_in t_in apart in
     let t_low : distance shape.n h t < shape.n = distance-below shape.n h t h_in t_in in
     let ne : s ≢ h = λ e. absurd (let d : distance shape.n (next_segment shape.n h) s
     ≡ distance shape.n (next_segment shape.n h) h = ap (distance shape.n (next_segment shape.n h)) e in omega arith) in
-    let s_far : distance shape.n (next_segment shape.n h) s + 1 ≡ distance shape.n h s = distance-head_on shape.n h s h_in s_in ne in
+    let s_far : distance shape.n (next_segment shape.n h) s + 1 ≡ distance shape.n h s =
+    distance-head_on shape.n h s h_in s_in ne in
     old s s_in (omega arith) (omega arith)
 
 -- words that stay where slots are
-pub items-same : (shape : Shape) (w v : ℕ → ℕ) (s : ℕ) → ((i : ℕ) → 0 < i → v i ≡ w i) → items_of shape v s ≡ items_of shape w s
+pub items-same : (shape : Shape) (w v : ℕ → ℕ) (s : ℕ) → ((i : ℕ) → 0 < i → v i ≡ w i)
+    → items_of shape v s ≡ items_of shape w s
 items-same shape w v s same = filled-same w v (1 + s * shape.k) shape.k (λ j low high. same j (omega arith))
 
 pub all-same : (shape : Shape) (w v : ℕ → ℕ) → ((i : ℕ) → 0 < i → v i ≡ w i) → all_items shape v ≡ all_items shape w
@@ -89,7 +94,8 @@ other_segment shape s r index at ne =
     let high = at.high in
     elim (cases_lt s r) [
       | inl less ↦ let m : suc s * shape.k ≤ r * shape.k = mul-le-mul_right shape.k less in inr (omega arith)
-      | inr ge ↦ let m : suc r * shape.k ≤ s * shape.k = mul-le-mul_right shape.k (let l : r < s = omega arith in l) in inl (omega arith)
+      | inr ge ↦ let m : suc r * shape.k ≤ s * shape.k = mul-le-mul_right shape.k (let l : r < s = omega arith in l) in
+          inl (omega arith)
     ]
 
 -- one slot changes
@@ -114,4 +120,5 @@ module _ (shape : Shape) (w v : ℕ → ℕ) (r index : ℕ) (r_in : r < shape.n
 pub probed_items : (shape : Shape) (w : ℕ → ℕ) (s start : ℕ) → start < shape.k
     → ((j : ℕ) → j < shape.probes → value_of (w (scan_index shape s start j)) ≢ 0) → shape.probes ≤ items_of shape w s
 unfolding scan_index
-probed_items shape w s start start_in all = filled-cyclic w (1 + s * shape.k) shape.k start shape.probes start_in shape.few_probes all
+probed_items shape w s start start_in all = filled-cyclic w (1 + s * shape.k) shape.k start shape.probes start_in
+    shape.few_probes all

@@ -1,6 +1,6 @@
 -- A call has few events.
-use Rattle.std.proofs.Common.{◌≡◌, ◌≢◌, ◌⊎◌, ℕ, ◌+◌, ◌*◌, ◌<◌, ◌≤◌, List, [], ◌∷◌, length, Option, Some, None, Ok, Bool, true, false, refl}
-use Rattle.std.proofs.Common.{sym, ap, ◌∙◌, subst, inl, inr, arith, cond, eq-eqb}
+use Rattle.std.proofs.Common.{◌≡◌, ◌≢◌, ◌⊎◌, ℕ, ◌+◌, ◌*◌, ◌<◌, ◌≤◌, List, [], ◌∷◌, length, Option, Some, None, Ok, Bool}
+use Rattle.std.proofs.Common.{true, false, refl, sym, ap, ◌∙◌, subst, inl, inr, arith, cond, eq-eqb}
 use Rattle.std.specs.Prelude.{◌==◌}
 use Rattle.std.proofs.lemmas.Bool.{eqb-true}
 use Rattle.std.proofs.lemmas.Bool.Decides.{nat_tests}
@@ -30,7 +30,8 @@ pub own_place : (shape : Shape) (here : World) (thread : ℕ) (running : Running
     → place_of (moved shape here thread running) thread ≡ place_after (advance shape running (found shape here running))
 unfolding moved place_of
 own_place shape here thread running within =
-    get_or-set_at here.places thread thread (place_after (advance shape running (found shape here running))) None refl within
+    get_or-set_at here.places thread thread (place_after (advance shape running (found shape here running))) None refl
+    within
 
 below_left : (k bound : ℕ) (next : Next) → 0 < bound → NextBelow k bound next → left_of k (place_after next) < bound
 below_left k bound (Goes running) some less = less
@@ -40,47 +41,58 @@ budget-some : (shape : Shape) (running : Running) → IsPlace shape running → 
 budget-some shape running place = grind (arith, nat_tests)
 
 -- each own event brings a call nearer to its end
-pub left_falls : (shape : Shape) (here : World) (e : Event) (there : World) (outcome : Outcome) (running : Running) → IsSound shape here
+pub left_falls : (shape : Shape) (here : World) (e : Event) (there : World) (outcome : Outcome) (running : Running)
+    → IsSound shape here
     → step shape here e ≡ Ok (there, outcome)
-    → going shape (place_of here e.thread) e.begin ≡ Some running → left_of shape.k (place_of there e.thread) < budget shape.k running
+    → going shape (place_of here e.thread) e.begin ≡ Some running
+    → left_of shape.k (place_of there e.thread) < budget shape.k running
 left_falls shape here e there outcome running sound is goes =
     elim (stepped shape here e there outcome is) [
       | inl s ↦
           let same : s.running ≡ running = Some-injective s.running running (sym s.goes ∙ goes) in
           let place : IsPlace shape s.running = going_place shape (place_of here e.thread) e.begin s.running
           (λ r t. place_is shape here e.thread r sound t) s.goes in
-          let next : left_of shape.k (place_after (advance shape s.running (found shape here s.running))) < budget shape.k s.running =
+          let next : left_of shape.k (place_after (advance shape s.running (found shape here s.running))) < budget
+          shape.k s.running =
           below_left shape.k (budget shape.k s.running) (advance shape s.running (found shape here s.running))
           (budget-some shape s.running place) (budget_falls shape s.running (found shape here s.running) place) in
           let at : place_of there e.thread ≡ place_after (advance shape s.running (found shape here s.running)) =
           ap (λ (w : World). place_of w e.thread) s.there_is
           ∙ own_place shape here e.thread s.running (made_within shape here e there outcome is) in
           let e1 : left_of shape.k (place_of there e.thread)
-          ≡ left_of shape.k (place_after (advance shape s.running (found shape here s.running))) = ap (left_of shape.k) at in
+          ≡ left_of shape.k (place_after (advance shape s.running (found shape here s.running))) =
+          ap (left_of shape.k) at in
           let e2 : budget shape.k s.running ≡ budget shape.k running = ap (budget shape.k) same in
           omega arith
       | inr t ↦ absurd (let h : None ≡ Some running = sym t.begins_none ∙ goes in cc)
     ]
 
 -- an event that begins nothing goes on from its thread's place
-pub goes_on_from : (shape : Shape) (here : World) (e : Event) (there : World) (outcome : Outcome) → step shape here e ≡ Ok (there, outcome)
+pub goes_on_from : (shape : Shape) (here : World) (e : Event) (there : World) (outcome : Outcome)
+    → step shape here e ≡ Ok (there, outcome)
     → e.begin ≡ None
     → (running : Running) × (place_of here e.thread ≡ Some running)
 goes_on_from shape here e there outcome is none =
     elim (stepped shape here e there outcome is) [
-      | inl s ↦ (s.running, from_place (place_of here e.thread) s.running (ap (going shape (place_of here e.thread)) (sym none) ∙ s.goes))
+      | inl s ↦ (
+        s.running,
+        from_place (place_of here e.thread) s.running
+            (ap (going shape (place_of here e.thread)) (sym none) ∙ s.goes),
+      )
       | inr o ↦ absurd (elim o.by [
         | inl t ↦ let h : None ≡ Some B.Tick = sym none ∙ t.begins in cc
         | inr z ↦ let h : None ≡ Some B.Seal = sym none ∙ z.begins in cc
       ])
     ]
   where
-    from_place : (place : Option Running) (running : Running) → going shape place None ≡ Some running → place ≡ Some running
+    from_place : (place : Option Running) (running : Running) → going shape place None ≡ Some running
+        → place ≡ Some running
     from_place None running at = absurd (cc)
     from_place (Some r) running at = at
 
 -- the own events of a schedule are those of its first event and of the others
-pub own_first : (thread : ℕ) (e : Event) (es : List Event) → ((e.thread ≡ thread) × (own thread (e ∷ es) ≡ e ∷ own thread es))
+pub own_first : (thread : ℕ) (e : Event) (es : List Event)
+    → ((e.thread ≡ thread) × (own thread (e ∷ es) ≡ e ∷ own thread es))
     ⊎ ((thread ≢ e.thread) × (own thread (e ∷ es) ≡ own thread es))
 own_first thread e es = by_test (e.thread == thread) refl
   where
@@ -88,10 +100,12 @@ own_first thread e es = by_test (e.thread == thread) refl
         → ((e.thread ≡ thread) × (cond b (e ∷ own thread es) (own thread es) ≡ e ∷ own thread es))
         ⊎ ((thread ≢ e.thread) × (cond b (e ∷ own thread es) (own thread es) ≡ own thread es))
     by_test true is = inl (eqb-true e.thread thread is, refl)
-    by_test false is = inr ((λ same. absurd (let h : (e.thread == thread) ≡ true = eq-eqb e.thread thread (sym same) in (cc))), refl)
+    by_test false is =
+        inr ((λ same. absurd (let h : (e.thread == thread) ≡ true = eq-eqb e.thread thread (sym same) in (cc))), refl)
 
 -- a thread that begins nothing has at most the events that its place leaves it
-pub few_left : (shape : Shape) (here there : World) (thread : ℕ) (events : List Event) → IsSound shape here → AllGoOn (own thread events)
+pub few_left : (shape : Shape) (here there : World) (thread : ℕ) (events : List Event) → IsSound shape here
+    → AllGoOn (own thread events)
     → run shape (Some here) events ≡ Some there
     → length (own thread events) ≤ left_of shape.k (place_of here thread)
 few_left shape here there thread [] sound on is = omega arith
@@ -124,23 +138,28 @@ few_left shape here there thread (e ∷ es) sound on is =
     ]
 
 -- the place at which a call begins leaves it all its events
-begun_left : (shape : Shape) (place : Option Running) (call : Begin) (running : Running) → going shape place (Some call) ≡ Some running
+begun_left : (shape : Shape) (place : Option Running) (call : Begin) (running : Running) → going shape place (Some call)
+    ≡ Some running
     → budget shape.k running ≡ most_events shape call
 begun_left shape (Some r) call running is = absurd (cc)
 begun_left shape None B.Tick running is = absurd (cc)
 begun_left shape None B.Seal running is = absurd (cc)
-begun_left shape None (B.Enqueue item start turns) running is = begins (may_begin shape (B.Enqueue item start turns)) refl is
+begun_left shape None (B.Enqueue item start turns) running is = begins (may_begin shape (B.Enqueue item start turns))
+    refl is
   where
     begins : (m : Bool) → may_begin shape (B.Enqueue item start turns) ≡ m
-        → cond m (Some (R.Enqueue item start turns E.LoadEnds)) None ≡ Some running → budget shape.k running ≡ turns * (2 * shape.k + 9)
-    begins true may at = ap (budget shape.k) (sym (Some-injective _ running at)) ∙ budget-begin shape.k item start turns (some_turns may)
+        → cond m (Some (R.Enqueue item start turns E.LoadEnds)) None ≡ Some running
+        → budget shape.k running ≡ turns * (2 * shape.k + 9)
+    begins true may at = ap (budget shape.k) (sym (Some-injective _ running at))
+        ∙ budget-begin shape.k item start turns (some_turns may)
       where
         some_turns : may_begin shape (B.Enqueue item start turns) ≡ true → 0 < turns
         some_turns may = grind (arith, nat_tests)
     begins false may at = absurd (cc)
 begun_left shape None (B.Dequeue start turns) running is = begins (may_begin shape (B.Dequeue start turns)) refl is
   where
-    begins : (m : Bool) → may_begin shape (B.Dequeue start turns) ≡ m → cond m (Some (R.Dequeue start turns D.LoadEnds)) None ≡ Some running
+    begins : (m : Bool) → may_begin shape (B.Dequeue start turns) ≡ m
+        → cond m (Some (R.Dequeue start turns D.LoadEnds)) None ≡ Some running
         → budget shape.k running ≡ turns * (2 * shape.k + 9)
     begins true may at = ap (budget shape.k) (sym (Some-injective _ running at)) ∙ dequeue_begin (some_turns may)
       where
@@ -152,7 +171,8 @@ begun_left shape None (B.Dequeue start turns) running is = begins (may_begin sha
     begins false may at = absurd (cc)
 
 -- the first event of a call, and what it leaves
-pub begin_left : (shape : Shape) (here : World) (e : Event) (there : World) (outcome : Outcome) (call : Begin) → IsSound shape here
+pub begin_left : (shape : Shape) (here : World) (e : Event) (there : World) (outcome : Outcome) (call : Begin)
+    → IsSound shape here
     → step shape here e ≡ Ok (there, outcome) → e.begin ≡ Some call
     → left_of shape.k (place_of there e.thread) < most_events shape call
 begin_left shape here e there outcome call sound is begins =
@@ -161,10 +181,12 @@ begin_left shape here e there outcome call sound is begins =
           let falls : left_of shape.k (place_of there e.thread) < budget shape.k s.running =
           left_falls shape here e there outcome s.running sound is s.goes in
           let all : budget shape.k s.running ≡ most_events shape call =
-          begun_left shape (place_of here e.thread) call s.running (ap (going shape (place_of here e.thread)) (sym begins) ∙ s.goes) in
+          begun_left shape (place_of here e.thread) call s.running
+          (ap (going shape (place_of here e.thread)) (sym begins) ∙ s.goes) in
           omega arith
       | inr t ↦
-          let gone : left_of shape.k (place_of there e.thread) ≡ 0 = ap (left_of shape.k) (t.leaves e.thread ∙ t.idle) in
+          let gone : left_of shape.k (place_of there e.thread) ≡ 0 =
+          ap (left_of shape.k) (t.leaves e.thread ∙ t.idle) in
           let one : most_events shape call ≡ 1 = elim t.by [
             | inl tick ↦ ap (most_events shape) (Some-injective call B.Tick (sym begins ∙ tick.begins))
             | inr seal ↦ ap (most_events shape) (Some-injective call B.Seal (sym begins ∙ seal.begins))
@@ -172,9 +194,11 @@ begin_left shape here e there outcome call sound is begins =
           omega arith
     ]
 
-few_run : (shape : Shape) (here there : World) (thread : ℕ) (call : Begin) (events others : List Event) → IsSound shape here
+few_run : (shape : Shape) (here there : World) (thread : ℕ) (call : Begin) (events others : List Event)
+    → IsSound shape here
     → run shape (Some here) events ≡ Some there
-    → own thread events ≡ event thread (Some call) ∷ others → AllGoOn others → length (own thread events) ≤ most_events shape call
+    → own thread events ≡ event thread (Some call) ∷ others → AllGoOn others
+    → length (own thread events) ≤ most_events shape call
 few_run shape here there thread call [] others sound is first on = absurd (cc)
 few_run shape here there thread call (e ∷ es) others sound is first on =
     let m = first_made shape here e there es is in
@@ -183,7 +207,8 @@ few_run shape here there thread call (e ∷ es) others sound is first on =
       | inl mine ↦
           let both : e ∷ own thread es ≡ event thread (Some call) ∷ others = sym mine.1 ∙ first in
           let rest : own thread es ≡ others = cc in
-          let begins : e.begin ≡ Some call = let same : e ≡ event thread (Some call) = cc in ap (λ (x : Event). x.begin) same in
+          let begins : e.begin ≡ Some call = let same : e ≡ event thread (Some call) = cc in
+          ap (λ (x : Event). x.begin) same in
           let some : left_of shape.k (place_of m.0 e.thread) < most_events shape call =
           begin_left shape here e m.0 m.1.0 call sound m.1.1.0 begins in
           let few : length (own thread es) ≤ left_of shape.k (place_of m.0 thread) =

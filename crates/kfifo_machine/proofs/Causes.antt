@@ -1,6 +1,6 @@
 -- Full has its cause: what an enqueue has seen in its round so far.
-use Rattle.std.proofs.Common.{◌≡◌, ◌≢◌, ℕ, ◌+◌, ◌-◌, List, [], ◌∷◌, ◌++◌, length, Some, Bool, true, false, refl, sym, ap, ◌∙◌, subst, arith}
-use Rattle.std.proofs.Common.{cond, eqb-true, length-append}
+use Rattle.std.proofs.Common.{◌≡◌, ◌≢◌, ℕ, ◌+◌, ◌-◌, List, [], ◌∷◌, ◌++◌, length, Some, Bool, true, false, refl, sym}
+use Rattle.std.proofs.Common.{ap, ◌∙◌, subst, arith, cond, eqb-true, length-append}
 use Rattle.std.specs.Prelude.{◌==◌, ◌&&◌, not, nat_lt, nat_le}
 use Rattle.std.proofs.lemmas.Bool.{eqb-false}
 use Rattle.std.proofs.lemmas.Bool.Decides.{nat_tests}
@@ -18,15 +18,18 @@ use Rattle.kfifo_machine.specs.declared.place.Access.TheVariants.{Load}
 use Rattle.kfifo_machine.specs.declared.place.Next.TheVariants.{Goes, Answers}
 use Rattle.kfifo_machine.specs.Program.{advance, scan_index, filled_with, enqueue_again}
 use Rattle.kfifo_machine.specs.Machine.{begun}
-use Rattle.kfifo_machine.specs.Causes.{Look, Loads, AllOfRound, AllFilled, CauseOfFull, FullHasCause, round_of, start_of, looks_of}
+use Rattle.kfifo_machine.specs.Causes.{Look, Loads, AllOfRound, AllFilled, CauseOfFull, FullHasCause, round_of}
+use Rattle.kfifo_machine.specs.Causes.{start_of, looks_of}
 use Rattle.kfifo_machine.proofs.Schedules.{Some-injective}
 use Rattle.kfifo_machine.proofs.Paths.{whole_path, along}
 
-pub all_of_round-append : (round : ℕ) (xs ys : List Look) → AllOfRound round xs → AllOfRound round ys → AllOfRound round (xs ++ ys)
+pub all_of_round-append : (round : ℕ) (xs ys : List Look) → AllOfRound round xs → AllOfRound round ys
+    → AllOfRound round (xs ++ ys)
 all_of_round-append round [] ys a b = b
 all_of_round-append round (x ∷ xs) ys a b = (a.0, all_of_round-append round xs ys a.1 b)
 
-all_filled-more : (shape : Shape) (segment start offset : ℕ) (xs : List Look) (x : Look) → AllFilled shape segment start offset xs
+all_filled-more : (shape : Shape) (segment start offset : ℕ) (xs : List Look) (x : Look)
+    → AllFilled shape segment start offset xs
     → Loads shape x (scan_index shape segment start (offset + length xs)) x.word → value_of x.word ≢ 0
     → AllFilled shape segment start offset (xs ++ x ∷ [])
 all_filled-more shape segment start offset [] x all loads filled =
@@ -86,8 +89,10 @@ SoFar shape begun_at (R.Enqueue item start left (E.ScanTail ends offset)) past =
     × Probed shape start left ends offset past
 SoFar shape begun_at (R.Enqueue item start left (E.Recheck ends Nothing)) past = (start ≡ begun_at)
     × Probed shape start left ends shape.probes past
-SoFar shape begun_at (R.Enqueue item start left (E.ScanHead ends offset)) past = (start ≡ begun_at) × Scanned shape start left ends past
-SoFar shape begun_at (R.Enqueue item start left (E.ConfirmFull ends)) past = (start ≡ begun_at) × Filled shape start left ends past
+SoFar shape begun_at (R.Enqueue item start left (E.ScanHead ends offset)) past = (start ≡ begun_at)
+    × Scanned shape start left ends past
+SoFar shape begun_at (R.Enqueue item start left (E.ConfirmFull ends)) past = (start ≡ begun_at)
+    × Filled shape start left ends past
 SoFar shape begun_at (R.Enqueue item start left other) past = start ≡ begun_at
 SoFar shape begun_at (R.Dequeue start left phase) past = Unit {0}
 
@@ -100,17 +105,21 @@ module _ (shape : Shape) (begun_at item start left : ℕ) (same : start ≡ begu
   again_so_far : NextSoFar shape begun_at (enqueue_again item start left) past
   again_so_far = by_test (left == 1)
     where
-      by_test : (b : Bool) → NextSoFar shape begun_at (cond b (Answers A.Busy) (Goes (R.Enqueue item start (left - 1) E.LoadEnds))) past
+      by_test : (b : Bool)
+          → NextSoFar shape begun_at (cond b (Answers A.Busy) (Goes (R.Enqueue item start (left - 1) E.LoadEnds))) past
       by_test true = tt
       by_test false = same
 
 -- one more probe
-probed_more : (shape : Shape) (item start left ends offset word : ℕ) (past : List Look) → Probed shape start left ends offset past
+probed_more : (shape : Shape) (item start left ends offset word : ℕ) (past : List Look)
+    → Probed shape start left ends offset past
     → value_of word ≢ 0
-    → Probed shape start left ends (offset + 1) (past ++ look (R.Enqueue item start left (E.ScanTail ends offset)) word ∷ [])
+    → Probed shape start left ends (offset + 1) (past ++ look (R.Enqueue item start left (E.ScanTail ends offset)) word
+    ∷ [])
 probed_more shape item start left ends offset word past p filled =
     let x : Look = look (R.Enqueue item start left (E.ScanTail ends offset)) word in
-    let at : scan_index shape (tail_of ends) start offset ≡ scan_index shape (tail_of ends) start (0 + length p.probed) =
+    let at : scan_index shape (tail_of ends) start offset
+    ≡ scan_index shape (tail_of ends) start (0 + length p.probed) =
     ap (scan_index shape (tail_of ends) start) (let m = p.so_many in omega arith) in
     record {
       earlier = p.earlier;
@@ -120,12 +129,15 @@ probed_more shape item start left ends offset word past p filled =
       one_round = all_of_round-append left (p.first ∷ p.probed) (x ∷ []) p.one_round (refl, tt);
       loads_first = p.loads_first;
       so_many = length-append p.probed (x ∷ []) ∙ ap (λ m. m + 1) p.so_many;
-      each_filled = all_filled-more shape (tail_of ends) start 0 p.probed x p.each_filled (record { load = ap Load at; finds = refl })
-          filled;
+      each_filled = all_filled-more shape (tail_of ends) start 0 p.probed x p.each_filled (record {
+        load = ap Load at;
+        finds = refl;
+      }) filled;
     }
 
 -- the ends word is the same, and the ring is full
-scanned_first : (shape : Shape) (item start left ends word : ℕ) (past : List Look) → Probed shape start left ends shape.probes past
+scanned_first : (shape : Shape) (item start left ends word : ℕ) (past : List Look)
+    → Probed shape start left ends shape.probes past
     → word ≡ ends → next_segment shape.n (tail_of ends) ≡ head_of ends
     → Scanned shape start left ends (past ++ look (R.Enqueue item start left (E.Recheck ends Nothing)) word ∷ [])
 scanned_first shape item start left ends word past p same full =
@@ -149,7 +161,8 @@ scanned_first shape item start left ends word past p same full =
 scanned_more : (shape : Shape) (start left ends : ℕ) (x : Look) (past : List Look) → Scanned shape start left ends past
     → round_of x.running ≡ left → Scanned shape start left ends (past ++ x ∷ [])
 scanned_more shape start left ends x past p in_round =
-    let shift : (p.first ∷ (p.probed ++ (p.second ∷ p.scanned))) ++ x ∷ [] ≡ p.first ∷ (p.probed ++ (p.second ∷ (p.scanned ++ x ∷ []))) =
+    let shift : (p.first ∷ (p.probed ++ (p.second ∷ p.scanned))) ++ x ∷ [] ≡ p.first
+    ∷ (p.probed ++ (p.second ∷ (p.scanned ++ x ∷ []))) =
     ap (λ (xs : List Look). p.first ∷ xs) (append_assoc p.probed (p.second ∷ p.scanned) (x ∷ [])) in
     record {
       earlier = p.earlier;
@@ -161,7 +174,8 @@ scanned_more shape start left ends x past p in_round =
           ∙ append_assoc p.earlier (p.first ∷ (p.probed ++ (p.second ∷ p.scanned))) (x ∷ [])
           ∙ ap (λ (xs : List Look). p.earlier ++ xs) shift;
       one_round = subst (AllOfRound left) shift
-          (all_of_round-append left (p.first ∷ (p.probed ++ (p.second ∷ p.scanned))) (x ∷ []) p.one_round (in_round, tt));
+          (all_of_round-append left (p.first ∷ (p.probed ++ (p.second ∷ p.scanned))) (x ∷ []) p.one_round
+          (in_round, tt));
       loads_first = p.loads_first;
       loads_second = p.loads_second;
       so_many = p.so_many;
@@ -176,13 +190,16 @@ unfolding scanned_more
 full_at_last shape start left ends x past f in_round loads =
     let p = f.scanned in
     let q : Scanned shape start left ends ((f.old ++ f.filled ∷ []) ++ x ∷ []) =
-    scanned_more shape start left ends x (f.old ++ f.filled ∷ []) (scanned_more shape start left ends f.filled f.old p f.in_round)
+    scanned_more shape start left ends x (f.old ++ f.filled ∷ [])
+    (scanned_more shape start left ends f.filled f.old p f.in_round)
     in_round in
     let tail_is : (p.scanned ++ f.filled ∷ []) ++ x ∷ [] ≡ p.scanned ++ (f.filled ∷ (x ∷ [])) =
     append_assoc p.scanned (f.filled ∷ []) (x ∷ []) in
-    let whole : past ++ x ∷ [] ≡ p.earlier ++ (p.first ∷ (p.probed ++ (p.second ∷ ((p.scanned ++ f.filled ∷ []) ++ x ∷ [])))) =
+    let whole : past ++ x ∷ [] ≡ p.earlier
+    ++ (p.first ∷ (p.probed ++ (p.second ∷ ((p.scanned ++ f.filled ∷ []) ++ x ∷ [])))) =
     ap (λ (xs : List Look). xs ++ x ∷ []) f.past_is ∙ q.past_is in
-    let round : AllOfRound left (p.first ∷ (p.probed ++ (p.second ∷ ((p.scanned ++ f.filled ∷ []) ++ x ∷ [])))) = q.one_round in
+    let round : AllOfRound left (p.first ∷ (p.probed ++ (p.second ∷ ((p.scanned ++ f.filled ∷ []) ++ x ∷ [])))) =
+    q.one_round in
     let is_left : round_of p.first.running ≡ left = round.0 in
     record {
       earlier = p.earlier;
@@ -195,8 +212,8 @@ full_at_last shape start left ends x past f in_round loads =
       ends = ends;
       offset = f.offset;
       all_is = whole ∙ ap (λ (xs : List Look). p.earlier ++ (p.first ∷ (p.probed ++ (p.second ∷ xs)))) tail_is;
-      one_round = subst (λ (r : ℕ). AllOfRound r (p.probed ++ (p.second ∷ (p.scanned ++ (f.filled ∷ (x ∷ [])))))) (sym is_left)
-          (subst (λ (xs : List Look). AllOfRound left (p.probed ++ (p.second ∷ xs))) tail_is round.1);
+      one_round = subst (λ (r : ℕ). AllOfRound r (p.probed ++ (p.second ∷ (p.scanned ++ (f.filled ∷ (x ∷ []))))))
+          (sym is_left) (subst (λ (xs : List Look). AllOfRound left (p.probed ++ (p.second ∷ xs))) tail_is round.1);
       loads_first = p.loads_first;
       loads_second = p.loads_second;
       loads_third = loads;
@@ -231,14 +248,16 @@ enqueue_on shape begun_at item start left E.LoadEnds word past same = (
 enqueue_on shape begun_at item start left (E.ScanTail ends offset) word past so = empty (value_of word == 0) refl
   where
     probes : (b : Bool) → (offset + 1 == shape.probes) ≡ b
-        → Probed shape start left ends (offset + 1) (past ++ look (R.Enqueue item start left (E.ScanTail ends offset)) word ∷ [])
+        → Probed shape start left ends (offset + 1) (past ++ look (R.Enqueue item start left (E.ScanTail ends offset))
+        word ∷ [])
         → NextSoFar shape begun_at (cond b (Goes (R.Enqueue item start left (E.Recheck ends Nothing)))
         (Goes (R.Enqueue item start left (E.ScanTail ends (offset + 1)))))
         (past ++ look (R.Enqueue item start left (E.ScanTail ends offset)) word ∷ [])
     probes true is more = (
       so.0,
       subst (λ m. Probed shape start left ends m
-          (past ++ look (R.Enqueue item start left (E.ScanTail ends offset)) word ∷ [])) (eqb-true (offset + 1) shape.probes is) more,
+          (past ++ look (R.Enqueue item start left (E.ScanTail ends offset)) word ∷ []))
+          (eqb-true (offset + 1) shape.probes is) more,
     )
     probes false is more = (so.0, more)
 
@@ -253,21 +272,24 @@ enqueue_on shape begun_at item start left (E.ScanTail ends offset) word past so 
         (probed_more shape item start left ends offset word past so.1 (value-filled word is))
 enqueue_on shape begun_at item start left (E.Recheck ends (Slot index seen)) word past same = by_ends (word == ends)
   where
-    by_last : (b : Bool) → NextSoFar shape begun_at (cond b (Answers A.Worn) (Goes (R.Enqueue item start left (E.Put ends index seen))))
+    by_last : (b : Bool)
+        → NextSoFar shape begun_at (cond b (Answers A.Worn) (Goes (R.Enqueue item start left (E.Put ends index seen))))
         (past ++ look (R.Enqueue item start left (E.Recheck ends (Slot index seen))) word ∷ [])
     by_last true = tt
     by_last false = same
 
     by_ends : (b : Bool) → NextSoFar shape begun_at
         (cond (not b) (enqueue_again item start left)
-        (cond (nat_lt shape.last (version_of seen + 2)) (Answers A.Worn) (Goes (R.Enqueue item start left (E.Put ends index seen)))))
+        (cond (nat_lt shape.last (version_of seen + 2)) (Answers A.Worn)
+        (Goes (R.Enqueue item start left (E.Put ends index seen)))))
         (past ++ look (R.Enqueue item start left (E.Recheck ends (Slot index seen))) word ∷ [])
     by_ends true = by_last (nat_lt shape.last (version_of seen + 2))
     by_ends false = again_so_far shape begun_at item start left same
         (past ++ look (R.Enqueue item start left (E.Recheck ends (Slot index seen))) word ∷ [])
 enqueue_on shape begun_at item start left (E.Recheck ends Nothing) word past so = by_ends (word == ends) refl
   where
-    by_last : (b : Bool) → NextSoFar shape begun_at (cond b (Answers A.Worn) (Goes (R.Enqueue item start left (E.MoveTail ends))))
+    by_last : (b : Bool)
+        → NextSoFar shape begun_at (cond b (Answers A.Worn) (Goes (R.Enqueue item start left (E.MoveTail ends))))
         (past ++ look (R.Enqueue item start left (E.Recheck ends Nothing)) word ∷ [])
     by_last true = tt
     by_last false = so.0
@@ -285,7 +307,8 @@ enqueue_on shape begun_at item start left (E.Recheck ends Nothing) word past so 
 
     by_ends : (b : Bool) → (word == ends) ≡ b
         → NextSoFar shape begun_at (cond (not b) (enqueue_again item start left)
-        (cond (next_segment shape.n (tail_of ends) == head_of ends) (Goes (R.Enqueue item start left (E.ScanHead ends 0)))
+        (cond (next_segment shape.n (tail_of ends) == head_of ends)
+        (Goes (R.Enqueue item start left (E.ScanHead ends 0)))
         (cond (version_of ends == shape.last) (Answers A.Worn) (Goes (R.Enqueue item start left (E.MoveTail ends))))))
         (past ++ look (R.Enqueue item start left (E.Recheck ends Nothing)) word ∷ [])
     by_ends true is = by_ring (next_segment shape.n (tail_of ends) == head_of ends) (eqb-true word ends is) refl
@@ -294,7 +317,8 @@ enqueue_on shape begun_at item start left (E.Recheck ends Nothing) word past so 
 enqueue_on shape begun_at item start left (E.Put ends index empty) word past same = by_test (word == empty)
   where
     by_test : (b : Bool) → NextSoFar shape begun_at
-        (cond b (Goes (R.Enqueue item start left (E.ReloadSlot ends index (filled_with item empty)))) (enqueue_again item start left))
+        (cond b (Goes (R.Enqueue item start left (E.ReloadSlot ends index (filled_with item empty))))
+        (enqueue_again item start left))
         (past ++ look (R.Enqueue item start left (E.Put ends index empty)) word ∷ [])
     by_test true = same
     by_test false = again_so_far shape begun_at item start left same
@@ -306,7 +330,8 @@ enqueue_on shape begun_at item start left (E.ReloadSlot ends index filled) word 
         (past ++ look (R.Enqueue item start left (E.ReloadSlot ends index filled)) word ∷ [])
     by_test true = same
     by_test false = tt
-enqueue_on shape begun_at item start left (E.ReloadEnds ends index filled) word past same = by_head (tail_of ends == head_of word)
+enqueue_on shape begun_at item start left (E.ReloadEnds ends index filled) word past same =
+    by_head (tail_of ends == head_of word)
   where
     by_last : (b : Bool) → NextSoFar shape begun_at
         (cond b (Goes (R.Enqueue item start left (E.Undo index filled true)))
@@ -324,11 +349,14 @@ enqueue_on shape begun_at item start left (E.ReloadEnds ends index filled) word 
     by_head : (b : Bool) → NextSoFar shape begun_at
         (cond b (cond (version_of word == shape.last) (Goes (R.Enqueue item start left (E.Undo index filled true)))
         (Goes (R.Enqueue item start left (E.HoldHead ends index filled word))))
-        (cond (nat_le (distance shape.n (head_of word) (tail_of ends)) (distance shape.n (head_of word) (tail_of word))) (Answers A.Done)
+        (cond (nat_le (distance shape.n (head_of word) (tail_of ends)) (distance shape.n (head_of word) (tail_of word)))
+        (Answers A.Done)
         (Goes (R.Enqueue item start left (E.Undo index filled false)))))
         (past ++ look (R.Enqueue item start left (E.ReloadEnds ends index filled)) word ∷ [])
     by_head true = by_last (version_of word == shape.last)
-    by_head false = by_window (nat_le (distance shape.n (head_of word) (tail_of ends)) (distance shape.n (head_of word) (tail_of word)))
+    by_head false =
+        by_window (nat_le (distance shape.n (head_of word) (tail_of ends))
+        (distance shape.n (head_of word) (tail_of word)))
 enqueue_on shape begun_at item start left (E.HoldHead ends index filled held) word past same = by_test (word == held)
   where
     by_round : (b : Bool) → NextSoFar shape begun_at
@@ -339,7 +367,8 @@ enqueue_on shape begun_at item start left (E.HoldHead ends index filled held) wo
     by_round false = same
 
     by_test : (b : Bool) → NextSoFar shape begun_at (cond b (Answers A.Done)
-        (cond (shape.holds_again && not (left == 1)) (Goes (R.Enqueue item start (left - 1) (E.ReloadSlot ends index filled)))
+        (cond (shape.holds_again && not (left == 1))
+        (Goes (R.Enqueue item start (left - 1) (E.ReloadSlot ends index filled)))
         (Goes (R.Enqueue item start left (E.Undo index filled false)))))
         (past ++ look (R.Enqueue item start left (E.HoldHead ends index filled held)) word ∷ [])
     by_test true = tt
@@ -359,7 +388,8 @@ enqueue_on shape begun_at item start left (E.Undo index filled worn) word past s
     by_test false = tt
 enqueue_on shape begun_at item start left (E.ScanHead ends offset) word past so = by_value (value_of word == 0) refl
   where
-    by_last : (b : Bool) → NextSoFar shape begun_at (cond b (Answers A.Worn) (Goes (R.Enqueue item start left (E.MoveHead ends))))
+    by_last : (b : Bool)
+        → NextSoFar shape begun_at (cond b (Answers A.Worn) (Goes (R.Enqueue item start left (E.MoveHead ends))))
         (past ++ look (R.Enqueue item start left (E.ScanHead ends offset)) word ∷ [])
     by_last true = tt
     by_last false = so.0
@@ -399,15 +429,19 @@ enqueue_on shape begun_at item start left (E.ConfirmFull ends) word past so = by
     by_test : (b : Bool) → (word == ends) ≡ b
         → NextSoFar shape begun_at (cond b (Answers A.Full) (enqueue_again item start left))
         (past ++ look (R.Enqueue item start left (E.ConfirmFull ends)) word ∷ [])
-    by_test true is = subst (λ (s : ℕ). CauseOfFull shape s (past ++ look (R.Enqueue item start left (E.ConfirmFull ends)) word ∷ [])) so.0
+    by_test true is =
+        subst (λ (s : ℕ). CauseOfFull shape s (past ++ look (R.Enqueue item start left (E.ConfirmFull ends)) word ∷ []))
+        so.0
         (full_at_last shape start left ends (look (R.Enqueue item start left (E.ConfirmFull ends)) word) past so.1 refl
         (record { load = refl; finds = eqb-true word ends is }))
     by_test false is = again_so_far shape begun_at item start left so.0
         (past ++ look (R.Enqueue item start left (E.ConfirmFull ends)) word ∷ [])
 enqueue_on shape begun_at item start left (E.MoveHead ends) word past same =
-    again_so_far shape begun_at item start left same (past ++ look (R.Enqueue item start left (E.MoveHead ends)) word ∷ [])
+    again_so_far shape begun_at item start left same (past ++ look (R.Enqueue item start left (E.MoveHead ends)) word
+    ∷ [])
 enqueue_on shape begun_at item start left (E.MoveTail ends) word past same =
-    again_so_far shape begun_at item start left same (past ++ look (R.Enqueue item start left (E.MoveTail ends)) word ∷ [])
+    again_so_far shape begun_at item start left same (past ++ look (R.Enqueue item start left (E.MoveTail ends)) word
+    ∷ [])
 
 -- a dequeue goes on as one, and is never answered Full
 abbrev StaysDequeue : Next → Type 0
@@ -420,7 +454,8 @@ stays_dequeue : (shape : Shape) (start left : ℕ) (phase : DequeuePhase) (word 
     → StaysDequeue (advance shape (R.Dequeue start left phase) word)
 stays_dequeue shape start left phase word = grind (arith, nat_tests)
 
-dequeue_so_far : (shape : Shape) (begun_at : ℕ) (next : Next) (past : List Look) → StaysDequeue next → NextSoFar shape begun_at next past
+dequeue_so_far : (shape : Shape) (begun_at : ℕ) (next : Next) (past : List Look) → StaysDequeue next
+    → NextSoFar shape begun_at next past
 dequeue_so_far shape begun_at (Goes (R.Dequeue start left phase)) past stays = tt
 dequeue_so_far shape begun_at (Goes (R.Enqueue item start left phase)) past stays = absurd stays
 dequeue_so_far shape begun_at (Answers A.Full) past stays = absurd stays
@@ -430,15 +465,20 @@ dequeue_so_far shape begun_at (Answers A.Empty) past stays = tt
 dequeue_so_far shape begun_at (Answers A.Busy) past stays = tt
 dequeue_so_far shape begun_at (Answers A.Worn) past stays = tt
 
-so_far_on : (shape : Shape) (begun_at : ℕ) (running : Running) (word : ℕ) (past : List Look) → SoFar shape begun_at running past
+so_far_on : (shape : Shape) (begun_at : ℕ) (running : Running) (word : ℕ) (past : List Look)
+    → SoFar shape begun_at running past
     → NextSoFar shape begun_at (advance shape running word) (past ++ look running word ∷ [])
-so_far_on shape begun_at (R.Enqueue item start left phase) word past so = enqueue_on shape begun_at item start left phase word past so
+so_far_on shape begun_at (R.Enqueue item start left phase) word past so =
+    enqueue_on shape begun_at item start left phase word past so
 so_far_on shape begun_at (R.Dequeue start left phase) word past so =
-    dequeue_so_far shape begun_at (advance shape (R.Dequeue start left phase) word) _ (stays_dequeue shape start left phase word)
+    dequeue_so_far shape begun_at (advance shape (R.Dequeue start left phase) word) _
+    (stays_dequeue shape start left phase word)
 
-first_so_far : (shape : Shape) (call : Begin) (running : Running) → begun call ≡ Some running → SoFar shape (start_of call) running []
+first_so_far : (shape : Shape) (call : Begin) (running : Running) → begun call ≡ Some running
+    → SoFar shape (start_of call) running []
 first_so_far shape (B.Enqueue item start turns) running is =
-    subst (λ (r : Running). SoFar shape start r []) (Some-injective (R.Enqueue item start turns E.LoadEnds) running is) refl
+    subst (λ (r : Running). SoFar shape start r []) (Some-injective (R.Enqueue item start turns E.LoadEnds) running
+    is) refl
 first_so_far shape (B.Dequeue start turns) running is =
     subst (λ (r : Running). SoFar shape start r []) (Some-injective (R.Dequeue start turns D.LoadEnds) running is) tt
 first_so_far shape B.Tick running is = absurd (cc)
@@ -448,6 +488,7 @@ first_so_far shape B.Seal running is = absurd (cc)
 pub full_has_cause : (shape : Shape) (threads : ℕ) → FullHasCause shape threads
 full_has_cause shape threads = λ thread call old new whole.
     let p = whole_path shape threads thread call A.Full old new whole in
-    along shape (SoFar shape (start_of call)) (NextSoFar shape (start_of call)) (λ running past so. so) (so_far_on shape (start_of call))
+    along shape (SoFar shape (start_of call)) (NextSoFar shape (start_of call)) (λ running past so. so)
+    (so_far_on shape (start_of call))
     p.running [] (looks_of shape threads thread call A.Full old new whole) A.Full p.path
     (first_so_far shape call p.running p.begins)

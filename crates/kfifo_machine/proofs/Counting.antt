@@ -1,5 +1,6 @@
 -- What a call sees while no other overlaps it, and how many items there are.
-use Rattle.std.proofs.Common.{◌≡◌, ◌≢◌, ℕ, ◌+◌, ◌*◌, ◌-◌, ◌<◌, ◌≤◌, Bool, true, false, sym, ap, ◌∙◌, subst, inl, inr, arith, cond}
+use Rattle.std.proofs.Common.{◌≡◌, ◌≢◌, ℕ, ◌+◌, ◌*◌, ◌-◌, ◌<◌, ◌≤◌, Bool, true, false, sym, ap, ◌∙◌, subst, inl, inr}
+use Rattle.std.proofs.Common.{arith, cond}
 use Rattle.std.specs.Prelude.{◌==◌}
 use Rattle.std.proofs.lemmas.Bool.{cases_eq}
 use Rattle.std.proofs.lemmas.Bool.Decides.{nat_tests}
@@ -13,15 +14,18 @@ use Rattle.kfifo_machine.specs.declared.place.DequeuePhase.TheVariants as D
 use Rattle.kfifo_machine.specs.declared.place.Running.TheVariants as R
 use Rattle.kfifo_machine.specs.declared.place.Access.TheVariants.{Exchange}
 use Rattle.kfifo_machine.specs.declared.place.Next.TheVariants.{Goes, Answers}
-use Rattle.kfifo_machine.specs.Program.{scan_index, filled_with, emptied, head_moved, tail_moved, head_held, enqueue_again, dequeue_again}
+use Rattle.kfifo_machine.specs.Program.{scan_index, filled_with, emptied, head_moved, tail_moved, head_held}
+use Rattle.kfifo_machine.specs.Program.{enqueue_again, dequeue_again}
 use Rattle.kfifo_machine.specs.Places.{IsEnds}
 use Rattle.kfifo_machine.proofs.RoundsUndisturbed.{words_by}
 use Rattle.kfifo_machine.proofs.NoWrap.{head-ends_word, tail-ends_word}
 use Rattle.kfifo_machine.proofs.Ahead.{distance-value, distance-below, distance-full}
-use Rattle.kfifo_machine.proofs.EndsUndisturbed.{slots_stay, ends_change, tail_moved-tail, tail_moved-head, head_moved-tail, head_moved-head}
+use Rattle.kfifo_machine.proofs.EndsUndisturbed.{slots_stay, ends_change, tail_moved-tail, tail_moved-head}
+use Rattle.kfifo_machine.proofs.EndsUndisturbed.{head_moved-tail, head_moved-head}
 use Rattle.kfifo_machine.proofs.Filled.{holds, holds-filled, holds-empty, filled-but_one}
-use Rattle.kfifo_machine.proofs.Between.{items_of, all_items, Between, between-tail_on, between-head_on, between-same, items-same, all-same}
-use Rattle.kfifo_machine.proofs.Between.{distance-injective, InSegment, all-change, items-change, items-other, probed_items}
+use Rattle.kfifo_machine.proofs.Between.{items_of, all_items, Between, between-tail_on, between-head_on, between-same}
+use Rattle.kfifo_machine.proofs.Between.{items-same, all-same, distance-injective, InSegment, all-change, items-change}
+use Rattle.kfifo_machine.proofs.Between.{items-other, probed_items}
 
 abbrev pub Probed : Shape → (ℕ → ℕ) → ℕ → ℕ → ℕ → Type 0
 Probed shape w ends start offset = (j : ℕ) → j < offset → value_of (w (scan_index shape (tail_of ends) start j)) ≢ 0
@@ -57,7 +61,8 @@ DequeueSees shape w (D.Recheck ends (Slot index seen)) = (w 0 ≡ ends) × (w in
     × InSegment shape (head_of ends) index
 DequeueSees shape w (D.MoveTail ends index filled) = (w 0 ≡ ends) × (w index ≡ filled) × (value_of filled ≢ 0)
     × InSegment shape (head_of ends) index × (tail_of ends ≡ head_of ends)
-DequeueSees shape w (D.Take ends index filled) = (w index ≡ filled) × (value_of filled ≢ 0) × InSegment shape (head_of (w 0)) index
+DequeueSees shape w (D.Take ends index filled) = (w index ≡ filled) × (value_of filled ≢ 0)
+    × InSegment shape (head_of (w 0)) index
 DequeueSees shape w (D.MoveHead ends) = (w 0 ≡ ends) × (tail_of ends ≢ head_of ends)
 
 abbrev pub Sees : Shape → (ℕ → ℕ) → Running → Type 0
@@ -98,7 +103,8 @@ pub enqueue_again_after : (shape : Shape) (w : ℕ → ℕ) (done got item start
     → After shape w done got (enqueue_again item start left)
 enqueue_again_after shape w done got item start left r = by_test (left == 1)
   where
-    by_test : (b : Bool) → After shape w done got (cond b (Answers A.Busy) (Goes (R.Enqueue item start (left - 1) E.LoadEnds)))
+    by_test : (b : Bool)
+        → After shape w done got (cond b (Answers A.Busy) (Goes (R.Enqueue item start (left - 1) E.LoadEnds)))
     by_test true = r
     by_test false = record { sees = tt; between = r.between; items = (let e = r.items in omega arith) }
 
@@ -106,20 +112,23 @@ pub dequeue_again_after : (shape : Shape) (w : ℕ → ℕ) (done got start left
     → After shape w done got (dequeue_again start left)
 dequeue_again_after shape w done got start left r = by_test (left == 1)
   where
-    by_test : (b : Bool) → After shape w done got (cond b (Answers A.Busy) (Goes (R.Dequeue start (left - 1) D.LoadEnds)))
+    by_test : (b : Bool)
+        → After shape w done got (cond b (Answers A.Busy) (Goes (R.Dequeue start (left - 1) D.LoadEnds)))
     by_test true = r
     by_test false = record { sees = tt; between = r.between; items = (let e = r.items in omega arith) }
 
 -- the tail is moved on
 pub tail_on_after : (shape : Shape) (w : ℕ → ℕ) (done got ends : ℕ) → IsEnds shape ends → w 0 ≡ ends
     → next_segment shape.n (tail_of ends) ≢ head_of ends
-    → (0 < distance shape.n (head_of ends) (tail_of ends) → shape.probes ≤ items_of shape w (tail_of ends)) → Rests shape w done got
+    → (0 < distance shape.n (head_of ends) (tail_of ends) → shape.probes ≤ items_of shape w (tail_of ends))
+    → Rests shape w done got
     → Rests shape (words_by (Exchange 0 ends (tail_moved shape ends)) w) done got
 tail_on_after shape w done got ends e same room full r =
     let v : ℕ → ℕ = words_by (Exchange 0 ends (tail_moved shape ends)) w in
     let at : v 0 ≡ tail_moved shape ends = ends_change w ends (tail_moved shape ends) same in
     let slots : (i : ℕ) → 0 < i → v i ≡ w i = λ i above. slots_stay w ends (tail_moved shape ends) i above in
-    let old : Between shape w (head_of ends) (tail_of ends) = subst (λ x. Between shape w (head_of x) (tail_of x)) same r.between in
+    let old : Between shape w (head_of ends) (tail_of ends) = subst (λ x. Between shape w (head_of x) (tail_of x)) same
+    r.between in
     let on : Between shape w (head_of ends) (next_segment shape.n (tail_of ends)) =
     between-tail_on shape w (head_of ends) (tail_of ends) e.head e.tail room full old in
     let new : Between shape v (head_of ends) (next_segment shape.n (tail_of ends)) =
@@ -128,18 +137,21 @@ tail_on_after shape w done got ends e same room full r =
     let h : head_of (v 0) ≡ head_of ends = ap head_of at ∙ tail_moved-head shape ends e in
     let t : tail_of (v 0) ≡ next_segment shape.n (tail_of ends) = ap tail_of at ∙ tail_moved-tail shape ends e in
     record {
-      between = subst (λ x. Between shape v x (tail_of (v 0))) (sym h) (subst (λ x. Between shape v (head_of ends) x) (sym t) new);
+      between = subst (λ x. Between shape v x (tail_of (v 0))) (sym h)
+          (subst (λ x. Between shape v (head_of ends) x) (sym t) new);
       items = (let c = r.items in let a = all-same shape w v slots in omega arith);
     }
 
 -- the head is moved on
-pub head_on_after : (shape : Shape) (w : ℕ → ℕ) (done got ends : ℕ) → IsEnds shape ends → w 0 ≡ ends → tail_of ends ≢ head_of ends
+pub head_on_after : (shape : Shape) (w : ℕ → ℕ) (done got ends : ℕ) → IsEnds shape ends → w 0 ≡ ends
+    → tail_of ends ≢ head_of ends
     → Rests shape w done got → Rests shape (words_by (Exchange 0 ends (head_moved shape ends)) w) done got
 head_on_after shape w done got ends e same apart r =
     let v : ℕ → ℕ = words_by (Exchange 0 ends (head_moved shape ends)) w in
     let at : v 0 ≡ head_moved shape ends = ends_change w ends (head_moved shape ends) same in
     let slots : (i : ℕ) → 0 < i → v i ≡ w i = λ i above. slots_stay w ends (head_moved shape ends) i above in
-    let old : Between shape w (head_of ends) (tail_of ends) = subst (λ x. Between shape w (head_of x) (tail_of x)) same r.between in
+    let old : Between shape w (head_of ends) (tail_of ends) = subst (λ x. Between shape w (head_of x) (tail_of x)) same
+    r.between in
     let on : Between shape w (next_segment shape.n (head_of ends)) (tail_of ends) =
     between-head_on shape w (head_of ends) (tail_of ends) e.head e.tail apart old in
     let new : Between shape v (next_segment shape.n (head_of ends)) (tail_of ends) =
@@ -155,15 +167,18 @@ head_on_after shape w done got ends e same apart r =
     }
 
 -- the head is held
-pub hold_after : (shape : Shape) (w : ℕ → ℕ) (done got held : ℕ) → IsEnds shape held → w 0 ≡ held → Rests shape w done got
+pub hold_after : (shape : Shape) (w : ℕ → ℕ) (done got held : ℕ) → IsEnds shape held → w 0 ≡ held
+    → Rests shape w done got
     → Rests shape (words_by (Exchange 0 held (head_held held)) w) done got
 hold_after shape w done got held e same r =
     let v : ℕ → ℕ = words_by (Exchange 0 held (head_held held)) w in
     let at : v 0 ≡ head_held held = ends_change w held (head_held held) same in
     let slots : (i : ℕ) → 0 < i → v i ≡ w i = λ i above. slots_stay w held (head_held held) i above in
-    let old : Between shape w (head_of held) (tail_of held) = subst (λ x. Between shape w (head_of x) (tail_of x)) same r.between in
+    let old : Between shape w (head_of held) (tail_of held) = subst (λ x. Between shape w (head_of x) (tail_of x)) same
+    r.between in
     let new : Between shape v (head_of held) (tail_of held) =
-    between-same shape w v (head_of held) (tail_of held) (λ s s_in above. let i = items-same shape w v s slots in omega arith) old in
+    between-same shape w v (head_of held) (tail_of held) (λ s s_in above. let i =
+    items-same shape w v s slots in omega arith) old in
     let h_in = e.head in
     let t_in = e.tail in
     let h : head_of (v 0) ≡ head_of held = ap head_of at
@@ -171,7 +186,8 @@ hold_after shape w done got held e same r =
     let t : tail_of (v 0) ≡ tail_of held = ap tail_of at
     ∙ tail-ends_word (head_of held) (tail_of held) (version_of held + 1) (omega arith) (omega arith) in
     record {
-      between = subst (λ x. Between shape v x (tail_of (v 0))) (sym h) (subst (λ x. Between shape v (head_of held) x) (sym t) new);
+      between = subst (λ x. Between shape v x (tail_of (v 0))) (sym h)
+          (subst (λ x. Between shape v (head_of held) x) (sym t) new);
       items = (let c = r.items in let a = all-same shape w v slots in omega arith);
     }
 
@@ -211,7 +227,8 @@ put_after shape w done got item start left ends index empty some few e f k =
     let grown : Between shape v (head_of (w 0)) (tail_of (w 0)) =
     between-same shape w v (head_of (w 0)) (tail_of (w 0)) (λ s s_in above. elim (cases_eq s (tail_of ends)) [
       | inl here ↦
-          let i : items_of shape v (tail_of ends) + holds (w index) ≡ items_of shape w (tail_of ends) + holds (v index) =
+          let i : items_of shape v (tail_of ends) + holds (w index)
+          ≡ items_of shape w (tail_of ends) + holds (v index) =
           items-change shape w v (tail_of ends) index f.tail k.sees.3 same in
           let a : items_of shape v s ≡ items_of shape v (tail_of ends) = ap (items_of shape v) here in
           let b : items_of shape w s ≡ items_of shape w (tail_of ends) = ap (items_of shape w) here in
@@ -228,7 +245,8 @@ pub distance-same : (shape : Shape) (h : ℕ) → h < shape.n → distance shape
 distance-same shape h h_in = let d = distance-value shape.n h h h_in h_in in omega arith
 
 -- a slot of the head's segment, or of the one segment, is emptied
-pub emptied_after : (shape : Shape) (w : ℕ → ℕ) (done got index filled : ℕ) → IsEnds shape (w 0) → w index ≡ filled → value_of filled ≢ 0
+pub emptied_after : (shape : Shape) (w : ℕ → ℕ) (done got index filled : ℕ) → IsEnds shape (w 0) → w index ≡ filled
+    → value_of filled ≢ 0
     → InSegment shape (head_of (w 0)) index
     → Between shape w (head_of (w 0)) (tail_of (w 0)) → all_items shape w + got ≡ done + 1
     → Rests shape (words_by (Exchange index filled (emptied filled)) w) done got
@@ -241,7 +259,8 @@ emptied_after shape w done got index filled e found_so value in_head between ite
     let old : holds (w index) ≡ 1 = ap holds found_so ∙ holds-filled filled value in
     let all : all_items shape v + holds (w index) ≡ all_items shape w + holds (v index) =
     all-change shape w v (head_of (w 0)) index e.head in_head same in
-    let kept : Between shape v (head_of (w 0)) (tail_of (w 0)) = between-same shape w v (head_of (w 0)) (tail_of (w 0)) (λ s s_in above.
+    let kept : Between shape v (head_of (w 0)) (tail_of (w 0)) = between-same shape w v (head_of (w 0)) (tail_of (w 0))
+    (λ s s_in above.
     let ne : s ≢ head_of (w 0) = λ same_s. absurd
     (let d : distance shape.n (head_of (w 0)) s ≡ 0 = ap (distance shape.n (head_of (w 0))) same_s
     ∙ distance-same shape (head_of (w 0)) e.head in omega arith) in
@@ -249,7 +268,8 @@ emptied_after shape w done got index filled e found_so value in_head between ite
     record { between = subst (λ x. Between shape v (head_of x) (tail_of x)) (sym ends_at) kept; items = omega arith }
 
 -- a call that is nowhere near an item rests
-pub rest : (shape : Shape) (w : ℕ → ℕ) (running : Running) (done got : ℕ) → pending running ≡ 0 → Keeps shape w running done got
+pub rest : (shape : Shape) (w : ℕ → ℕ) (running : Running) (done got : ℕ) → pending running ≡ 0
+    → Keeps shape w running done got
     → Rests shape w done got
 rest shape w running done got none k = record { between = k.between; items = (let c = k.items in omega arith) }
 
@@ -261,8 +281,10 @@ full_after shape w done got item start left ends start_in e k =
     let full : next_segment shape.n (tail_of ends) ≡ head_of ends = k.sees.1 in
     let far : distance shape.n (head_of ends) (tail_of ends) + 1 ≡ shape.n =
     distance-full shape.n (head_of ends) (tail_of ends) e.head e.tail full in
-    let tail_items : shape.probes ≤ items_of shape w (tail_of ends) = probed_items shape w (tail_of ends) start start_in k.sees.2 in
-    let between : Between shape w (head_of ends) (tail_of ends) = subst (λ x. Between shape w (head_of x) (tail_of x)) k.sees.0 k.between in
+    let tail_items : shape.probes ≤ items_of shape w (tail_of ends) =
+    probed_items shape w (tail_of ends) start start_in k.sees.2 in
+    let between : Between shape w (head_of ends) (tail_of ends) =
+    subst (λ x. Between shape w (head_of x) (tail_of x)) k.sees.0 k.between in
     let many : (shape.n - 1) * shape.probes + 1 ≤ all_items shape w =
     filled-but_one w shape.k shape.probes (head_of ends) shape.n e.head (λ s s_in ne. elim (cases_eq s (tail_of ends)) [
       | inl here ↦ subst (λ x. shape.probes ≤ items_of shape w x) (sym here) tail_items

@@ -1,5 +1,6 @@
 -- How many words hold an item.
-use Rattle.std.proofs.Common.{◌≡◌, ◌≢◌, ℕ, zero, suc, ◌+◌, ◌*◌, ◌-◌, ◌%◌, ◌<◌, ◌≤◌, refl, sym, ap, ◌∙◌, inl, inr, arith, cond}
+use Rattle.std.proofs.Common.{◌≡◌, ◌≢◌, ℕ, zero, suc, ◌+◌, ◌*◌, ◌-◌, ◌%◌, ◌<◌, ◌≤◌, refl, sym, ap, ◌∙◌, inl, inr, arith}
+use Rattle.std.proofs.Common.{cond}
 use Rattle.std.specs.Prelude.{◌==◌}
 use Rattle.std.proofs.Math.Nat.{mod-eq_of_lt, mod-eq-sub-mod}
 use Rattle.std.proofs.lemmas.Bool.{cases_lt, cases_eq}
@@ -21,7 +22,8 @@ abbrev pub filled_from : (ℕ → ℕ) → ℕ → ℕ → ℕ
 filled_from w i zero = 0
 filled_from w i (suc m) = holds (w i) + filled_from w (i + 1) m
 
-pub filled-same : (w v : ℕ → ℕ) (i m : ℕ) → ((j : ℕ) → i ≤ j → j < i + m → v j ≡ w j) → filled_from v i m ≡ filled_from w i m
+pub filled-same : (w v : ℕ → ℕ) (i m : ℕ) → ((j : ℕ) → i ≤ j → j < i + m → v j ≡ w j)
+    → filled_from v i m ≡ filled_from w i m
 filled-same w v i zero same = refl
 filled-same w v i (suc m) same =
     ap (λ (x : ℕ). holds x + filled_from v (i + 1) m) (same i (omega arith) (omega arith))
@@ -49,7 +51,8 @@ pub filled-all : (w : ℕ → ℕ) (i m : ℕ) → ((j : ℕ) → i ≤ j → j 
 filled-all w i zero all = refl
 filled-all w i (suc m) all =
     let here : holds (w i) ≡ 1 = holds-filled (w i) (all i (omega arith) (omega arith)) in
-    let others : filled_from w (i + 1) m ≡ m = filled-all w (i + 1) m (λ j low high. all j (omega arith) (omega arith)) in
+    let others : filled_from w (i + 1) m ≡ m =
+    filled-all w (i + 1) m (λ j low high. all j (omega arith) (omega arith)) in
     omega arith
 
 -- one word changes
@@ -72,7 +75,8 @@ filled-change w v p i (suc m) low high same =
     ]
 
 -- so many slots of a segment, cyclically from the start on
-pub filled-cyclic : (w : ℕ → ℕ) (base k start p : ℕ) → start < k → p ≤ k → ((j : ℕ) → j < p → value_of (w (base + (start + j) % k)) ≢ 0)
+pub filled-cyclic : (w : ℕ → ℕ) (base k start p : ℕ) → start < k → p ≤ k
+    → ((j : ℕ) → j < p → value_of (w (base + (start + j) % k)) ≢ 0)
     → p ≤ filled_from w base k
 filled-cyclic w base k start p start_in few all =
     elim (cases_lt k (start + p)) [
@@ -84,9 +88,11 @@ filled-cyclic w base k start p start_in few all =
           ≡ filled_from w (base + start) p + filled_from w (base + start + p) (k - start - p) =
           filled-append w (base + start) p (k - start - p) in
           let seen : filled_from w (base + start) p ≡ p =
-          filled-all w (base + start) p (λ j low high. at j (j - base - start) (omega arith) (omega arith) (omega arith)) in
+          filled-all w (base + start) p (λ j low high. at j (j - base - start) (omega arith) (omega arith)
+          (omega arith)) in
           let whole : start + (p + (k - start - p)) ≡ k = omega arith in
-          let same : filled_from w base (start + (p + (k - start - p))) ≡ filled_from w base k = ap (filled_from w base) whole in
+          let same : filled_from w base (start + (p + (k - start - p))) ≡ filled_from w base k =
+          ap (filled_from w base) whole in
           omega arith
       | inl wraps ↦
           let b : (start + p - k) + ((k - p) + (k - start)) ≡ k = omega arith in
@@ -94,7 +100,8 @@ filled-cyclic w base k start p start_in few all =
           ≡ filled_from w base (start + p - k) + filled_from w (base + (start + p - k)) ((k - p) + (k - start)) =
           filled-append w base (start + p - k) ((k - p) + (k - start)) in
           let more : filled_from w (base + (start + p - k)) ((k - p) + (k - start))
-          ≡ filled_from w (base + (start + p - k)) (k - p) + filled_from w (base + (start + p - k) + (k - p)) (k - start) =
+          ≡ filled_from w (base + (start + p - k)) (k - p) + filled_from w (base + (start + p - k) + (k - p))
+          (k - start) =
           filled-append w (base + (start + p - k)) (k - p) (k - start) in
           let first : filled_from w base (start + p - k) ≡ start + p - k =
           filled-all w base (start + p - k) (λ j low high.
@@ -102,7 +109,8 @@ filled-cyclic w base k start p start_in few all =
           let last : filled_from w (base + (start + p - k) + (k - p)) (k - start) ≡ k - start =
           filled-all w (base + (start + p - k) + (k - p)) (k - start)
           (λ j low high. at j (j - base - start) (omega arith) (omega arith) (omega arith)) in
-          let same : filled_from w base ((start + p - k) + ((k - p) + (k - start))) ≡ filled_from w base k = ap (filled_from w base) b in
+          let same : filled_from w base ((start + p - k) + ((k - p) + (k - start))) ≡ filled_from w base k =
+          ap (filled_from w base) b in
           omega arith
     ]
   where
@@ -118,13 +126,15 @@ filled-cyclic w base k start p start_in few all =
         all o less (ap (λ x. value_of (w (base + x))) (m ∙ n) ∙ ap (λ x. value_of (w x)) (sym is) ∙ none)
 
 -- the first segments, each with so many items
-pub filled-segments : (w : ℕ → ℕ) (k p m : ℕ) → ((s : ℕ) → s < m → p ≤ filled_from w (1 + s * k) k) → m * p ≤ filled_from w 1 (m * k)
+pub filled-segments : (w : ℕ → ℕ) (k p m : ℕ) → ((s : ℕ) → s < m → p ≤ filled_from w (1 + s * k) k)
+    → m * p ≤ filled_from w 1 (m * k)
 filled-segments w k p zero all = omega arith
 filled-segments w k p (suc m) all =
     let old : m * p ≤ filled_from w 1 (m * k) = filled-segments w k p m (λ s less. all s (omega arith)) in
     let new : p ≤ filled_from w (1 + m * k) k = all m (omega arith) in
     let size : suc m * k ≡ m * k + k = omega arith in
-    let parts : filled_from w 1 (m * k + k) ≡ filled_from w 1 (m * k) + filled_from w (1 + m * k) k = filled-append w 1 (m * k) k in
+    let parts : filled_from w 1 (m * k + k) ≡ filled_from w 1 (m * k) + filled_from w (1 + m * k) k =
+    filled-append w 1 (m * k) k in
     let same : filled_from w 1 (suc m * k) ≡ filled_from w 1 (m * k + k) = ap (filled_from w 1) size in
     let product : suc m * p ≡ m * p + p = omega arith in
     omega arith
@@ -135,18 +145,22 @@ pub filled-but_one : (w : ℕ → ℕ) (k p h m : ℕ) → h < m → ((s : ℕ) 
 filled-but_one w k p h zero less all one = absurd (omega arith)
 filled-but_one w k p h (suc m) less all one =
     let size : suc m * k ≡ m * k + k = omega arith in
-    let parts : filled_from w 1 (m * k + k) ≡ filled_from w 1 (m * k) + filled_from w (1 + m * k) k = filled-append w 1 (m * k) k in
+    let parts : filled_from w 1 (m * k + k) ≡ filled_from w 1 (m * k) + filled_from w (1 + m * k) k =
+    filled-append w 1 (m * k) k in
     let same : filled_from w 1 (suc m * k) ≡ filled_from w 1 (m * k + k) = ap (filled_from w 1) size in
     let count : (suc m - 1) * p ≡ m * p = ap (λ x. x * p) (let e : suc m - 1 ≡ m = omega arith in e) in
     elim (cases_eq h m) [
       | inl last ↦
-          let old : m * p ≤ filled_from w 1 (m * k) = filled-segments w k p m (λ s low. all s (omega arith) (λ e. absurd (omega arith))) in
-          let there : filled_from w (1 + h * k) k ≡ filled_from w (1 + m * k) k = ap (λ x. filled_from w (1 + x * k) k) last in
+          let old : m * p ≤ filled_from w 1 (m * k) =
+          filled-segments w k p m (λ s low. all s (omega arith) (λ e. absurd (omega arith))) in
+          let there : filled_from w (1 + h * k) k ≡ filled_from w (1 + m * k) k =
+          ap (λ x. filled_from w (1 + x * k) k) last in
           omega arith
       | inr earlier ↦
           let old : (m - 1) * p + 1 ≤ filled_from w 1 (m * k) =
           filled-but_one w k p h m (omega arith) (λ s low ne. all s (omega arith) ne) one in
           let new : p ≤ filled_from w (1 + m * k) k = all m (omega arith) (λ e. earlier (sym e)) in
-          let product : m * p ≡ (m - 1) * p + p = (let e : m ≡ (m - 1) + 1 = omega arith in omega (arith, ap (λ x. x * p) e)) in
+          let product : m * p ≡ (m - 1) * p + p =
+          (let e : m ≡ (m - 1) + 1 = omega arith in omega (arith, ap (λ x. x * p) e)) in
           omega arith
     ]

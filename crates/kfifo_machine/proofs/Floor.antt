@@ -1,6 +1,7 @@
 -- The floor of a queue whose calls do not overlap.
-use Rattle.std.proofs.Common.{◌≡◌, ◌≢◌, ℕ, zero, suc, ◌+◌, ◌*◌, ◌-◌, ◌<◌, List, [], ◌∷◌, ◌++◌, get_or, replicate, Option, Some, None, Ok}
-use Rattle.std.proofs.Common.{Bool, true, false, refl, sym, ap, ◌∙◌, subst, inl, inr, arith, cond, eqb}
+use Rattle.std.proofs.Common.{◌≡◌, ◌≢◌, ℕ, zero, suc, ◌+◌, ◌*◌, ◌-◌, ◌<◌, List, [], ◌∷◌, ◌++◌, get_or, replicate}
+use Rattle.std.proofs.Common.{Option, Some, None, Ok, Bool, true, false, refl, sym, ap, ◌∙◌, subst, inl, inr, arith}
+use Rattle.std.proofs.Common.{cond, eqb}
 use Rattle.std.specs.Prelude.{nat_lt}
 use Rattle.std.proofs.Math.Path.{fun_ext}
 use Rattle.std.proofs.lemmas.Bool.{cases_eq, cases_Bool}
@@ -17,8 +18,8 @@ use Rattle.kfifo_machine.specs.declared.place.DequeuePhase.TheVariants as D
 use Rattle.kfifo_machine.specs.declared.place.Access.TheVariants.{Load, Exchange}
 use Rattle.kfifo_machine.specs.declared.place.Next.TheVariants.{Goes, Answers}
 use Rattle.kfifo_machine.specs.Program.{access, accessed, advance, sealed_word}
-use Rattle.kfifo_machine.specs.Machine.{World, opening, word_at, place_of, place_after, outcome_of, moved, ticked, sealed, found, begun, may_begin}
-use Rattle.kfifo_machine.specs.Machine.{step, world_of, run}
+use Rattle.kfifo_machine.specs.Machine.{World, opening, word_at, place_of, place_after, outcome_of, moved, ticked}
+use Rattle.kfifo_machine.specs.Machine.{sealed, found, begun, may_begin, step, world_of, run}
 use Rattle.kfifo_machine.specs.Runs.{going}
 use Rattle.kfifo_machine.specs.Places.{IsEnds, IsPlace}
 use Rattle.kfifo_machine.specs.Floor.{NoOverlap, done_with, got_with, answers, Floor}
@@ -29,7 +30,7 @@ use Rattle.kfifo_machine.proofs.Versions.{ticked-other, sealed-ends, sealed-othe
 use Rattle.kfifo_machine.proofs.Budget.{own_place}
 use Rattle.kfifo_machine.proofs.Calls.{may_begun}
 use Rattle.kfifo_machine.proofs.RoundsUndisturbed.{words_by}
-use Rattle.kfifo_machine.proofs.Losses.{word-moved}
+use Rattle.kfifo_machine.proofs.LostRounds.{word-moved}
 use Rattle.kfifo_machine.proofs.BusyIsDisturbed.{sound-ends, found-is}
 use Rattle.kfifo_machine.proofs.Counting.{Rests, Keeps, After, distance-same}
 use Rattle.kfifo_machine.proofs.Between.{items-same, all-same, between-same}
@@ -73,21 +74,26 @@ by_view (Exchange index from to) w v clock i b e below same =
     go true e at here = rw (at, here) refl
     go false e at here = let ne : i ≢ index = λ same_i. absurd (past same_i e) in grind (arith, nat_tests)
 
-view-moved : (shape : Shape) (here : World) (thread : ℕ) (running : Running) → IsSound shape here → IsPlace shape running
+view-moved : (shape : Shape) (here : World) (thread : ℕ) (running : Running) → IsSound shape here
+    → IsPlace shape running
     → view shape (moved shape here thread running) ≡ words_by (access shape running) (view shape here)
 view-moved shape here thread running sound place =
     let below : accessed (access shape running) < clock_at shape.k shape.n = in_table shape running place in
-    fun_ext (λ i. ap (λ x. cond (nat_lt i (clock_at shape.k shape.n)) x 0) (word-moved shape here thread running i sound place)
-    ∙ by_view (access shape running) (word_at here) (view shape here) (clock_at shape.k shape.n) i (nat_lt i (clock_at shape.k shape.n))
+    fun_ext (λ i. ap (λ x. cond (nat_lt i (clock_at shape.k shape.n)) x 0)
+    (word-moved shape here thread running i sound place)
+    ∙ by_view (access shape running) (word_at here) (view shape here) (clock_at shape.k shape.n) i
+    (nat_lt i (clock_at shape.k shape.n))
     refl below (λ j. refl))
 
 -- one thread at most is in a call
 pub data Lone (shape : Shape) (here : World) (done got : ℕ) : Type 0 where
   Idles : ((t : ℕ) → place_of here t ≡ None) → Rests shape (view shape here) done got → Lone shape here done got
-  Calls_one : (thread : ℕ) (running : Running) → place_of here thread ≡ Some running → ((t : ℕ) → t ≢ thread → place_of here t ≡ None)
+  Calls_one : (thread : ℕ) (running : Running) → place_of here thread ≡ Some running
+      → ((t : ℕ) → t ≢ thread → place_of here t ≡ None)
       → Keeps shape (view shape here) running done got → Lone shape here done got
 
-begins_keeping : (shape : Shape) (w : ℕ → ℕ) (done got : ℕ) (begin : Begin) (running : Running) → begun begin ≡ Some running
+begins_keeping : (shape : Shape) (w : ℕ → ℕ) (done got : ℕ) (begin : Begin) (running : Running)
+    → begun begin ≡ Some running
     → Rests shape w done got → Keeps shape w running done got
 begins_keeping shape w done got (B.Enqueue item start turns) running is r =
     subst (λ x. Keeps shape w x done got) (Some-injective (R.Enqueue item start turns E.LoadEnds) running is)
@@ -98,7 +104,8 @@ begins_keeping shape w done got (B.Dequeue start turns) running is r =
 begins_keeping shape w done got B.Tick running is r = absurd (cc)
 begins_keeping shape w done got B.Seal running is r = absurd (cc)
 
-from_idle : (shape : Shape) (w : ℕ → ℕ) (done got : ℕ) (place : Option Running) (begin : Option Begin) (running : Running) → place ≡ None
+from_idle : (shape : Shape) (w : ℕ → ℕ) (done got : ℕ) (place : Option Running) (begin : Option Begin)
+    (running : Running) → place ≡ None
     → going shape place begin ≡ Some running → Rests shape w done got → Keeps shape w running done got
 from_idle shape w done got None None running idle goes r = absurd (cc)
 from_idle shape w done got None (Some begin) running idle goes r =
@@ -123,21 +130,32 @@ keeping shape here thread begin running done got others goes (Calls_one t old at
       | inr ne ↦ absurd (let h : None ≡ Some old = sym (others t ne) ∙ at in cc)
     ]
 
-all_idle : (here : World) (thread : ℕ) → place_of here thread ≡ None → ((t : ℕ) → t ≢ thread → place_of here t ≡ None) → (t : ℕ)
+all_idle : (here : World) (thread : ℕ) → place_of here thread ≡ None → ((t : ℕ) → t ≢ thread → place_of here t ≡ None)
+    → (t : ℕ)
     → place_of here t ≡ None
-all_idle here thread at others t = elim (cases_eq t thread) [ inl mine ↦ ap (place_of here) mine ∙ at | inr ne ↦ others t ne ]
+all_idle here thread at others t = elim (cases_eq t thread) [
+  | inl mine ↦ ap (place_of here) mine ∙ at
+  | inr ne ↦ others t ne
+]
 
 after_lone : (shape : Shape) (next : World) (thread done got : ℕ) (n : Next) → place_of next thread ≡ place_after n
     → ((t : ℕ) → t ≢ thread → place_of next t ≡ None) → After shape (view shape next) done got n
     → Lone shape next (done + done_with (outcome_of n)) (got + got_with (outcome_of n))
 after_lone shape next thread done got (Goes running) at others k =
-    Calls_one thread running at others (record { sees = k.sees; between = k.between; items = (let c = k.items in omega arith) })
+    Calls_one thread running at others (record {
+      sees = k.sees;
+      between = k.between;
+      items = (let c = k.items in omega arith);
+    })
 after_lone shape next thread done got (Answers A.Done) at others r =
     Idles (all_idle next thread at others) (record { between = r.between; items = (let c = r.items in omega arith) })
 after_lone shape next thread done got (Answers (A.Got item)) at others r =
     Idles (all_idle next thread at others) (record { between = r.between; items = (let c = r.items in omega arith) })
 after_lone shape next thread done got (Answers A.Full) at others r =
-    Idles (all_idle next thread at others) (record { between = r.0.between; items = (let c = r.0.items in omega arith) })
+    Idles (all_idle next thread at others) (record {
+      between = r.0.between;
+      items = (let c = r.0.items in omega arith);
+    })
 after_lone shape next thread done got (Answers A.Empty) at others r =
     Idles (all_idle next thread at others) (record { between = r.between; items = (let c = r.items in omega arith) })
 after_lone shape next thread done got (Answers A.Busy) at others r =
@@ -146,7 +164,8 @@ after_lone shape next thread done got (Answers A.Worn) at others r =
     Idles (all_idle next thread at others) (record { between = r.between; items = (let c = r.items in omega arith) })
 
 -- a thread's step
-moved_lone : (shape : Shape) (here next : World) (e : Event) (outcome : Outcome) (running : Running) (done got : ℕ) → IsSound shape here
+moved_lone : (shape : Shape) (here next : World) (e : Event) (outcome : Outcome) (running : Running) (done got : ℕ)
+    → IsSound shape here
     → step shape here e ≡ Ok (next, outcome)
     → next ≡ moved shape here e.thread running → going shape (place_of here e.thread) e.begin ≡ Some running
     → ((t : ℕ) → t ≢ e.thread → place_of here t ≡ None) → Lone shape here done got
@@ -154,18 +173,21 @@ moved_lone : (shape : Shape) (here next : World) (e : Event) (outcome : Outcome)
 moved_lone shape here next e outcome running done got sound made is goes others lone =
     let place : IsPlace shape running = going_place shape (place_of here e.thread) e.begin running
     (λ r at. place_is shape here e.thread r sound at) goes in
-    let k : Keeps shape (view shape here) running done got = keeping shape here e.thread e.begin running done got others goes lone in
+    let k : Keeps shape (view shape here) running done got = keeping shape here e.thread e.begin running done got others
+    goes lone in
     let same : view shape next ≡ words_by (access shape running) (view shape here) =
     ap (view shape) is ∙ view-moved shape here e.thread running sound place in
     let ends : IsEnds shape (view shape here 0) =
     subst (IsEnds shape) (sym (view-below shape here 0 (omega arith))) (sound-ends shape here sound) in
     let word : found shape here running ≡ view shape here (accessed (access shape running)) =
-    found-is shape here running ∙ sym (view-below shape here (accessed (access shape running)) (in_table shape running place)) in
+    found-is shape here running
+    ∙ sym (view-below shape here (accessed (access shape running)) (in_table shape running place)) in
     subst (λ (v : ℕ → ℕ). After shape v done got (advance shape running (found shape here running))) (sym same)
     (lone_step shape (view shape here) done got running (found shape here running) place ends k word)
 
 -- a seal of the ends leaves head, tail and slots
-sealed_rests : (shape : Shape) (here : World) (done got : ℕ) → IsSound shape here → Rests shape (view shape here) done got
+sealed_rests : (shape : Shape) (here : World) (done got : ℕ) → IsSound shape here
+    → Rests shape (view shape here) done got
     → Rests shape (view shape (sealed shape here)) (done + 0) (got + 0)
 sealed_rests shape here done got sound r =
     let w = view shape here in
@@ -178,7 +200,8 @@ sealed_rests shape here done got sound r =
     let head : head_of (v 0) ≡ head_of (w 0) = ap head_of ends ∙ same.0 in
     let tail : tail_of (v 0) ≡ tail_of (w 0) = ap tail_of ends ∙ same.1 in
     let slots : (i : ℕ) → 0 < i → v i ≡ w i =
-    λ i above. ap (λ x. cond (nat_lt i (clock_at shape.k shape.n)) x 0) (sealed-other shape here i (λ e. absurd (omega arith))) in
+    λ i above. ap (λ x. cond (nat_lt i (clock_at shape.k shape.n)) x 0)
+    (sealed-other shape here i (λ e. absurd (omega arith))) in
     record {
       between = rw (head, tail) (between-same shape w v (head_of (w 0)) (tail_of (w 0))
           (λ s less far. let e = items-same shape w v s slots in omega arith) r.between);
@@ -215,23 +238,32 @@ step_lone shape here next e outcome done got sound made alone lone =
           ])
     ]
   where
-    kept_rests : (shape : Shape) (w : ℕ → ℕ) (done got : ℕ) → Rests shape w done got → Rests shape w (done + 0) (got + 0)
+    kept_rests : (shape : Shape) (w : ℕ → ℕ) (done got : ℕ) → Rests shape w done got
+        → Rests shape w (done + 0) (got + 0)
     kept_rests shape w done got r = record { between = r.between; items = (let c = r.items in omega arith) }
 
     kept : (shape : Shape) (w : ℕ → ℕ) (running : Running) (done got : ℕ) → Keeps shape w running done got
         → Keeps shape w running (done + 0) (got + 0)
-    kept shape w running done got k = record { sees = k.sees; between = k.between; items = (let c = k.items in omega arith) }
+    kept shape w running done got k = record {
+      sees = k.sees;
+      between = k.between;
+      items = (let c = k.items in omega arith);
+    }
 
-    same_lone : ((t : ℕ) → place_of next t ≡ place_of here t) → view shape next ≡ view shape here → Lone shape here done got
+    same_lone : ((t : ℕ) → place_of next t ≡ place_of here t) → view shape next ≡ view shape here
+        → Lone shape here done got
         → Lone shape next (done + 0) (got + 0)
     same_lone leaves same (Idles idle r) =
         Idles (λ t. leaves t ∙ idle t)
-        (subst (λ (w : ℕ → ℕ). Rests shape w (done + 0) (got + 0)) (sym same) (kept_rests shape (view shape here) done got r))
+        (subst (λ (w : ℕ → ℕ). Rests shape w (done + 0) (got + 0)) (sym same)
+        (kept_rests shape (view shape here) done got r))
     same_lone leaves same (Calls_one t running at rest k) =
         Calls_one t running (leaves t ∙ at) (λ u ne. leaves u ∙ rest u ne)
-        (subst (λ (w : ℕ → ℕ). Keeps shape w running (done + 0) (got + 0)) (sym same) (kept shape (view shape here) running done got k))
+        (subst (λ (w : ℕ → ℕ). Keeps shape w running (done + 0) (got + 0)) (sym same)
+        (kept shape (view shape here) running done got k))
 
-    rests_of : ((t : ℕ) → t ≢ e.thread → place_of here t ≡ None) → place_of here e.thread ≡ None → Lone shape here done got
+    rests_of : ((t : ℕ) → t ≢ e.thread → place_of here t ≡ None) → place_of here e.thread ≡ None
+        → Lone shape here done got
         → Rests shape (view shape here) done got
     rests_of others idle (Idles all r) = r
     rests_of others idle (Calls_one t running at rest k) =
@@ -242,8 +274,10 @@ lone_counts shape v w a b c d lone world ea eb = rw (← world, ← ea, ← eb) 
 
 -- a schedule, up to its last event
 run_lone : (shape : Shape) (here there : World) (events : List Event) (last : Event) (done got : ℕ) → IsSound shape here
-    → run shape (Some here) events ≡ Some there → NoOverlap shape (Some here) (events ++ last ∷ []) → Lone shape here done got
-    → Lone shape there (done + answers shape done_with (Some here) events) (got + answers shape got_with (Some here) events)
+    → run shape (Some here) events ≡ Some there → NoOverlap shape (Some here) (events ++ last ∷ [])
+    → Lone shape here done got
+    → Lone shape there (done + answers shape done_with (Some here) events)
+    (got + answers shape got_with (Some here) events)
     × (last.begin ≢ Some B.Tick → (t : ℕ) → t ≢ last.thread → place_of there t ≡ None) × IsSound shape there
 run_lone shape here there [] last done got sound is alone lone =
     let same : here ≡ there = Some-injective here there is in (
@@ -259,7 +293,8 @@ run_lone shape here there (e ∷ es) last done got sound is alone lone =
     subst (λ (w : Option World). NoOverlap shape w (es ++ last ∷ [])) (ap world_of m.1.1.0) alone.1 in
     let all = run_lone shape m.0 there es last (done + done_with m.1.0) (got + got_with m.1.0)
     (step_sound shape here e m.0 m.1.0 sound m.1.1.0) m.1.1.1 rest next in (
-      lone_counts shape there there _ _ _ _ all.0 refl (regroup done_with done m.0 m.1.0 m.1.1.0) (regroup got_with got m.0 m.1.0 m.1.1.0),
+      lone_counts shape there there _ _ _ _ all.0 refl (regroup done_with done m.0 m.1.0 m.1.1.0)
+          (regroup got_with got m.0 m.1.0 m.1.1.0),
       all.1,
       all.2,
     )
@@ -337,7 +372,8 @@ opening_lone shape threads =
       between = λ s s_in above below. absurd (let d : distance shape.n (head_of (view shape (opening shape threads) 0))
           (tail_of (view shape (opening shape threads) 0)) ≡ 0 =
           ap (λ x. distance shape.n (head_of x) (tail_of x)) zero_ends ∙ zero_distance shape in omega arith);
-      items = (let z = none_filled (view shape (opening shape threads)) 1 (shape.n * shape.k) (opening_view shape threads) in omega arith);
+      items = (let z = none_filled (view shape (opening shape threads)) 1 (shape.n * shape.k)
+          (opening_view shape threads) in omega arith);
     })
 
 -- the floor

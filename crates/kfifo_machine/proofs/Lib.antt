@@ -8,11 +8,13 @@ pub mod NoWrap
 pub mod Budget
 pub mod Refusals
 pub mod Laws
+pub mod LogSteps
 pub mod Calls
 pub mod Paths
 pub mod Causes
 pub mod Wear
 pub mod RoundsUndisturbed
+pub mod LostRounds
 pub mod Losses
 pub mod Ahead
 pub mod EndsUndisturbed

@@ -1,342 +1,33 @@
 -- A call that is answered Busy has lost each of its rounds.
-use Rattle.std.proofs.Common.{◌≡◌, ◌≢◌, ◌⊎◌, ℕ, zero, suc, ◌+◌, ◌-◌, ◌<◌, List, [], ◌∷◌, ◌++◌, length, get_or, set, Option, Some, None, Ok}
-use Rattle.std.proofs.Common.{Bool, true, false, refl, sym, ap, ◌∙◌, subst, inl, inr, arith, cond, eqb, eqb-true, eq-eqb}
-use Rattle.std.specs.Prelude.{◌==◌}
-use Rattle.std.proofs.lemmas.Bool.{cases_eq, cases_Bool}
-use Rattle.std.proofs.lemmas.Bool.Decides.{nat_tests}
-use Rattle.std.proofs.lemmas.Grind.{get_or-set_at}
-use Rattle.std.proofs.lemmas.List.{get_or-set_other, append_assoc}
-use Rattle.kfifo_machine.proofs.Types.{Access, Begin, Event, Next, Outcome, Running, Shape}
-use Rattle.kfifo_words.specs.Ring.{clock_at}
+use Rattle.std.proofs.Common.{◌≡◌, ◌≢◌, ◌⊎◌, ℕ, zero, ◌+◌, ◌-◌, ◌<◌, List, [], ◌∷◌, ◌++◌, Option, Some, None, Ok}
+use Rattle.std.proofs.Common.{Bool, true, false, refl, sym, ap, ◌∙◌, subst, inl, inr, arith, cond, eqb, eq-eqb}
+use Rattle.kfifo_machine.proofs.Types.{Begin, Event, Next, Outcome, Running, Shape}
 use Rattle.kfifo_model.specs.declared.calls.Answer.TheVariants as A
 use Rattle.kfifo_machine.specs.declared.event.Begin.TheVariants as B
 use Rattle.kfifo_machine.specs.declared.event.Outcome.TheVariants.{Ended}
 use Rattle.kfifo_machine.specs.declared.place.Running.TheVariants as R
 use Rattle.kfifo_machine.specs.declared.place.EnqueuePhase.TheVariants as E
 use Rattle.kfifo_machine.specs.declared.place.DequeuePhase.TheVariants as D
-use Rattle.kfifo_machine.specs.declared.place.Access.TheVariants.{Load, Exchange}
 use Rattle.kfifo_machine.specs.declared.place.Next.TheVariants.{Goes, Answers}
-use Rattle.kfifo_machine.specs.Program.{access, accessed, advance}
-use Rattle.kfifo_machine.specs.Machine.{World, opening, word_at, place_of, place_after, words_after, moved, found, begun, step, world_of}
-use Rattle.kfifo_machine.specs.Machine.{run}
+use Rattle.kfifo_machine.specs.Program.{access, advance}
+use Rattle.kfifo_machine.specs.Machine.{World, opening, word_at, place_of, place_after, moved, found, begun, step}
+use Rattle.kfifo_machine.specs.Machine.{world_of, run}
 use Rattle.kfifo_machine.specs.Runs.{event, own, going, AllGoOn}
 use Rattle.kfifo_machine.specs.Places.{IsPlace}
 use Rattle.kfifo_machine.specs.Laws.{moves_head, moves_tail}
-use Rattle.kfifo_machine.specs.Causes.{Look, AllOfRound, looks, looks_from, round_of}
-use Rattle.kfifo_machine.specs.Rounds.{WinsSome, Disturbed, LooksAgain, LostRound, LosesAll, turns_of, BusyHasCause}
-use Rattle.kfifo_machine.proofs.Places.{in_table}
-use Rattle.kfifo_machine.proofs.Schedules.{Some-injective, run-append, run_on, first_made, made_within, stepped, other_place}
+use Rattle.kfifo_machine.specs.Causes.{AllOfRound, looks, round_of}
+use Rattle.kfifo_machine.specs.Rounds.{LosesAll, turns_of, BusyHasCause}
+use Rattle.kfifo_machine.proofs.Schedules.{Some-injective, run-append, run_on, first_made, made_within, stepped}
+use Rattle.kfifo_machine.proofs.Schedules.{other_place}
 use Rattle.kfifo_machine.proofs.Sound.{IsSound, sound, going_place, place_is, step_sound}
-use Rattle.kfifo_machine.proofs.Versions.{one_word}
 use Rattle.kfifo_machine.proofs.Budget.{own_place, own_first}
 use Rattle.kfifo_machine.proofs.Refusals.{own_step}
-use Rattle.kfifo_machine.proofs.Causes.{all_of_round-append}
 use Rattle.kfifo_machine.proofs.Paths.{looks-own, looks-other, none_after, answered, begins_from, never_at_once}
-use Rattle.kfifo_machine.proofs.RoundsUndisturbed.{opens_round, ends_round, Opens, opens_next, RoundNext, round_next, words_by, Quiet}
-use Rattle.kfifo_machine.proofs.RoundsUndisturbed.{watched, watched-below, still_quiet, NextQuiet, enqueue_quiet, dequeue_quiet}
-
--- the words after a step
-exchanged_by : (words : List ℕ) (index from to i : ℕ) → index < length words
-    → get_or (cond (eqb (get_or words index 0) from) (set words index to) words) i 0
-    ≡ cond (eqb (get_or words index 0) from) (cond (eqb i index) to (get_or words i 0)) (get_or words i 0)
-exchanged_by words index from to i h =
-    elim (cases_Bool (eqb (get_or words index 0) from)) [
-      | inl e ↦ elim (cases_eq i index) [
-        | inl same ↦ rw e (get_or-set_at words index i to 0 same h
-            ∙ sym (ap (λ (b : Bool). cond b to (get_or words i 0)) (eq-eqb i index same)))
-        | inr ne ↦ rw e (get_or-set_other words index i to 0 ne ∙ apart (eqb i index) refl ne)
-      ]
-      | inr e ↦ rw e refl
-    ]
-  where
-    apart : (b : Bool) → eqb i index ≡ b → (i ≡ index → ⊥) → ◌≡◌ {A = ℕ} (get_or words i 0) (cond b to (get_or words i 0))
-    apart true is ne = absurd (ne (eqb-true i index is))
-    apart false is ne = refl
-
-after_by : (a : Access) (words : List ℕ) (i : ℕ) → accessed a < length words
-    → get_or (words_after a words) i 0 ≡ words_by a (λ j. get_or words j 0) i
-after_by (Load index) words i h = refl
-after_by (Exchange index from to) words i h = exchanged_by words index from to i h
-
-pub word-moved : (shape : Shape) (here : World) (thread : ℕ) (running : Running) (i : ℕ) → IsSound shape here → IsPlace shape running
-    → word_at (moved shape here thread running) i ≡ words_by (access shape running) (word_at here) i
-unfolding moved word_at
-word-moved shape here thread running i sound place =
-    let within : accessed (access shape running) < length here.words = omega (arith, in_table shape running place, sound.size) in
-    after_by (access shape running) here.words i within
-
-pub quiet_step : (shape : Shape) (here : World) (running : Running) → IsPlace shape running → Quiet (word_at here) running
-    → moves_head running (found shape here running) ≡ false → moves_tail running (found shape here running) ≡ false
-    → NextQuiet running (words_by (access shape running) (word_at here)) (advance shape running (found shape here running))
-unfolding found
-quiet_step shape here (R.Enqueue item start left phase) place quiet no_head no_tail =
-    enqueue_quiet shape (word_at here) item start left phase (word_at here (accessed (access shape (R.Enqueue item start left phase))))
-    place quiet refl no_head no_tail
-quiet_step shape here (R.Dequeue start left phase) place quiet no_head no_tail =
-    dequeue_quiet shape (word_at here) start left phase (word_at here (accessed (access shape (R.Dequeue start left phase)))) place quiet
-    refl no_head no_tail
-
-quiet_after : (before : Running) (w v : ℕ → ℕ) (next : Next) → ((i : ℕ) → v i ≡ w i) → NextQuiet before w next
-    → NextQuiet before v next
-quiet_after before w v (Goes running) same quiet = (quiet.0, still_quiet w v running (same 0) (same (watched running)) quiet.1)
-quiet_after before w v (Answers A.Busy) same quiet = quiet
-quiet_after before w v (Answers A.Done) same quiet = tt
-quiet_after before w v (Answers A.Full) same quiet = tt
-quiet_after before w v (Answers (A.Got item)) same quiet = tt
-quiet_after before w v (Answers A.Empty) same quiet = tt
-quiet_after before w v (Answers A.Worn) same quiet = tt
-
--- Disturbances stay
-disturbed_more : (shape : Shape) (thread : ℕ) (start : World) (xs ys : List Event) → Disturbed shape thread start xs
-    → Disturbed shape thread start (xs ++ ys)
-disturbed_more shape thread start xs ys d = record {
-  before = d.before;
-  event = d.event;
-  after = d.after ++ ys;
-  world = d.world;
-  split = ap (λ (zs : List Event). zs ++ ys) d.split ∙ append_assoc d.before (d.event ∷ d.after) ys;
-  reached = d.reached;
-  by = d.by;
-}
-
--- the round began with a look at the slot again
-pub record BeganAgain (shape : Shape) (start : World) (past : List Event) : Type 0 where
-  pub first : Event
-  pub later : List Event
-  pub begins : past ≡ first ∷ later
-  pub looks : LooksAgain shape start first
-
--- why a round may be lost
-abbrev Excused : Shape → ℕ → World → List Event → Type 0
-Excused shape thread start past = Disturbed shape thread start past ⊎ BeganAgain shape start past
-
-excused_more : (shape : Shape) (thread : ℕ) (start : World) (xs ys : List Event) → Excused shape thread start xs
-    → Excused shape thread start (xs ++ ys)
-excused_more shape thread start xs ys (inl disturbed) = inl (disturbed_more shape thread start xs ys disturbed)
-excused_more shape thread start xs ys (inr again) = inr (record {
-  first = again.first;
-  later = again.later ++ ys;
-  begins = ap (λ (zs : List Event). zs ++ ys) again.begins;
-  looks = again.looks;
-})
-
--- how the round stands: it may be lost, or it is quiet
-abbrev Standing : Shape → ℕ → World → List Event → World → Running → Type 0
-Standing shape thread start past here running = Excused shape thread start past ⊎ Quiet (word_at here) running
-
--- the thread's own step
-own_standing : (shape : Shape) (start here next : World) (past : List Event) (e : Event) (outcome : Outcome) (running : Running)
-    → IsSound shape here → step shape here e ≡ Ok (next, outcome) → e.begin ≡ None
-    → place_of here e.thread ≡ Some running → run shape (Some start) past ≡ Some here → Standing shape e.thread start past here running
-    → Excused shape e.thread start (past ++ e ∷ []) ⊎ NextQuiet running (word_at next) (advance shape running (found shape here running))
-own_standing shape start here next past e outcome running sound made none at reached standing =
-    let place : IsPlace shape running = place_is shape here e.thread running sound at in
-    let goes : going shape (place_of here e.thread) e.begin ≡ Some running =
-    ap (going shape (place_of here e.thread)) none ∙ ap (λ (p : Option Running). going shape p None) at in
-    elim (cases_Bool (moves_head running (found shape here running))) [
-      | inl head ↦ inl (inl (record {
-        before = past;
-        event = e;
-        after = [];
-        world = here;
-        split = refl;
-        reached = reached;
-        by = inl (refl, record { running = running; stands = goes; moves = inl head });
-      }))
-      | inr no_head ↦ elim (cases_Bool (moves_tail running (found shape here running))) [
-        | inl tail ↦ inl (inl (record {
-          before = past;
-          event = e;
-          after = [];
-          world = here;
-          split = refl;
-          reached = reached;
-          by = inl (refl, record { running = running; stands = goes; moves = inr tail });
-        }))
-        | inr no_tail ↦ elim standing [
-          | inl excused ↦ inl (excused_more shape e.thread start past (e ∷ []) excused)
-          | inr quiet ↦
-              let is_moved : next ≡ moved shape here e.thread running = (own_step shape here e next outcome running made at).0 in
-              inr (quiet_after running (words_by (access shape running) (word_at here)) (word_at next)
-              (advance shape running (found shape here running))
-              (λ i. ap (λ (w : World). word_at w i) is_moved ∙ word-moved shape here e.thread running i sound place)
-              (quiet_step shape here running place quiet no_head no_tail))
-        ]
-      ]
-    ]
-
--- a word below the clock that an event changes was won
-won_or_same : (shape : Shape) (here next : World) (e : Event) (outcome : Outcome) (i : ℕ) → IsSound shape here
-    → step shape here e ≡ Ok (next, outcome) → i < clock_at shape.k shape.n
-    → (word_at next i ≡ word_at here i) ⊎ WinsSome shape here e
-won_or_same shape here next e outcome i sound made below =
-    let one = one_word shape here e next outcome sound made in
-    elim (cases_eq (word_at next i) (word_at here i)) [
-      | inl same ↦ inl same
-      | inr ne ↦ elim (one.only_so i ne) [
-        | inl w ↦ inr (record { index = i; wins = inl (word_at next i, w) })
-        | inr (inl t) ↦ absurd (let c = t.clock in omega arith)
-        | inr (inr z) ↦ inr (record { index = i; wins = inr z })
-      ]
-    ]
-
--- an event of another thread
-other_standing : (shape : Shape) (thread : ℕ) (start here next : World) (past : List Event) (e : Event) (outcome : Outcome)
-    (running : Running) → IsSound shape here → step shape here e ≡ Ok (next, outcome)
-    → thread ≢ e.thread → place_of here thread ≡ Some running → run shape (Some start) past ≡ Some here
-    → Standing shape thread start past here running
-    → Standing shape thread start (past ++ e ∷ []) next running
-other_standing shape thread start here next past e outcome running sound made apart at reached (inl excused) =
-    inl (excused_more shape thread start past (e ∷ []) excused)
-other_standing shape thread start here next past e outcome running sound made apart at reached (inr quiet) =
-    let wins : WinsSome shape here e → Standing shape thread start (past ++ e ∷ []) next running =
-    λ w. inl (inl (record {
-      before = past;
-      event = e;
-      after = [];
-      world = here;
-      split = refl;
-      reached = reached;
-      by = inr ((λ same. apart (sym same)), w);
-    })) in
-    let place : IsPlace shape running = place_is shape here thread running sound at in
-    elim (won_or_same shape here next e outcome 0 sound made (omega arith)) [
-      | inr w ↦ wins w
-      | inl ends ↦ elim (won_or_same shape here next e outcome (watched running) sound made (watched-below shape running place)) [
-        | inr w ↦ wins w
-        | inl slot ↦ inr (still_quiet (word_at here) (word_at next) running ends slot quiet)
-      ]
-    ]
-
--- the looks of two parts of a schedule
-looks-append : (shape : Shape) (thread : ℕ) (start here : World) (xs ys : List Event) → run shape (Some start) xs ≡ Some here
-    → looks shape thread (Some start) (xs ++ ys) ≡ looks shape thread (Some start) xs ++ looks shape thread (Some here) ys
-looks-append shape thread start here [] ys is = ap (λ (w : World). looks shape thread (Some w) ys) (Some-injective start here is)
-looks-append shape thread start here (e ∷ xs) ys is =
-    let m = first_made shape start e here xs is in
-    let next : world_of (step shape start e) ≡ Some m.0 = ap world_of m.1.1.0 in
-    let head : List Look = cond (e.thread == thread) (looks_from shape start (going shape (place_of start e.thread) e.begin)) [] in
-    ap (λ (w : Option World). head ++ looks shape thread w (xs ++ ys)) next
-    ∙ ap (λ (ls : List Look). head ++ ls) (looks-append shape thread m.0 here xs ys m.1.1.1)
-    ∙ ap (λ (w : Option World). head ++ (looks shape thread w xs ++ looks shape thread (Some here) ys)) (sym next)
-    ∙ sym (append_assoc head (looks shape thread (world_of (step shape start e)) xs) (looks shape thread (Some here) ys))
-
--- a round so far: its first event is own, and its own steps are of this round
-pub record RoundSoFar (shape : Shape) (thread round : ℕ) (start : World) (past : List Event) : Type 0 where
-  pub first : Event
-  pub later : List Event
-  pub begins : past ≡ first ∷ later
-  pub first_own : first.thread ≡ thread
-  pub one_round : AllOfRound round (looks shape thread (Some start) past)
-
-so_far_more : (shape : Shape) (thread round : ℕ) (start here : World) (past : List Event) (e : Event)
-    → run shape (Some start) past ≡ Some here → RoundSoFar shape thread round start past
-    → AllOfRound round (looks shape thread (Some here) (e ∷ [])) → RoundSoFar shape thread round start (past ++ e ∷ [])
-so_far_more shape thread round start here past e reached r all = record {
-  first = r.first;
-  later = r.later ++ e ∷ [];
-  begins = ap (λ (xs : List Event). xs ++ e ∷ []) r.begins;
-  first_own = r.first_own;
-  one_round = subst (AllOfRound round) (sym (looks-append shape thread start here past (e ∷ []) reached))
-      (all_of_round-append round _ _ r.one_round all);
-}
-
--- what remains of a call in the middle of a round that is lost: the rest of this round, and then the other rounds
-pub record Remains (shape : Shape) (thread round : ℕ) (start : World) (past events : List Event) : Type 0 where
-  pub more : List Event
-  pub rest : List Event
-  pub end : World
-  pub split : events ≡ more ++ rest
-  pub reached : run shape (Some start) (past ++ more) ≡ Some end
-  pub round_lost : LostRound shape thread round start (past ++ more)
-  pub others : LosesAll shape thread (round - 1) end rest
-
-remains_more : (shape : Shape) (thread round : ℕ) (start : World) (past events : List Event) (e : Event)
-    → Remains shape thread round start (past ++ e ∷ []) events → Remains shape thread round start past (e ∷ events)
-remains_more shape thread round start past events e r =
-    let shift : (past ++ e ∷ []) ++ r.more ≡ past ++ (e ∷ r.more) = append_assoc past (e ∷ []) r.more in
-    record {
-      more = e ∷ r.more;
-      rest = r.rest;
-      end = r.end;
-      split = ap (λ (xs : List Event). e ∷ xs) r.split;
-      reached = ap (run shape (Some start)) (sym shift) ∙ r.reached;
-      round_lost = subst (LostRound shape thread round start) shift r.round_lost;
-      others = r.others;
-    }
-
-lost_round : (shape : Shape) (thread round : ℕ) (start : World) (past : List Event) (e : Event)
-    → RoundSoFar shape thread round start (past ++ e ∷ []) → e.thread ≡ thread → Excused shape thread start (past ++ e ∷ [])
-    → LostRound shape thread round start (past ++ e ∷ [])
-lost_round shape thread round start past e r mine excused = record {
-  first = r.first;
-  later = r.later;
-  earlier = past;
-  last = e;
-  begins = r.begins;
-  ends = refl;
-  first_own = r.first_own;
-  last_own = mine;
-  one_round = r.one_round;
-  disturbed = elim excused [
-    | inl disturbed ↦ inl disturbed
-    | inr again ↦ inr (let same : again.first ≡ r.first = (let h : again.first ∷ again.later ≡ r.first ∷ r.later =
-        sym again.begins ∙ r.begins in cc) in subst (LooksAgain shape start) same again.looks)
-  ];
-}
-
--- others' events before a round
-loses_later : (shape : Shape) (thread round : ℕ) (here next : World) (outcome : Outcome) (e : Event) (events : List Event) → 0 < round
-    → thread ≢ e.thread → step shape here e ≡ Ok (next, outcome)
-    → LosesAll shape thread round next events → LosesAll shape thread round here (e ∷ events)
-loses_later shape thread zero here next outcome e events some apart made loses = absurd (omega arith)
-loses_later shape thread (suc round) here next outcome e events some apart made l = record {
-  others = e ∷ l.others;
-  lost = l.lost;
-  rest = l.rest;
-  start = l.start;
-  end = l.end;
-  split = ap (λ (xs : List Event). e ∷ xs) l.split;
-  not_own = none_own (e.thread == thread) refl ∙ l.not_own;
-  starts = ap (λ (w : Option World). run shape w l.others) (ap world_of made) ∙ l.starts;
-  round_lost = l.round_lost;
-  reached = l.reached;
-  then = l.then;
-}
-  where
-    none_own : (b : Bool) → (e.thread == thread) ≡ b → cond b (e ∷ own thread l.others) (own thread l.others) ≡ own thread l.others
-    none_own true is = absurd (apart (sym (eqb-true e.thread thread is)))
-    none_own false is = refl
-
--- a round that begins here
-loses_now : (shape : Shape) (thread round : ℕ) (here : World) (events : List Event) → 0 < round → Remains shape thread round here [] events
-    → LosesAll shape thread round here events
-loses_now shape thread zero here events some r = absurd (omega arith)
-loses_now shape thread (suc round) here events some r =
-    let less : (suc round) - 1 ≡ round = omega arith in
-    record {
-      others = [];
-      lost = r.more;
-      rest = r.rest;
-      start = here;
-      end = r.end;
-      split = r.split;
-      not_own = refl;
-      starts = refl;
-      round_lost = r.round_lost;
-      reached = r.reached;
-      then = subst (λ (m : ℕ). LosesAll shape thread m r.end r.rest) less r.others;
-    }
-
-open_quiet : (w : ℕ → ℕ) (running : Running) → opens_round running ≡ true → Quiet w running
-open_quiet w running opens = grind arith
-
--- no call returns Busy with the step that opens a round
-opens_not_busy : (shape : Shape) (running : Running) (word : ℕ) → Opens shape running → advance shape running word ≡ Answers A.Busy → ⊥
-opens_not_busy shape running word opens is = grind (arith, nat_tests)
-
-round-some : (shape : Shape) (running : Running) → IsPlace shape running → 0 < round_of running
-round-some shape running place = grind arith
+use Rattle.kfifo_machine.proofs.RoundsUndisturbed.{opens_round, ends_round, Opens, opens_next, RoundNext, round_next}
+use Rattle.kfifo_machine.proofs.RoundsUndisturbed.{words_by, NextQuiet}
+use Rattle.kfifo_machine.proofs.LostRounds.{Excused, Remains, RoundSoFar, Standing, loses_later, loses_now, lost_round}
+use Rattle.kfifo_machine.proofs.LostRounds.{open_quiet, opens_not_busy, other_standing, own_standing, quiet_after}
+use Rattle.kfifo_machine.proofs.LostRounds.{quiet_step, remains_more, round-some, so_far_more, word-moved}
 
 -- The call goes on to its last event, which answers Busy
 module _ (shape : Shape) (thread : ℕ) (last : Event) (before there : World) (mine : last.thread ≡ thread)
@@ -355,14 +46,16 @@ module _ (shape : Shape) (thread : ℕ) (last : Event) (before there : World) (m
 
   runs_to : (here : World) (events : List Event) → run shape (Some here) events ≡ Some before
       → run shape (Some here) (events ++ last ∷ []) ≡ Some there
-  runs_to here events is = run-append shape (Some here) events (last ∷ []) ∙ ap (λ (w : Option World). run shape w (last ∷ [])) is
+  runs_to here events is = run-append shape (Some here) events (last ∷ [])
+      ∙ ap (λ (w : Option World). run shape w (last ∷ [])) is
       ∙ ap world_of ends
 
   own_single : (here next : World) (outcome : Outcome) (e : Event) (running : Running) → e.thread ≡ thread
       → step shape here e ≡ Ok (next, outcome) → going shape (place_of here e.thread) e.begin ≡ Some running
       → AllOfRound (round_of running) (looks shape thread (Some here) (e ∷ []))
   own_single here next outcome e running own_is made goes =
-      subst (AllOfRound (round_of running)) (sym (looks-own shape thread here next outcome e [] running own_is made goes)) (refl, tt)
+      subst (AllOfRound (round_of running))
+      (sym (looks-own shape thread here next outcome e [] running own_is made goes)) (refl, tt)
 
   other_single : (here next : World) (outcome : Outcome) (e : Event) (round : ℕ) → thread ≢ e.thread
       → step shape here e ≡ Ok (next, outcome) → AllOfRound round (looks shape thread (Some here) (e ∷ []))
@@ -375,24 +68,27 @@ module _ (shape : Shape) (thread : ℕ) (last : Event) (before there : World) (m
       → IsPlace shape running
       → run shape (Some start) (past ++ e ∷ []) ≡ Some next_world → e.thread ≡ thread
       → RoundSoFar shape thread (round_of running) start (past ++ e ∷ [])
-      → (next : Next) → advance shape running (found shape here running) ≡ next → place_of next_world thread ≡ place_after next
+      → (next : Next) → advance shape running (found shape here running) ≡ next
+      → place_of next_world thread ≡ place_after next
       → Excused shape thread start (past ++ e ∷ []) ⊎ NextQuiet running (word_at next_world) next
       → AllGoOn (own thread (es ++ last ∷ [])) → run shape (Some next_world) es ≡ Some before
       → Remains shape thread (round_of running) start past (e ∷ (es ++ last ∷ []))
-  after_own es between within start here next_world past e running safe place reached own_is so_far (Answers answer) goes at standing on
-      runs =
+  after_own es between within start here next_world past e running safe place reached own_is so_far (Answers answer)
+      goes at standing on runs =
       absurd (none_after shape next_world there thread es last safe at mine on (runs_to next_world es runs))
-  after_own es between within start here next_world past e running safe place reached own_is so_far (Goes running_next) goes at standing on
-      runs =
+  after_own es between within start here next_world past e running safe place reached own_is so_far (Goes running_next)
+      goes at standing on runs =
       by_open (ends_round running running_next) refl
     where
       rounds : RoundNext running (Goes running_next)
       rounds = subst (RoundNext running) goes (round_next shape running (found shape here running) place)
 
-      by_open : (b : Bool) → ends_round running running_next ≡ b → Remains shape thread (round_of running) start past (e ∷ (es ++ last ∷ []))
+      by_open : (b : Bool) → ends_round running running_next ≡ b
+          → Remains shape thread (round_of running) start past (e ∷ (es ++ last ∷ []))
       by_open true opens =
           let less : round_of running_next + 1 ≡ round_of running =
-          subst (λ (b : Bool). cond b (round_of running_next + 1) (round_of running_next) ≡ round_of running) opens rounds in
+          subst (λ (b : Bool). cond b (round_of running_next + 1) (round_of running_next) ≡ round_of running) opens
+          rounds in
           let less_one : round_of running_next ≡ round_of running - 1 = omega arith in
           let excused : Excused shape thread start (past ++ e ∷ []) =
           elim standing [ inl d ↦ d | inr q ↦ absurd (let h : true ≡ false = sym opens ∙ q.0 in cc) ] in
@@ -409,7 +105,8 @@ module _ (shape : Shape) (thread : ℕ) (last : Event) (before there : World) (m
           }
       by_open false opens =
           let same : round_of running_next ≡ round_of running =
-          subst (λ (b : Bool). cond b (round_of running_next + 1) (round_of running_next) ≡ round_of running) opens rounds in
+          subst (λ (b : Bool). cond b (round_of running_next + 1) (round_of running_next) ≡ round_of running) opens
+          rounds in
           let stands : Standing shape thread start (past ++ e ∷ []) next_world running_next =
           elim standing [ inl d ↦ inl d | inr q ↦ inr q.1 ] in
           remains_more shape thread (round_of running) start past (es ++ last ∷ []) e
@@ -422,7 +119,8 @@ module _ (shape : Shape) (thread : ℕ) (last : Event) (before there : World) (m
   at_last start here past running sound reached at so_far standing on is =
       let same : here ≡ before = Some-injective here before is in
       let made : step shape here last ≡ Ok (there, Ended A.Busy) = ap (λ (w : World). step shape w last) same ∙ ends in
-      let one : own thread (last ∷ []) ≡ last ∷ [] = ap (λ (b : Bool). cond b (last ∷ []) []) (eq-eqb last.thread thread mine) in
+      let one : own thread (last ∷ []) ≡ last ∷ [] =
+      ap (λ (b : Bool). cond b (last ∷ []) []) (eq-eqb last.thread thread mine) in
       let none : last.begin ≡ None = (let h : AllGoOn (last ∷ []) = subst AllGoOn one on in h.0) in
       let place_at : place_of here last.thread ≡ Some running = ap (place_of here) mine ∙ at in
       let goes : going shape (place_of here last.thread) last.begin ≡ Some running =
@@ -438,7 +136,8 @@ module _ (shape : Shape) (thread : ℕ) (last : Event) (before there : World) (m
       ⊎ NextQuiet running (word_at there) (advance shape running (found shape here running)) =
       own_standing shape start here there past last (Ended A.Busy) running sound made none place_at reached
       (subst (λ (t : ℕ). Standing shape t start past here running) (sym mine) standing) in
-      let excused : Excused shape thread start (past ++ last ∷ []) = subst (λ (t : ℕ). Excused shape t start (past ++ last ∷ [])) mine
+      let excused : Excused shape thread start (past ++ last ∷ []) =
+      subst (λ (t : ℕ). Excused shape t start (past ++ last ∷ [])) mine
       (elim stands [ inl d ↦ d | inr q ↦ absurd (subst (NextQuiet running (word_at there)) answers q) ]) in
       let r : RoundSoFar shape thread (round_of running) start (past ++ last ∷ []) =
       so_far_more shape thread (round_of running) start here past last reached so_far
@@ -465,7 +164,8 @@ module _ (shape : Shape) (thread : ℕ) (last : Event) (before there : World) (m
             let both : (e.begin ≡ None) × AllGoOn (own thread (es ++ last ∷ [])) = subst AllGoOn own_is.1 on in
             let place_at : place_of here e.thread ≡ Some running = ap (place_of here) own_is.0 ∙ at in
             let goes : going shape (place_of here e.thread) e.begin ≡ Some running =
-            ap (going shape (place_of here e.thread)) both.0 ∙ ap (λ (p : Option Running). going shape p None) place_at in
+            ap (going shape (place_of here e.thread)) both.0
+            ∙ ap (λ (p : Option Running). going shape p None) place_at in
             let stands = own_standing shape start here m.0 past e m.1.0 running sound m.1.1.0 both.0 place_at reached
             (subst (λ (t : ℕ). Standing shape t start past here running) (sym own_is.0) standing) in
             let stands_so : Excused shape thread start (past ++ e ∷ [])
@@ -476,14 +176,16 @@ module _ (shape : Shape) (thread : ℕ) (last : Event) (before there : World) (m
             ap (place_of m.0) (sym own_is.0) ∙ ap (λ (w : World). place_of w e.thread)
             (own_step shape here e m.0 m.1.0 running m.1.1.0 place_at).0
             ∙ own_place shape here e.thread running (made_within shape here e m.0 m.1.0 m.1.1.0) in
-            after_own es between within start here m.0 past e running later (place_is shape here thread running sound at) reached_next
+            after_own es between within start here m.0 past e running later
+            (place_is shape here thread running sound at) reached_next
             own_is.0
             (so_far_more shape thread (round_of running) start here past e reached so_far
             (own_single here m.0 m.1.0 e running own_is.0 m.1.1.0 goes))
             (advance shape running (found shape here running)) refl at_next stands_so both.1 m.1.1.1
         | inr other ↦
             remains_more shape thread (round_of running) start past (es ++ last ∷ []) e
-            (within start m.0 (past ++ e ∷ []) running later reached_next (other_place shape here e m.0 m.1.0 thread other.0 m.1.1.0 ∙ at)
+            (within start m.0 (past ++ e ∷ []) running later reached_next
+            (other_place shape here e m.0 m.1.0 thread other.0 m.1.1.0 ∙ at)
             (so_far_more shape thread (round_of running) start here past e reached so_far
             (other_single here m.0 m.1.0 e (round_of running) other.0 m.1.1.0))
             (other_standing shape thread start here m.0 past e m.1.0 running sound m.1.1.0 other.0 at reached standing)
@@ -491,13 +193,16 @@ module _ (shape : Shape) (thread : ℕ) (last : Event) (before there : World) (m
       ]
 
   -- a round that begins with an own step from here
-  opens_now : (e : Event) (es : List Event) → Between es → Within es → (here next_world : World) (outcome : Outcome) (running : Running)
+  opens_now : (e : Event) (es : List Event) → Between es → Within es
+      → (here next_world : World) (outcome : Outcome) (running : Running)
       → IsSound shape next_world → IsPlace shape running → step shape here e ≡ Ok (next_world, outcome)
-      → e.thread ≡ thread → going shape (place_of here e.thread) e.begin ≡ Some running → next_world ≡ moved shape here e.thread running
+      → e.thread ≡ thread → going shape (place_of here e.thread) e.begin ≡ Some running
+      → next_world ≡ moved shape here e.thread running
       → Opens shape running → AllGoOn (own thread (es ++ last ∷ []))
       → run shape (Some next_world) es ≡ Some before → IsSound shape here
       → LosesAll shape thread (round_of running) here (e ∷ (es ++ last ∷ []))
-  opens_now e es between within here next_world outcome running safe place made own_is goes is_moved opens on runs sound =
+  opens_now e es between within here next_world outcome running safe place made own_is goes is_moved opens on runs
+      sound =
       let stands : Excused shape thread here (e ∷ [])
       ⊎ NextQuiet running (word_at next_world) (advance shape running (found shape here running)) = begins opens in
       let at_next : place_of next_world thread ≡ place_after (advance shape running (found shape here running)) =
@@ -544,12 +249,15 @@ module _ (shape : Shape) (thread : ℕ) (last : Event) (before there : World) (m
             let both : (e.begin ≡ None) × AllGoOn (own thread (es ++ last ∷ [])) = subst AllGoOn own_is.1 on in
             let place_at : place_of here e.thread ≡ Some running = ap (place_of here) own_is.0 ∙ at in
             let goes : going shape (place_of here e.thread) e.begin ≡ Some running =
-            ap (going shape (place_of here e.thread)) both.0 ∙ ap (λ (p : Option Running). going shape p None) place_at in
+            ap (going shape (place_of here e.thread)) both.0
+            ∙ ap (λ (p : Option Running). going shape p None) place_at in
             opens_now e es between within here m.0 m.1.0 running later place m.1.1.0 own_is.0 goes
             (own_step shape here e m.0 m.1.0 running m.1.1.0 place_at).0 opens both.1 m.1.1.1 sound
         | inr other ↦
-            loses_later shape thread (round_of running) here m.0 m.1.0 e (es ++ last ∷ []) (round-some shape running place) other.0 m.1.1.0
-            (between m.0 running later (other_place shape here e m.0 m.1.0 thread other.0 m.1.1.0 ∙ at) opens (subst AllGoOn other.1 on)
+            loses_later shape thread (round_of running) here m.0 m.1.0 e (es ++ last ∷ [])
+            (round-some shape running place) other.0 m.1.1.0
+            (between m.0 running later (other_place shape here e m.0 m.1.0 thread other.0 m.1.1.0 ∙ at) opens
+            (subst AllGoOn other.1 on)
             m.1.1.1)
       ]
 
@@ -581,17 +289,21 @@ begun_open B.Tick running is = absurd (cc)
 begun_open B.Seal running is = absurd (cc)
 
 -- the first event of the call
-first_own_step : (shape : Shape) (thread : ℕ) (call : Begin) (last : Event) (before there : World) → last.thread ≡ thread
+first_own_step : (shape : Shape) (thread : ℕ) (call : Begin) (last : Event) (before there : World)
+    → last.thread ≡ thread
     → step shape before last ≡ Ok (there, Ended A.Busy)
-    → (e : Event) (es : List Event) (here next : World) (outcome : Outcome) → IsSound shape here → IsSound shape next → e.thread ≡ thread
+    → (e : Event) (es : List Event) (here next : World) (outcome : Outcome) → IsSound shape here → IsSound shape next
+    → e.thread ≡ thread
     → e.begin ≡ Some call → step shape here e ≡ Ok (next, outcome)
     → AllGoOn (own thread (es ++ last ∷ [])) → run shape (Some next) es ≡ Some before → (0 < turns_of call)
     × LosesAll shape thread (turns_of call) here (e ∷ (es ++ last ∷ []))
-first_own_step shape thread call last before there mine ends e es here next outcome sound safe own_is begins made on runs =
+first_own_step shape thread call last before there mine ends e es here next outcome sound safe own_is begins made on
+    runs =
     elim (stepped shape here e next outcome made) [
       | inl s ↦
           let is_begun : begun call ≡ Some s.running =
-          begins_from shape (place_of here e.thread) call s.running (ap (going shape (place_of here e.thread)) (sym begins) ∙ s.goes) in
+          begins_from shape (place_of here e.thread) call s.running
+          (ap (going shape (place_of here e.thread)) (sym begins) ∙ s.goes) in
           let opens = begun_open call s.running is_begun in
           let place : IsPlace shape s.running = going_place shape (place_of here e.thread) e.begin s.running
           (λ r at. place_is shape here e.thread r sound at) s.goes in
@@ -599,27 +311,33 @@ first_own_step shape thread call last before there mine ends e es here next outc
           let both = claims shape thread last before there mine ends es in (
             let same = opens.1 in omega arith,
             subst (λ (m : ℕ). LosesAll shape thread m here (e ∷ (es ++ last ∷ []))) opens.1
-                (opens_now shape thread last before there mine ends e es both.0 both.1 here next outcome s.running safe place made own_is
+                (opens_now shape thread last before there mine ends e es both.0 both.1 here next outcome s.running safe
+                place made own_is
                 s.goes s.there_is (inl opens.0) on runs sound),
           )
       | inr t ↦
           let idle : place_of next thread ≡ None =
           ap (place_of next) (sym own_is) ∙ t.leaves e.thread ∙ t.idle in
           absurd (none_after shape next there thread es last safe idle mine on
-          (run-append shape (Some next) es (last ∷ []) ∙ ap (λ (w : Option World). run shape w (last ∷ [])) runs ∙ ap world_of ends))
+          (run-append shape (Some next) es (last ∷ []) ∙ ap (λ (w : Option World). run shape w (last ∷ [])) runs
+          ∙ ap world_of ends))
     ]
 
-loses_from : (shape : Shape) (here before there : World) (thread : ℕ) (call : Begin) (between others : List Event) (last : Event)
+loses_from : (shape : Shape) (here before there : World) (thread : ℕ) (call : Begin) (between others : List Event)
+    (last : Event)
     → IsSound shape here → last.thread ≡ thread
-    → step shape before last ≡ Ok (there, Ended A.Busy) → own thread (between ++ last ∷ []) ≡ event thread (Some call) ∷ others
+    → step shape before last ≡ Ok (there, Ended A.Busy) → own thread (between ++ last ∷ []) ≡ event thread (Some call)
+    ∷ others
     → AllGoOn others → run shape (Some here) between ≡ Some before
     → (0 < turns_of call) × LosesAll shape thread (turns_of call) here (between ++ last ∷ [])
 loses_from shape here before there thread call [] others last sound mine ends first on is =
     let same : here ≡ before = Some-injective here before is in
     let made : step shape here last ≡ Ok (there, Ended A.Busy) = ap (λ (w : World). step shape w last) same ∙ ends in
-    let one : own thread (last ∷ []) ≡ last ∷ [] = ap (λ (b : Bool). cond b (last ∷ []) []) (eq-eqb last.thread thread mine) in
+    let one : own thread (last ∷ []) ≡ last ∷ [] =
+    ap (λ (b : Bool). cond b (last ∷ []) []) (eq-eqb last.thread thread mine) in
     let both : last ∷ [] ≡ event thread (Some call) ∷ others = sym one ∙ first in
-    let begins : last.begin ≡ Some call = (let h : last ≡ event thread (Some call) = cc in ap (λ (x : Event). x.begin) h) in
+    let begins : last.begin ≡ Some call =
+    (let h : last ≡ event thread (Some call) = cc in ap (λ (x : Event). x.begin) h) in
     absurd (never_at_once shape here last there A.Busy call made begins)
 loses_from shape here before there thread call (e ∷ es) others last sound mine ends first on is =
     let m = first_made shape here e before es is in
@@ -627,13 +345,19 @@ loses_from shape here before there thread call (e ∷ es) others last sound mine
     elim (own_first thread e (es ++ last ∷ [])) [
       | inl own_is ↦
           let both : e ∷ own thread (es ++ last ∷ []) ≡ event thread (Some call) ∷ others = sym own_is.1 ∙ first in
-          let begins : e.begin ≡ Some call = (let h : e ≡ event thread (Some call) = cc in ap (λ (x : Event). x.begin) h) in
+          let begins : e.begin ≡ Some call =
+          (let h : e ≡ event thread (Some call) = cc in ap (λ (x : Event). x.begin) h) in
           let rest : own thread (es ++ last ∷ []) ≡ others = cc in
-          first_own_step shape thread call last before there mine ends e es here m.0 m.1.0 sound later own_is.0 begins m.1.1.0
+          first_own_step shape thread call last before there mine ends e es here m.0 m.1.0 sound later own_is.0 begins
+          m.1.1.0
           (subst AllGoOn (sym rest) on) m.1.1.1
       | inr other ↦
-          let next = loses_from shape m.0 before there thread call es others last later mine ends (sym other.1 ∙ first) on m.1.1.1 in
-          (next.0, loses_later shape thread (turns_of call) here m.0 m.1.0 e (es ++ last ∷ []) next.0 other.0 m.1.1.0 next.1)
+          let next = loses_from shape m.0 before there thread call es others last later mine ends (sym other.1 ∙ first)
+          on m.1.1.1 in (
+            next.0,
+            loses_later shape thread (turns_of call) here m.0 m.1.0 e (es ++ last ∷ []) next.0 other.0 m.1.1.0
+                next.1,
+          )
     ]
 
 -- Busy has its cause

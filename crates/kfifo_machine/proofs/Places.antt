@@ -1,6 +1,6 @@
 -- A step leads from a place to a place, and brings the call nearer to its end.
-use Rattle.std.proofs.Common.{zero, suc, replicate, map, ◌≡◌, ◌≢◌, ℕ, ◌+◌, ◌-◌, ◌*◌, ◌%◌, ◌<◌, ◌≤◌, ◌⊎◌, inl, inr, refl, sym, ap, ◌∙◌}
-use Rattle.std.proofs.Common.{arith, Option, Some, None, List, length, get_or, set, eqb}
+use Rattle.std.proofs.Common.{zero, suc, replicate, map, ◌≡◌, ◌≢◌, ℕ, ◌+◌, ◌-◌, ◌*◌, ◌%◌, ◌<◌, ◌≤◌, ◌⊎◌, inl, inr, refl}
+use Rattle.std.proofs.Common.{sym, ap, ◌∙◌, arith, Option, Some, None, List, length, get_or, set, eqb}
 use Rattle.std.proofs.Math.Nat.{mod-lt, mul-le-mul_right}
 use Rattle.std.proofs.lemmas.Bool.{cases_Bool, cases_eq, cond_both, eqb-true}
 use Rattle.std.proofs.lemmas.List.{length-set, length-replicate, get_or-set_other}
@@ -38,11 +38,13 @@ scan_index-is_slot shape segment start offset k h =
     let m : suc segment * shape.k ≤ shape.n * shape.k = mul-le-mul_right shape.k h in
     (refl, record { above = omega arith; below = omega arith })
 
-pub in_table : (shape : Shape) → (running : Running) → IsPlace shape running → accessed (access shape running) < 1 + shape.n * shape.k
+pub in_table : (shape : Shape) → (running : Running) → IsPlace shape running
+    → accessed (access shape running) < 1 + shape.n * shape.k
 in_table shape running s = grind (arith, nat_tests, scan_index-is_slot)
 
 pub stays_place : (shape : Shape) → (running : Running) (word : ℕ) → IsPlace shape running
-    → (accessed (access shape running) ≡ 0 → IsEnds shape word) → (0 < accessed (access shape running) → IsSlotWord shape word)
+    → (accessed (access shape running) ≡ 0 → IsEnds shape word)
+    → (0 < accessed (access shape running) → IsSlotWord shape word)
     → NextIsPlace shape (advance shape running word)
 stays_place shape running word s ends slot = grind (arith, nat_tests, version-filled_with, scan_index-is_slot)
 
@@ -85,22 +87,27 @@ pub budget_falls : (shape : Shape) → (running : Running) (word : ℕ) → IsPl
     → NextBelow shape.k (budget shape.k running) (advance shape running word)
 budget_falls shape running word s = grind (arith, nat_tests, round-less)
 
-pub budget-begin : (k item start turns : ℕ) → 0 < turns → budget k (R.Enqueue item start turns E.LoadEnds) ≡ turns * (2 * k + 9)
-budget-begin k item start turns h = let e : turns ≡ (turns - 1) + 1 = omega arith in omega (arith, ap (λ x. x * (2 * k + 9)) e)
+pub budget-begin : (k item start turns : ℕ) → 0 < turns → budget k (R.Enqueue item start turns E.LoadEnds)
+    ≡ turns * (2 * k + 9)
+budget-begin k item start turns h = let e : turns ≡ (turns - 1) + 1 = omega arith in
+    omega (arith, ap (λ x. x * (2 * k + 9)) e)
 
 -- what a step finds in a sound state
-pub found_by : (shape : Shape) (words : List ℕ) (places : List (Option Running)) (running : Running) → IsState shape words places
+pub found_by : (shape : Shape) (words : List ℕ) (places : List (Option Running)) (running : Running)
+    → IsState shape words places
     → IsFoundBy shape running (get_or words (accessed (access shape running)) 0)
 found_by shape words places running h = let e = h.ends in grind arith
 
 length-after : (a : Access) (words : List ℕ) → length (words_after a words) ≡ length words
 length-after (Load index) words = refl
 length-after (Exchange index from to) words =
-    cond_both (eqb (get_or words index 0) from) (set words index to) words (λ ws. length ws ≡ length words) (λ _. length-set words index to)
+    cond_both (eqb (get_or words index 0) from) (set words index to) words (λ ws. length ws ≡ length words)
+    (λ _. length-set words index to)
     (λ _. refl)
 
 -- a word after an access
-pub get_or-after : (a : Access) (words : List ℕ) (i : ℕ) → accessed a < length words → (get_or (words_after a words) i 0 ≡ get_or words i 0)
+pub get_or-after : (a : Access) (words : List ℕ) (i : ℕ) → accessed a < length words
+    → (get_or (words_after a words) i 0 ≡ get_or words i 0)
     ⊎ ((i ≡ accessed a) × ((from : ℕ) × ((to : ℕ)
     × ((a ≡ Exchange (accessed a) from to) × (get_or words i 0 ≡ from) × (get_or (words_after a words) i 0 ≡ to)))))
 get_or-after (Load index) words i h = inl refl
@@ -134,7 +141,8 @@ tail-ends_word : (head tail version : ℕ) → head < 4096 → tail < 4096 → t
 unfolding tail_of ends_word
 tail-ends_word head tail version h t = omega arith
 
-version-ends_word : (head tail version : ℕ) → head < 4096 → tail < 4096 → version_of (ends_word head tail version) ≡ version
+version-ends_word : (head tail version : ℕ) → head < 4096 → tail < 4096 → version_of (ends_word head tail version)
+    ≡ version
 unfolding version_of ends_word
 version-ends_word head tail version h t = omega arith
 
@@ -147,16 +155,19 @@ unfolding value_of slot_word
 value-emptied filled = omega arith
 
 -- the words that an exchange writes are sound
-writes_ends : (shape : Shape) → (running : Running) (from to : ℕ) → IsPlace shape running → access shape running ≡ Exchange 0 from to
+writes_ends : (shape : Shape) → (running : Running) (from to : ℕ) → IsPlace shape running
+    → access shape running ≡ Exchange 0 from to
     → IsEnds shape to
 writes_ends shape running from to s e = grind
     (arith, nat_tests, head-ends_word, tail-ends_word, version-ends_word, next_segment-below, scan_index-is_slot)
 
 writes_slot : (shape : Shape) → (running : Running) (index from to : ℕ) → IsPlace shape running → 0 < index
     → access shape running ≡ Exchange index from to → IsSlotWord shape to
-writes_slot shape running index from to s pos e = grind (arith, nat_tests, version-filled_with, value-emptied, scan_index-is_slot)
+writes_slot shape running index from to s pos e =
+    grind (arith, nat_tests, version-filled_with, value-emptied, scan_index-is_slot)
 
-next_place : (shape : Shape) (next : Next) (r : Running) → NextIsPlace shape next → place_after next ≡ Some r → IsPlace shape r
+next_place : (shape : Shape) (next : Next) (r : Running) → NextIsPlace shape next → place_after next ≡ Some r
+    → IsPlace shape r
 next_place shape next r h e = grind arith
 
 -- a sound state stays sound
@@ -178,12 +189,13 @@ state_stays shape words places thread running h s t =
       ];
       each_slot = λ i pos below. elim (get_or-after (access shape running) words i within) [
         | inl e ↦ rw e (h.each_slot i pos below)
-        | inr k ↦ rw k.1.1.1.2 (writes_slot shape running (accessed (access shape running)) k.1.0 k.1.1.0 s (omega (arith, pos, k.0))
-            k.1.1.1.0)
+        | inr k ↦ rw k.1.1.1.2 (writes_slot shape running (accessed (access shape running)) k.1.0 k.1.1.0 s
+            (omega (arith, pos, k.0)) k.1.1.1.0)
       ];
       each_place = λ u r f. elim (cases_eq u thread) [
         | inl same ↦ next_place shape (advance shape running (get_or words (accessed (access shape running)) 0)) r next
-            (sym (get_or-set_at places thread u (place_after (advance shape running (get_or words (accessed (access shape running)) 0)))
+            (sym (get_or-set_at places thread u
+            (place_after (advance shape running (get_or words (accessed (access shape running)) 0)))
             None same t) ∙ f)
         | inr ne ↦ h.each_place u r (sym (get_or-set_other places thread u
             (place_after (advance shape running (get_or words (accessed (access shape running)) 0))) None ne) ∙ f)
@@ -191,19 +203,22 @@ state_stays shape words places thread running h s t =
     }
 
 -- the state after a step, as the machine says
-pub moved_is : (shape : Shape) (words : List ℕ) (places : List (Option Running)) (thread : ℕ) (running : Running) (a : Access) (word : ℕ)
-    (next : Next) (new_words : List ℕ) (new_places : List (Option Running))
-    → a ≡ access shape running → word ≡ get_or words (accessed a) 0 → next ≡ advance shape running word → new_words ≡ words_after a words
+pub moved_is : (shape : Shape) (words : List ℕ) (places : List (Option Running)) (thread : ℕ) (running : Running)
+    (a : Access) (word : ℕ) (next : Next) (new_words : List ℕ) (new_places : List (Option Running))
+    → a ≡ access shape running → word ≡ get_or words (accessed a) 0 → next ≡ advance shape running word
+    → new_words ≡ words_after a words
     → new_places ≡ set places thread (place_after next)
     → ◌≡◌ {A = World} (record { words = new_words; places = new_places })
     (moved shape (record { words = words; places = places }) thread running)
 unfolding moved found word_at
-moved_is shape words places thread running a word next new_words new_places ea ew en e1 e2 = rw (e2, e1, en, ew, ea) refl
+moved_is shape words places thread running a word next new_words new_places ea ew en e1 e2 =
+    rw (e2, e1, en, ew, ea) refl
 
-pub sound_is : (shape : Shape) → (words : List ℕ) (places : List (Option Running)) (thread : ℕ) (running : Running) (a : Access) (word : ℕ)
-    (next : Next) (new_words : List ℕ) (new_places : List (Option Running))
+pub sound_is : (shape : Shape) → (words : List ℕ) (places : List (Option Running)) (thread : ℕ) (running : Running)
+    (a : Access) (word : ℕ) (next : Next) (new_words : List ℕ) (new_places : List (Option Running))
     → IsState shape words places → IsPlace shape running → thread < length places
-    → a ≡ access shape running → word ≡ get_or words (accessed a) 0 → next ≡ advance shape running word → new_words ≡ words_after a words
+    → a ≡ access shape running → word ≡ get_or words (accessed a) 0 → next ≡ advance shape running word
+    → new_words ≡ words_after a words
     → new_places ≡ set places thread (place_after next)
     → IsState shape new_words new_places
 sound_is shape words places thread running a word next new_words new_places h s t ea ew en e1 e2 =
@@ -235,7 +250,8 @@ zero_word zero i = refl
 zero_word (suc n) zero = refl
 zero_word (suc n) (suc i) = zero_word n i
 
-pub opens : (shape : Shape) (size threads : ℕ) → size ≡ 2 + shape.n * shape.k → IsState shape (replicate size 0) (replicate threads None)
+pub opens : (shape : Shape) (size threads : ℕ) → size ≡ 2 + shape.n * shape.k
+    → IsState shape (replicate size 0) (replicate threads None)
 opens shape size threads is = record {
   size = length-replicate size 0 ∙ is;
   ends = rw (zero_word size 0) (zero-ends shape);
@@ -244,21 +260,26 @@ opens shape size threads is = record {
 }
 
 -- a tick leaves the state sound
-pub tick_stays : (shape : Shape) (words : List ℕ) (places : List (Option Running)) (time : ℕ) → IsState shape words places
+pub tick_stays : (shape : Shape) (words : List ℕ) (places : List (Option Running)) (time : ℕ)
+    → IsState shape words places
     → IsState shape (set words (clock_at shape.k shape.n) time) places
 tick_stays shape words places time h =
     record {
       size = length-set words (clock_at shape.k shape.n) time ∙ h.size;
       ends = rw (get_or-set_other words (clock_at shape.k shape.n) 0 time 0 (λ e. absurd (omega arith))) h.ends;
-      each_slot = λ i above below. rw (get_or-set_other words (clock_at shape.k shape.n) i time 0 (λ e. absurd (omega arith)))
-          (h.each_slot i above below);
+      each_slot = λ i above below. rw (get_or-set_other words (clock_at shape.k shape.n) i time 0
+          (λ e. absurd (omega arith))) (h.each_slot i above below);
       each_place = h.each_place;
     }
 
 -- the sealed ends name the same segments
 seal_ends : (shape : Shape) (ends : ℕ) → IsEnds shape ends → IsEnds shape (sealed_word shape ends)
 unfolding head_of tail_of version_of ends_word
-seal_ends shape ends h = record { head = omega (arith, h.head, h.tail); tail = omega (arith, h.head, h.tail); version = omega (arith, h.head, h.tail) }
+seal_ends shape ends h = record {
+  head = omega (arith, h.head, h.tail);
+  tail = omega (arith, h.head, h.tail);
+  version = omega (arith, h.head, h.tail);
+}
 
 -- a seal leaves the state sound
 pub seal_stays : (shape : Shape) (words : List ℕ) (places : List (Option Running)) → IsState shape words places
@@ -267,7 +288,8 @@ seal_stays shape words places h =
     let word = sealed_word shape (get_or words 0 0) in
     record {
       size = length-set words 0 word ∙ h.size;
-      ends = rw (get_or-set_at words 0 0 word 0 refl (omega (arith, h.size))) (seal_ends shape (get_or words 0 0) h.ends);
+      ends = rw (get_or-set_at words 0 0 word 0 refl (omega (arith, h.size)))
+          (seal_ends shape (get_or words 0 0) h.ends);
       each_slot = λ i above below. rw (get_or-set_other words 0 i word 0 (λ e. absurd (omega arith)))
           (h.each_slot i above below);
       each_place = h.each_place;

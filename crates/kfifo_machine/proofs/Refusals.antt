@@ -1,6 +1,7 @@
 -- A call that is refused leaves no item of its own in the table.
-use Rattle.std.proofs.Common.{◌≡◌, ◌≢◌, ◌⊎◌, ℕ, ◌-◌, ◌<◌, ◌≤◌, List, [], ◌∷◌, ◌++◌, length, Option, Some, None, Ok, Bool, true, false, refl}
-use Rattle.std.proofs.Common.{sym, ap, ◌∙◌, subst, inl, inr, arith, cond, eqb, eq-eqb, eqb-true}
+use Rattle.std.proofs.Common.{◌≡◌, ◌≢◌, ◌⊎◌, ℕ, ◌-◌, ◌<◌, ◌≤◌, List, [], ◌∷◌, ◌++◌, length, Option, Some, None, Ok}
+use Rattle.std.proofs.Common.{Bool, true, false, refl, sym, ap, ◌∙◌, subst, inl, inr, arith, cond, eqb, eq-eqb}
+use Rattle.std.proofs.Common.{eqb-true}
 use Rattle.std.proofs.lemmas.Bool.Decides.{nat_tests}
 use Rattle.std.proofs.lemmas.List.{append_cancel_left, append_assoc}
 use Rattle.kfifo_machine.proofs.Types.{Answer, Begin, EnqueuePhase, Event, Next, Outcome, Running, Shape}
@@ -11,12 +12,13 @@ use Rattle.kfifo_machine.specs.declared.place.Running.TheVariants as R
 use Rattle.kfifo_machine.specs.declared.place.Next.TheVariants.{Goes, Answers}
 use Rattle.kfifo_machine.specs.declared.place.Access.TheVariants.{Exchange}
 use Rattle.kfifo_machine.specs.Program.{access, accessed, advance, filled_with, emptied}
-use Rattle.kfifo_machine.specs.Machine.{World, opening, word_at, place_of, place_after, outcome_of, moved, found, step, world_of, run}
-use Rattle.kfifo_machine.specs.Machine.{after}
+use Rattle.kfifo_machine.specs.Machine.{World, opening, word_at, place_of, place_after, outcome_of, moved, found, step}
+use Rattle.kfifo_machine.specs.Machine.{world_of, run, after}
 use Rattle.kfifo_machine.specs.Runs.{event, own, going, AllGoOn, BeginsOnce, CompleteExecution}
 use Rattle.kfifo_machine.specs.Places.{IsPlace}
 use Rattle.kfifo_machine.specs.Laws.{IsRefusal, PutsNext, LeavesNone}
-use Rattle.kfifo_machine.proofs.Schedules.{Some-injective, run_on, after-snoc, first_made, made_within, stepped, other_place, own-append}
+use Rattle.kfifo_machine.proofs.Schedules.{Some-injective, run_on, after-snoc, first_made, made_within, stepped}
+use Rattle.kfifo_machine.proofs.Schedules.{other_place, own-append}
 use Rattle.kfifo_machine.proofs.Sound.{IsSound, sound, place_is, step_sound}
 use Rattle.kfifo_machine.proofs.Versions.{rises, won_word, word_rises, run_rises}
 use Rattle.kfifo_machine.proofs.Budget.{own_place, own_first, goes_on_from}
@@ -84,13 +86,16 @@ carry_on shape (R.Dequeue start left phase) seen index word c = elim c [ ]
 -- A word that a thread put in its call: it is out for good, or the thread still carries it, or the call has ended
 pub data Status (world : World) (thread index word : ℕ) : Type 0 where
   Out : word < word_at world index → Status world thread index word
-  In : (running : Running) → place_of world thread ≡ Some running → CarriesAt running index word → Status world thread index word
+  In : (running : Running) → place_of world thread ≡ Some running → CarriesAt running index word
+      → Status world thread index word
   Over : place_of world thread ≡ None → Status world thread index word
 
 -- a won undo takes the word out
-undone : (shape : Shape) (here : World) (thread : ℕ) (running : Running) (index word : ℕ) → IsSound shape here → IsPlace shape running
+undone : (shape : Shape) (here : World) (thread : ℕ) (running : Running) (index word : ℕ) → IsSound shape here
+    → IsPlace shape running
     → accessed (access shape running) ≡ index
-    → Undoes shape running (found shape here running) index word → word < word_at (moved shape here thread running) index
+    → Undoes shape running (found shape here running) index word
+    → word < word_at (moved shape here thread running) index
 unfolding found
 undone shape here thread running index word sound place at u =
     let is : access shape running ≡ Exchange index (word_at here index) (emptied word) =
@@ -105,10 +110,12 @@ undo_accessed : (shape : Shape) (running : Running) (seen index word : ℕ) → 
 undo_accessed shape running seen index word u = ap accessed u.exchange
 
 -- the status after the thread's own step, which it is not over with, and whether the word is out where the call ends so
-own_status : (shape : Shape) (here : World) (thread : ℕ) (running : Running) (index word : ℕ) → IsSound shape here → IsPlace shape running
+own_status : (shape : Shape) (here : World) (thread : ℕ) (running : Running) (index word : ℕ) → IsSound shape here
+    → IsPlace shape running
     → thread < length here.places
     → CarriesAt running index word
-    → (word < word_at (moved shape here thread running) index) ⊎ NextCarries (advance shape running (found shape here running)) index word
+    → (word < word_at (moved shape here thread running) index)
+    ⊎ NextCarries (advance shape running (found shape here running)) index word
 own_status shape here thread running index word sound place within c =
     elim (carry_on shape running (found shape here running) index word c) [
       | inl kept ↦ inr kept
@@ -116,7 +123,8 @@ own_status shape here thread running index word sound place within c =
           (undo_accessed shape running (found shape here running) index word u) u)
     ]
 
-next_status : (world : World) (thread index word : ℕ) (next : Next) → place_of world thread ≡ place_after next → NextCarries next index word
+next_status : (world : World) (thread index word : ℕ) (next : Next) → place_of world thread ≡ place_after next
+    → NextCarries next index word
     → Status world thread index word
 next_status world thread index word (Goes running) at c = In running at c
 next_status world thread index word (Answers answer) at c = Over at
@@ -124,7 +132,8 @@ next_status world thread index word (Answers answer) at c = Over at
 -- an event of the thread that begins nothing is a step from its place
 pub own_step : (shape : Shape) (here : World) (e : Event) (there : World) (outcome : Outcome) (running : Running)
     → step shape here e ≡ Ok (there, outcome) → place_of here e.thread ≡ Some running
-    → (there ≡ moved shape here e.thread running) × (outcome ≡ outcome_of (advance shape running (found shape here running)))
+    → (there ≡ moved shape here e.thread running)
+    × (outcome ≡ outcome_of (advance shape running (found shape here running)))
 own_step shape here e there outcome running is at =
     elim (stepped shape here e there outcome is) [
       | inl s ↦ let same : s.running ≡ running = from_place (place_of here e.thread) e.begin s.running at s.goes in (
@@ -139,19 +148,24 @@ own_step shape here e there outcome running is at =
     from_some None r goes = sym (Some-injective running r goes)
     from_some (Some b) r goes = absurd (cc)
 
-    from_place : (place : Option Running) (begin : Option Begin) (r : Running) → place ≡ Some running → going shape place begin ≡ Some r
+    from_place : (place : Option Running) (begin : Option Begin) (r : Running) → place ≡ Some running
+        → going shape place begin ≡ Some r
         → r ≡ running
-    from_place place begin r at goes = from_some begin r (ap (λ (p : Option Running). going shape p begin) (sym at) ∙ goes)
+    from_place place begin r at goes =
+        from_some begin r (ap (λ (p : Option Running). going shape p begin) (sym at) ∙ goes)
 
-mine_status : (shape : Shape) (here : World) (e : Event) (there : World) (outcome : Outcome) (index word : ℕ) → IsSound shape here
+mine_status : (shape : Shape) (here : World) (e : Event) (there : World) (outcome : Outcome) (index word : ℕ)
+    → IsSound shape here
     → step shape here e ≡ Ok (there, outcome)
     → e.begin ≡ None → Status here e.thread index word → Status there e.thread index word
 mine_status shape here e there outcome index word sound is none (Out up) =
-    Out (let more : word_at here index ≤ word_at there index = word_rises shape here e there outcome index sound is in omega arith)
+    Out (let more : word_at here index ≤ word_at there index = word_rises shape here e there outcome index sound is in
+    omega arith)
 mine_status shape here e there outcome index word sound is none (In running at c) =
     let both = own_step shape here e there outcome running is at in
     let within : e.thread < length here.places = made_within shape here e there outcome is in
-    elim (own_status shape here e.thread running index word sound (place_is shape here e.thread running sound at) within c) [
+    elim (own_status shape here e.thread running index word sound (place_is shape here e.thread running sound at)
+    within c) [
       | inl up ↦ Out (subst (λ (w : World). word < word_at w index) (sym both.0) up)
       | inr kept ↦ next_status there e.thread index word (advance shape running (found shape here running))
           (ap (λ (w : World). place_of w e.thread) both.0 ∙ own_place shape here e.thread running within) kept
@@ -161,11 +175,13 @@ mine_status shape here e there outcome index word sound is none (Over at) =
     absurd (let h : None ≡ Some k.0 = sym at ∙ k.1 in cc)
 
 -- the events of others change nothing of it
-others_status : (shape : Shape) (here : World) (e : Event) (there : World) (outcome : Outcome) (thread index word : ℕ) → IsSound shape here
+others_status : (shape : Shape) (here : World) (e : Event) (there : World) (outcome : Outcome) (thread index word : ℕ)
+    → IsSound shape here
     → step shape here e ≡ Ok (there, outcome)
     → thread ≢ e.thread → Status here thread index word → Status there thread index word
 others_status shape here e there outcome thread index word sound is apart (Out up) =
-    Out (let more : word_at here index ≤ word_at there index = word_rises shape here e there outcome index sound is in omega arith)
+    Out (let more : word_at here index ≤ word_at there index = word_rises shape here e there outcome index sound is in
+    omega arith)
 others_status shape here e there outcome thread index word sound is apart (In running at c) =
     In running (other_place shape here e there outcome thread apart is ∙ at) c
 others_status shape here e there outcome thread index word sound is apart (Over at) =
@@ -195,20 +211,25 @@ run_status shape here there thread index word (e ∷ es) sound on is status =
 not_done : (next : Next) (answer : Answer) (index word : ℕ) → outcome_of next ≡ Ended answer → IsRefusal answer
     → NextCarries next index word → ⊥
 not_done (Goes running) answer index word ends refuses kept = cc
-not_done (Answers a) answer index word ends refuses kept = let same : answer ≡ Done = let e : a ≡ answer = cc in sym e ∙ kept in
+not_done (Answers a) answer index word ends refuses kept = let same : answer ≡ Done = let e : a ≡ answer = cc in
+    sym e ∙ kept in
     let h : IsRefusal Done = subst IsRefusal same refuses in h
 
-last_out : (shape : Shape) (here : World) (e : Event) (there : World) (answer : Answer) (index word : ℕ) → IsSound shape here
+last_out : (shape : Shape) (here : World) (e : Event) (there : World) (answer : Answer) (index word : ℕ)
+    → IsSound shape here
     → step shape here e ≡ Ok (there, Ended answer) → IsRefusal answer
     → e.begin ≡ None → Status here e.thread index word → word < word_at there index
-last_out shape here e there answer index word sound is refuses none (Out up) = let more : word_at here index ≤ word_at there index =
+last_out shape here e there answer index word sound is refuses none (Out up) =
+    let more : word_at here index ≤ word_at there index =
     word_rises shape here e there (Ended answer) index sound is in omega arith
 last_out shape here e there answer index word sound is refuses none (In running at c) =
     let both = own_step shape here e there (Ended answer) running is at in
     elim (own_status shape here e.thread running index word sound (place_is shape here e.thread running sound at)
     (made_within shape here e there (Ended answer) is) c) [
       | inl up ↦ subst (λ (w : World). word < word_at w index) (sym both.0) up
-      | inr kept ↦ absurd (not_done (advance shape running (found shape here running)) answer index word (sym both.1) refuses kept)
+      | inr kept ↦
+          absurd (not_done (advance shape running (found shape here running)) answer index word (sym both.1) refuses
+          kept)
     ]
 last_out shape here e there answer index word sound is refuses none (Over at) =
     let k = goes_on_from shape here e there (Ended answer) is none in
@@ -233,9 +254,11 @@ split_last (x ∷ xs) (y ∷ ys) zs last e is =
     ]
 
 -- those after an event of a call go on
-rest_goes_on : (xs ys others : List Event) (first e : Event) → xs ++ e ∷ ys ≡ first ∷ others → AllGoOn others → AllGoOn ys
+rest_goes_on : (xs ys others : List Event) (first e : Event) → xs ++ e ∷ ys ≡ first ∷ others → AllGoOn others
+    → AllGoOn ys
 rest_goes_on [] ys others first e is on = subst AllGoOn (let h : ys ≡ others = cc in sym h) on
-rest_goes_on (x ∷ xs) ys others first e is on = after_prefix xs (subst AllGoOn (let h : xs ++ e ∷ ys ≡ others = cc in sym h) on)
+rest_goes_on (x ∷ xs) ys others first e is on =
+    after_prefix xs (subst AllGoOn (let h : xs ++ e ∷ ys ≡ others = cc in sym h) on)
   where
     after_prefix : (xs : List Event) → AllGoOn (xs ++ e ∷ ys) → AllGoOn ys
     after_prefix [] on = on.1
@@ -251,12 +274,14 @@ put_goes : (shape : Shape) (here : World) (item start left ends index : ℕ)
     ≡ Goes (R.Enqueue item start left (E.ReloadSlot ends index (filled_with item (word_at here index))))
 unfolding found
 put_goes shape here item start left ends index =
-    ap (λ (b : Bool). cond b (Goes (R.Enqueue item start left (E.ReloadSlot ends index (filled_with item (word_at here index)))))
+    ap (λ (b : Bool). cond b
+    (Goes (R.Enqueue item start left (E.ReloadSlot ends index (filled_with item (word_at here index)))))
     (cond (eqb left 1) (Answers Busy) (Goes (R.Enqueue item start (left - 1) E.LoadEnds))))
     (eq-eqb (word_at here index) (word_at here index) refl)
 
 -- after a won put the thread carries the word, and its call goes on
-put_carries : (shape : Shape) (here : World) (e : Event) (there : World) (outcome : Outcome) (item start left ends index word : ℕ)
+put_carries : (shape : Shape) (here : World) (e : Event) (there : World) (outcome : Outcome)
+    (item start left ends index word : ℕ)
     → step shape here e ≡ Ok (there, outcome)
     → place_of here e.thread ≡ Some (R.Enqueue item start left (E.Put ends index (word_at here index)))
     → word ≡ filled_with item (word_at here index)
@@ -267,9 +292,11 @@ put_carries shape here e there outcome item start left ends index word is at put
     let goes = put_goes shape here item start left ends index in
     let next : place_of there e.thread ≡ Some
     (R.Enqueue item start left (E.ReloadSlot ends index (filled_with item (word_at here index)))) =
-    ap (λ (w : World). place_of w e.thread) both.0 ∙ own_place shape here e.thread running (made_within shape here e there outcome is)
+    ap (λ (w : World). place_of w e.thread) both.0
+    ∙ own_place shape here e.thread running (made_within shape here e there outcome is)
     ∙ ap place_after goes in (
-      In (R.Enqueue item start left (E.ReloadSlot ends index (filled_with item (word_at here index)))) next (refl, sym puts),
+      In (R.Enqueue item start left (E.ReloadSlot ends index (filled_with item (word_at here index)))) next
+          (refl, sym puts),
       both.1
           ∙ ap outcome_of goes,
     )
@@ -284,25 +311,31 @@ out_at_end shape threads thread call answer old new w refuses some rest e index 
     let parts : old ++ (w.between ++ w.last ∷ []) ≡ old ++ (some ++ e ∷ rest) =
     sym (append_assoc old w.between (w.last ∷ [])) ∙ sym w.new_is ∙ split ∙ append_assoc old some (e ∷ rest) in
     let here_at : place_of put.here e.thread ≡ Some
-    (R.Enqueue put.item put.start put.left (E.Put put.ends index (word_at put.here index))) = ap (place_of put.here) mine ∙ put.place in
+    (R.Enqueue put.item put.start put.left (E.Put put.ends index (word_at put.here index))) =
+    ap (place_of put.here) mine ∙ put.place in
     let whole : after shape threads new ≡ Some w.world =
-    ap (after shape threads) w.new_is ∙ after-snoc shape threads (old ++ w.between) w.before w.last w.reached ∙ ap world_of w.ends in
-    elim (split_last w.between some rest w.last e (append_cancel_left old (w.between ++ w.last ∷ []) (some ++ e ∷ rest) parts)) [
+    ap (after shape threads) w.new_is ∙ after-snoc shape threads (old ++ w.between) w.before w.last w.reached
+    ∙ ap world_of w.ends in
+    elim (split_last w.between some rest w.last e (append_cancel_left old (w.between ++ w.last ∷ []) (some ++ e ∷ rest)
+    parts)) [
       | inl k ↦
           let same : put.here ≡ w.before = Some-injective put.here w.before
           (sym put.reached ∙ ap (λ (xs : List Event). after shape threads (old ++ xs)) (sym k.2) ∙ w.reached) in
           let made : step shape put.here e ≡ Ok (w.world, Ended answer) =
           ap (λ (x : World). step shape x e) same ∙ ap (step shape w.before) (sym k.1) ∙ w.ends in
-          let c = put_carries shape put.here e w.world (Ended answer) put.item put.start put.left put.ends index word made here_at
+          let c = put_carries shape put.here e w.world (Ended answer) put.item put.start put.left put.ends index word
+          made here_at
           put.puts in
           absurd (let h : Ended answer ≡ Went = c.1 in cc)
       | inr k ↦
           let reached : run shape (Some put.here) (e ∷ k.0) ≡ Some w.before =
           sym (run_on shape (Some (opening shape threads)) put.here (old ++ some) (e ∷ k.0) put.reached)
-          ∙ ap (after shape threads) (append_assoc old some (e ∷ k.0) ∙ ap (λ (xs : List Event). old ++ xs) (sym k.1.1)) ∙ w.reached in
+          ∙ ap (after shape threads) (append_assoc old some (e ∷ k.0) ∙ ap (λ (xs : List Event). old ++ xs) (sym k.1.1))
+          ∙ w.reached in
           let m = first_made shape put.here e w.before k.0 reached in
           let safe : IsSound shape put.here = sound shape threads (old ++ some) put.here put.reached in
-          let c = put_carries shape put.here e m.0 m.1.0 put.item put.start put.left put.ends index word m.1.1.0 here_at put.puts in
+          let c = put_carries shape put.here e m.0 m.1.0 put.item put.start put.left put.ends index word m.1.1.0 here_at
+          put.puts in
           let onwards : AllGoOn (own thread (k.0 ++ w.last ∷ [])) =
           own_rest thread call w.between some k.0 w.last e k.1.1 mine w.one_call in
           let parted : AllGoOn (own thread k.0 ++ w.last ∷ []) =
@@ -310,7 +343,8 @@ out_at_end shape threads thread call answer old new w refuses some rest e index 
           ∙ ap (λ (xs : List Event). own thread k.0 ++ xs) (own_last thread w.last w.last_own)) onwards in
           let ends_so = first_part_goes_on (own thread k.0) w.last parted in
           let status : Status w.before thread index word =
-          run_status shape m.0 w.before thread index word k.0 (step_sound shape put.here e m.0 m.1.0 safe m.1.1.0) ends_so.0 m.1.1.1
+          run_status shape m.0 w.before thread index word k.0 (step_sound shape put.here e m.0 m.1.0 safe m.1.1.0)
+          ends_so.0 m.1.1.1
           (subst (λ (t : ℕ). Status m.0 t index word) mine c.0) in
           let last_safe : IsSound shape w.before = sound shape threads (old ++ w.between) w.before w.reached in (
             w.world,
@@ -326,24 +360,30 @@ out_at_end shape threads thread call answer old new w refuses some rest e index 
     own_last thread e mine = ap (λ (b : Bool). cond b (e ∷ []) []) (eq-eqb e.thread thread mine)
 
     own_cons : (thread : ℕ) (e : Event) (es : List Event) → e.thread ≡ thread → own thread (e ∷ es) ≡ e ∷ own thread es
-    own_cons thread e es mine = ap (λ (b : Bool). cond b (e ∷ own thread es) (own thread es)) (eq-eqb e.thread thread mine)
+    own_cons thread e es mine = ap (λ (b : Bool). cond b (e ∷ own thread es) (own thread es))
+        (eq-eqb e.thread thread mine)
 
-    own_rest : (thread : ℕ) (call : Begin) (between some init : List Event) (last e : Event) → between ≡ some ++ e ∷ init
+    own_rest : (thread : ℕ) (call : Begin) (between some init : List Event) (last e : Event)
+        → between ≡ some ++ e ∷ init
         → e.thread ≡ thread → BeginsOnce thread call (own thread (between ++ last ∷ []))
         → AllGoOn (own thread (init ++ last ∷ []))
     own_rest thread call between some init last e is mine once =
         rest_goes_on (own thread some) (own thread (init ++ last ∷ [])) once.others (event thread (Some call)) e
         (ap (λ (xs : List Event). own thread some ++ xs) (sym (own_cons thread e (init ++ last ∷ []) mine))
         ∙ sym (own-append thread some (e ∷ (init ++ last ∷ [])))
-        ∙ ap (own thread) (sym (append_assoc some (e ∷ init) (last ∷ [])) ∙ ap (λ (xs : List Event). xs ++ last ∷ []) (sym is))
+        ∙ ap (own thread) (sym (append_assoc some (e ∷ init) (last ∷ [])) ∙ ap (λ (xs : List Event). xs ++ last ∷ [])
+        (sym is))
         ∙ once.first)
         once.go_on
 
 -- a refused call leaves no item of its own
 pub leaves_none : (shape : Shape) (threads : ℕ) → LeavesNone shape threads
-leaves_none shape threads = λ thread call answer old new w refuses some rest e index word split mine put later here is same.
+leaves_none shape threads = λ thread call answer old new w refuses some rest e index word split mine put later here is
+    same.
     let k = out_at_end shape threads thread call answer old new w refuses some rest e index word split mine put in
-    let on : run shape (Some k.0) later ≡ Some here = sym (run_on shape (Some (opening shape threads)) k.0 new later k.1.0) ∙ is in
-    let up : word_at k.0 index ≤ word_at here index = run_rises shape k.0 here later index (sound shape threads new k.0 k.1.0) on in
+    let on : run shape (Some k.0) later ≡ Some here =
+    sym (run_on shape (Some (opening shape threads)) k.0 new later k.1.0) ∙ is in
+    let up : word_at k.0 index ≤ word_at here index =
+    run_rises shape k.0 here later index (sound shape threads new k.0 k.1.0) on in
     let out : word < word_at k.0 index = k.1.1 in
     absurd (omega arith)

@@ -6,7 +6,8 @@ use Rattle.std.proofs.lemmas.Bool.Decides.{nat_tests}
 use Rattle.kfifo_words.specs.Ring.{next_segment}
 
 -- d steps on from a number's place in the ring of n: past its end, or not
-pub ring_add : (n a d : ℕ) → d < n → ((a % n + d < n) × ((a + d) % n ≡ a % n + d)) ⊎ ((n ≤ a % n + d) × ((a + d) % n + n ≡ a % n + d))
+pub ring_add : (n a d : ℕ) → d < n → ((a % n + d < n) × ((a + d) % n ≡ a % n + d))
+    ⊎ ((n ≤ a % n + d) × ((a + d) % n + n ≡ a % n + d))
 ring_add n a d h =
     let below : a % n < n = mod-lt a (omega arith) in
     let e : (a % n + d) % n ≡ (a + d) % n = mod-add-mod a n d in

@@ -38,7 +38,8 @@ RoundNext running (Goes next) = cond (ends_round running next) (round_of next + 
 RoundNext running (Answers A.Busy) = round_of running ≡ 1
 RoundNext running (Answers other) = Unit {0}
 
-pub round_next : (shape : Shape) (running : Running) (word : ℕ) → IsPlace shape running → RoundNext running (advance shape running word)
+pub round_next : (shape : Shape) (running : Running) (word : ℕ) → IsPlace shape running
+    → RoundNext running (advance shape running word)
 round_next shape running word place = grind (arith, nat_tests)
 
 -- a place at which a round begins
@@ -108,10 +109,12 @@ abbrev pub watched : Running → ℕ
 watched (R.Enqueue item start left phase) = watched_by_enqueue phase
 watched (R.Dequeue start left phase) = watched_by_dequeue phase
 
-pub watched-below : (shape : Shape) (running : Running) → IsPlace shape running → watched running < clock_at shape.k shape.n
+pub watched-below : (shape : Shape) (running : Running) → IsPlace shape running
+    → watched running < clock_at shape.k shape.n
 watched-below shape running place = grind (arith, nat_tests)
 
-pub still_quiet : (w v : ℕ → ℕ) (running : Running) → v 0 ≡ w 0 → v (watched running) ≡ w (watched running) → Quiet w running
+pub still_quiet : (w v : ℕ → ℕ) (running : Running) → v 0 ≡ w 0 → v (watched running) ≡ w (watched running)
+    → Quiet w running
     → Quiet v running
 still_quiet w v running ends slot quiet = grind arith
 
@@ -123,16 +126,20 @@ NextQuiet before w (Answers other) = Unit {0}
 
 pub enqueue_quiet : (shape : Shape) (w : ℕ → ℕ) (item start left : ℕ) (phase : EnqueuePhase) (word : ℕ)
     → IsPlace shape (R.Enqueue item start left phase) → EnqueueQuiet w phase
-    → word ≡ w (accessed (access shape (R.Enqueue item start left phase))) → moves_head (R.Enqueue item start left phase) word ≡ false
+    → word ≡ w (accessed (access shape (R.Enqueue item start left phase)))
+    → moves_head (R.Enqueue item start left phase) word ≡ false
     → moves_tail (R.Enqueue item start left phase) word ≡ false
     → NextQuiet (R.Enqueue item start left phase) (words_by (access shape (R.Enqueue item start left phase)) w)
     (advance shape (R.Enqueue item start left phase) word)
-enqueue_quiet shape w item start left phase word place quiet is no_head no_tail = grind (arith, nat_tests, scan_index-is_slot)
+enqueue_quiet shape w item start left phase word place quiet is no_head no_tail =
+    grind (arith, nat_tests, scan_index-is_slot)
 
 pub dequeue_quiet : (shape : Shape) (w : ℕ → ℕ) (start left : ℕ) (phase : DequeuePhase) (word : ℕ)
     → IsPlace shape (R.Dequeue start left phase) → DequeueQuiet w phase
-    → word ≡ w (accessed (access shape (R.Dequeue start left phase))) → moves_head (R.Dequeue start left phase) word ≡ false
+    → word ≡ w (accessed (access shape (R.Dequeue start left phase))) → moves_head (R.Dequeue start left phase) word
+    ≡ false
     → moves_tail (R.Dequeue start left phase) word ≡ false
     → NextQuiet (R.Dequeue start left phase) (words_by (access shape (R.Dequeue start left phase)) w)
     (advance shape (R.Dequeue start left phase) word)
-dequeue_quiet shape w start left phase word place quiet is no_head no_tail = grind (arith, nat_tests, scan_index-is_slot)
+dequeue_quiet shape w start left phase word place quiet is no_head no_tail =
+    grind (arith, nat_tests, scan_index-is_slot)

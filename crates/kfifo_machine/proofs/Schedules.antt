@@ -1,6 +1,7 @@
 -- What one event and a schedule leave of the machine.
-use Rattle.std.proofs.Common.{◌≡◌, ◌≢◌, ◌⊎◌, ℕ, zero, suc, ◌+◌, ◌<◌, List, [], ◌∷◌, ◌++◌, length, get_or, Option, Some, None, Result, Ok}
-use Rattle.std.proofs.Common.{Err, Bool, true, false, refl, sym, ap, ◌∙◌, subst, inl, inr, arith, cond, eq-eqb, nat_lt, take, add-one}
+use Rattle.std.proofs.Common.{◌≡◌, ◌≢◌, ◌⊎◌, ℕ, zero, suc, ◌+◌, ◌<◌, List, [], ◌∷◌, ◌++◌, length, get_or, Option, Some}
+use Rattle.std.proofs.Common.{None, Result, Ok, Err, Bool, true, false, refl, sym, ap, ◌∙◌, subst, inl, inr, arith}
+use Rattle.std.proofs.Common.{cond, eq-eqb, nat_lt, take, add-one}
 use Rattle.std.specs.Prelude.{◌==◌, slice_get}
 use Rattle.std.proofs.lemmas.List.{get_or-set_other, length-set}
 use Rattle.std.proofs.lemmas.List.Elements.{filter-append}
@@ -15,9 +16,9 @@ use Rattle.kfifo_machine.specs.declared.place.EnqueuePhase.TheVariants as E
 use Rattle.kfifo_machine.specs.declared.place.DequeuePhase.TheVariants as D
 use Rattle.kfifo_words.specs.Ring.{clock_at}
 use Rattle.kfifo_machine.specs.Program.{advance}
-use Rattle.kfifo_machine.specs.Machine.{World, word_at, opening, moved, ticked, sealed, found, place_of, place_after, outcome_of, begun, may_begin}
-use Rattle.kfifo_machine.specs.Machine.{may_seal}
-use Rattle.kfifo_machine.specs.Machine.{step_from, step, world_of, run, after, IsFirstRefused}
+use Rattle.kfifo_machine.specs.Machine.{World, word_at, opening, moved, ticked, sealed, found, place_of, place_after}
+use Rattle.kfifo_machine.specs.Machine.{outcome_of, begun, may_begin, may_seal, step_from, step, world_of, run, after}
+use Rattle.kfifo_machine.specs.Machine.{IsFirstRefused}
 use Rattle.kfifo_machine.specs.Runs.{own, going}
 
 pub Some-injective : {A : Type 0} (x y : A) → Some x ≡ Some y → x ≡ y
@@ -38,17 +39,20 @@ pub run_on : (shape : Shape) (world : Option World) (here : World) (xs ys : List
 run_on shape world here xs ys is = run-append shape world xs ys ∙ ap (λ (o : Option World). run shape o ys) is
 
 -- a schedule with one event more
-pub after-snoc : (shape : Shape) (threads : ℕ) (events : List Event) (here : World) (e : Event) → after shape threads events ≡ Some here
+pub after-snoc : (shape : Shape) (threads : ℕ) (events : List Event) (here : World) (e : Event)
+    → after shape threads events ≡ Some here
     → after shape threads (events ++ e ∷ []) ≡ world_of (step shape here e)
 after-snoc shape threads events here e is = run_on shape (Some (opening shape threads)) here events (e ∷ []) is
 
-is_some_world : (o : Option World) (shape : Shape) (there : World) (ys : List Event) → run shape o ys ≡ Some there → (here : World)
+is_some_world : (o : Option World) (shape : Shape) (there : World) (ys : List Event) → run shape o ys ≡ Some there
+    → (here : World)
     × (o ≡ Some here)
 is_some_world None shape there ys is = absurd (let e : None ≡ Some there = sym (run_none shape ys) ∙ is in cc)
 is_some_world (Some here) shape there ys is = (here, refl)
 
 -- a beginning of a schedule is one
-pub run_before : (shape : Shape) (world : Option World) (there : World) (xs ys : List Event) → run shape world (xs ++ ys) ≡ Some there
+pub run_before : (shape : Shape) (world : Option World) (there : World) (xs ys : List Event)
+    → run shape world (xs ++ ys) ≡ Some there
     → (here : World) × (run shape world xs ≡ Some here) × (run shape (Some here) ys ≡ Some there)
 run_before shape world there xs ys is =
     let split : run shape (run shape world xs) ys ≡ Some there = sym (run-append shape world xs ys) ∙ is in
@@ -63,22 +67,25 @@ pub take-next : (events : List Event) (place : ℕ) (d : Event) → place < leng
 take-next events place d within = rw add-one (take-suc events place d within)
 
 -- where the events up to a place are a schedule, and the next one is made, those up to the next place are one
-pub goes_on : (shape : Shape) (threads : ℕ) (events : List Event) (place : ℕ) (d : Event) (s : Shape) (here there : World)
-    (outcome : Outcome)
+pub goes_on : (shape : Shape) (threads : ℕ) (events : List Event) (place : ℕ) (d : Event) (s : Shape)
+    (here there : World) (outcome : Outcome)
     → place < length events → s ≡ shape → after shape threads (take place events) ≡ Some here
-    → step s here (get_or events place d) ≡ Ok (there, outcome) → after shape threads (take (place + 1) events) ≡ Some there
+    → step s here (get_or events place d) ≡ Ok (there, outcome) → after shape threads (take (place + 1) events)
+    ≡ Some there
 goes_on shape threads events place d s here there outcome within same is made =
     ap (after shape threads) (take-next events place d within)
     ∙ after-snoc shape threads (take place events) here (get_or events place d) is
     ∙ ap world_of (ap (λ (x : Shape). step x here (get_or events place d)) (sym same) ∙ made)
 
-slice_get-is : (events : List Event) (place : ℕ) (d : Event) → place < length events → slice_get events place ≡ Some (get_or events place d)
+slice_get-is : (events : List Event) (place : ℕ) (d : Event) → place < length events
+    → slice_get events place ≡ Some (get_or events place d)
 slice_get-is [] place d within = absurd (omega arith)
 slice_get-is (e ∷ es) zero d within = refl
 slice_get-is (e ∷ es) (suc place) d within = slice_get-is es place d (omega arith)
 
 -- and where it is refused, it is the first that is not enabled
-pub stops : (shape : Shape) (threads : ℕ) (events : List Event) (place : ℕ) (d : Event) (s : Shape) (here : World) (fault : NotEnabled)
+pub stops : (shape : Shape) (threads : ℕ) (events : List Event) (place : ℕ) (d : Event) (s : Shape) (here : World)
+    (fault : NotEnabled)
     → place < length events → s ≡ shape → after shape threads (take place events) ≡ Some here
     → step s here (get_or events place d) ≡ Err fault → IsFirstRefused shape threads events place
 stops shape threads events place d s here fault within same is refused = record {
@@ -91,8 +98,8 @@ stops shape threads events place d s here fault within same is refused = record 
 }
 
 -- how an event was made: a thread's step from a place; or, outside of calls, a tick or a seal
-pub record StepsFrom (shape : Shape) (here : World) (thread : ℕ) (place : Option Running) (begin : Option Begin) (there : World)
-    (outcome : Outcome) : Type 0 where
+pub record StepsFrom (shape : Shape) (here : World) (thread : ℕ) (place : Option Running) (begin : Option Begin)
+    (there : World) (outcome : Outcome) : Type 0 where
   pub running : Running
   pub goes : going shape place begin ≡ Some running
   pub there_is : there ≡ moved shape here thread running
@@ -151,23 +158,28 @@ parts_of : (x y : World) (o p : Outcome) → ◌≡◌ {A = Made} (Ok (x, o)) (O
 parts_of x y o p e = let pair : ◌≡◌ {A = World × Outcome} (x, o) (y, p) = cc in
     (ap (λ (z : World × Outcome). z.0) (sym pair), ap (λ (z : World × Outcome). z.1) (sym pair))
 
-may_have_begun : (m : Bool) (x y : World) (o p : Outcome) → ◌≡◌ {A = Made} (cond m (Ok (x, o)) (Err BadCall)) (Ok (y, p)) → (m ≡ true)
+may_have_begun : (m : Bool) (x y : World) (o p : Outcome)
+    → ◌≡◌ {A = Made} (cond m (Ok (x, o)) (Err BadCall)) (Ok (y, p)) → (m ≡ true)
     × (y ≡ x) × (p ≡ o)
 may_have_begun true x y o p e = let k = parts_of x y o p e in (refl, k.0, k.1)
 may_have_begun false x y o p e = absurd (cc)
 
-may_have_ticked : (m : Bool) (x y : World) (o p : Outcome) → ◌≡◌ {A = Made} (cond m (Err ClockSpent) (Ok (x, o))) (Ok (y, p)) → (y ≡ x)
+may_have_ticked : (m : Bool) (x y : World) (o p : Outcome)
+    → ◌≡◌ {A = Made} (cond m (Err ClockSpent) (Ok (x, o))) (Ok (y, p)) → (y ≡ x)
     × (p ≡ o)
 may_have_ticked false x y o p e = parts_of x y o p e
 may_have_ticked true x y o p e = absurd (cc)
 
-may_have_sealed : (m : Bool) (x y : World) (o p : Outcome) → ◌≡◌ {A = Made} (cond m (Ok (x, o)) (Err NotSealable)) (Ok (y, p)) → (m ≡ true)
+may_have_sealed : (m : Bool) (x y : World) (o p : Outcome)
+    → ◌≡◌ {A = Made} (cond m (Ok (x, o)) (Err NotSealable)) (Ok (y, p)) → (m ≡ true)
     × (y ≡ x) × (p ≡ o)
 may_have_sealed true x y o p e = let k = parts_of x y o p e in (refl, k.0, k.1)
 may_have_sealed false x y o p e = absurd (cc)
 
-by_place : (shape : Shape) (here : World) (thread : ℕ) (place : Option Running) (begin : Option Begin) (there : World) (outcome : Outcome)
-    → step_from shape here thread place begin ≡ Ok (there, outcome) → StepsFrom shape here thread place begin there outcome
+by_place : (shape : Shape) (here : World) (thread : ℕ) (place : Option Running) (begin : Option Begin) (there : World)
+    (outcome : Outcome)
+    → step_from shape here thread place begin ≡ Ok (there, outcome)
+    → StepsFrom shape here thread place begin there outcome
     ⊎ Outside shape here place begin there outcome
 by_place shape here thread None None there outcome is = absurd (cc)
 by_place shape here thread None (Some (B.Enqueue item start turns)) there outcome is =
@@ -200,18 +212,22 @@ by_place shape here thread (Some running) (Some begin) there outcome is = absurd
 in_range : (shape : Shape) (here : World) (e : Event) (there : World) (outcome : Outcome) (b : Bool)
     → nat_lt e.thread (length here.places) ≡ b
     → cond b (step_from shape here e.thread (place_of here e.thread) e.begin) (Err NoSuchThread) ≡ Ok (there, outcome)
-    → (e.thread < length here.places) × (step_from shape here e.thread (place_of here e.thread) e.begin ≡ Ok (there, outcome))
+    → (e.thread < length here.places)
+    × (step_from shape here e.thread (place_of here e.thread) e.begin ≡ Ok (there, outcome))
 in_range shape here e there outcome true t is = (ltb-true e.thread (length here.places) t, is)
 in_range shape here e there outcome false t is = absurd (cc)
 
 -- an event that was made is of a thread that is there
-pub made_within : (shape : Shape) (here : World) (e : Event) (there : World) (outcome : Outcome) → step shape here e ≡ Ok (there, outcome)
+pub made_within : (shape : Shape) (here : World) (e : Event) (there : World) (outcome : Outcome)
+    → step shape here e ≡ Ok (there, outcome)
     → e.thread < length here.places
 unfolding step
-made_within shape here e there outcome is = (in_range shape here e there outcome (nat_lt e.thread (length here.places)) refl is).0
+made_within shape here e there outcome is =
+    (in_range shape here e there outcome (nat_lt e.thread (length here.places)) refl is).0
 
 -- and is a step from a place, or outside of calls
-pub stepped : (shape : Shape) (here : World) (e : Event) (there : World) (outcome : Outcome) → step shape here e ≡ Ok (there, outcome)
+pub stepped : (shape : Shape) (here : World) (e : Event) (there : World) (outcome : Outcome)
+    → step shape here e ≡ Ok (there, outcome)
     → StepsFrom shape here e.thread (place_of here e.thread) e.begin there outcome
     ⊎ Outside shape here (place_of here e.thread) e.begin there outcome
 unfolding step
@@ -219,37 +235,45 @@ stepped shape here e there outcome is =
     by_place shape here e.thread (place_of here e.thread) e.begin there outcome
     (in_range shape here e there outcome (nat_lt e.thread (length here.places)) refl is).1
 
-first_steps : (shape : Shape) (here : World) (thread : ℕ) (place : Option Running) (begin : Option Begin) (running : Running)
+first_steps : (shape : Shape) (here : World) (thread : ℕ) (place : Option Running) (begin : Option Begin)
+    (running : Running)
     → going shape place begin ≡ Some running
     → step_from shape here thread place begin
     ≡ made (moved shape here thread running) (outcome_of (advance shape running (found shape here running)))
 first_steps shape here thread None None running is = absurd (cc)
 first_steps shape here thread None (Some B.Tick) running is = absurd (cc)
 first_steps shape here thread None (Some B.Seal) running is = absurd (cc)
-first_steps shape here thread None (Some (B.Enqueue item start turns)) running is = begins (may_begin shape (B.Enqueue item start turns)) is
+first_steps shape here thread None (Some (B.Enqueue item start turns)) running is =
+    begins (may_begin shape (B.Enqueue item start turns)) is
   where
     begins : (m : Bool) → cond m (Some (R.Enqueue item start turns E.LoadEnds)) None ≡ Some running
         → cond m (made (moved shape here thread (R.Enqueue item start turns E.LoadEnds)) Went) (Err BadCall)
         ≡ made (moved shape here thread running) (outcome_of (advance shape running (found shape here running)))
-    begins true e = subst (λ (r : Running). ◌≡◌ {A = Made} (Ok (moved shape here thread (R.Enqueue item start turns E.LoadEnds), Went))
+    begins true e =
+        subst (λ (r : Running). ◌≡◌ {A = Made}
+        (Ok (moved shape here thread (R.Enqueue item start turns E.LoadEnds), Went))
         (Ok (moved shape here thread r, outcome_of (advance shape r (found shape here r))))) (Some-injective _ _ e) refl
     begins false e = absurd (cc)
-first_steps shape here thread None (Some (B.Dequeue start turns)) running is = begins (may_begin shape (B.Dequeue start turns)) is
+first_steps shape here thread None (Some (B.Dequeue start turns)) running is =
+    begins (may_begin shape (B.Dequeue start turns)) is
   where
     begins : (m : Bool) → cond m (Some (R.Dequeue start turns D.LoadEnds)) None ≡ Some running
         → cond m (made (moved shape here thread (R.Dequeue start turns D.LoadEnds)) Went) (Err BadCall)
         ≡ made (moved shape here thread running) (outcome_of (advance shape running (found shape here running)))
-    begins true e = subst (λ (r : Running). ◌≡◌ {A = Made} (Ok (moved shape here thread (R.Dequeue start turns D.LoadEnds), Went))
+    begins true e =
+        subst (λ (r : Running). ◌≡◌ {A = Made} (Ok (moved shape here thread (R.Dequeue start turns D.LoadEnds), Went))
         (Ok (moved shape here thread r, outcome_of (advance shape r (found shape here r))))) (Some-injective _ _ e) refl
     begins false e = absurd (cc)
 first_steps shape here thread (Some old) None running is =
-    ap (λ (r : Running). Ok (moved shape here thread r, outcome_of (advance shape r (found shape here r)))) (Some-injective _ _ is)
+    ap (λ (r : Running). Ok (moved shape here thread r, outcome_of (advance shape r (found shape here r))))
+    (Some-injective _ _ is)
 first_steps shape here thread (Some old) (Some begin) running is = absurd (cc)
 
 -- an event of a thread that goes on from a place is made
 pub steps_on : (shape : Shape) (here : World) (e : Event) (running : Running) → e.thread < length here.places
     → going shape (place_of here e.thread) e.begin ≡ Some running
-    → step shape here e ≡ Ok (moved shape here e.thread running, outcome_of (advance shape running (found shape here running)))
+    → step shape here e
+    ≡ Ok (moved shape here e.thread running, outcome_of (advance shape running (found shape here running)))
 unfolding step
 steps_on shape here e running within goes =
     ap (λ b. cond b (step_from shape here e.thread (place_of here e.thread) e.begin) (Err NoSuchThread))
@@ -257,19 +281,22 @@ steps_on shape here e running within goes =
     ∙ first_steps shape here e.thread (place_of here e.thread) e.begin running goes
 
 -- Locality: an event leaves each other thread where it was
-pub other_place : (shape : Shape) (here : World) (e : Event) (there : World) (outcome : Outcome) (thread : ℕ) → thread ≢ e.thread
+pub other_place : (shape : Shape) (here : World) (e : Event) (there : World) (outcome : Outcome) (thread : ℕ)
+    → thread ≢ e.thread
     → step shape here e ≡ Ok (there, outcome)
     → place_of there thread ≡ place_of here thread
 unfolding moved place_of
 other_place shape here e there outcome thread apart is =
     elim (stepped shape here e there outcome is) [
       | inl s ↦ ap (λ (w : World). place_of w thread) s.there_is
-          ∙ get_or-set_other here.places e.thread thread (place_after (advance shape s.running (found shape here s.running))) None apart
+          ∙ get_or-set_other here.places e.thread thread
+          (place_after (advance shape s.running (found shape here s.running))) None apart
       | inr t ↦ t.leaves thread
     ]
 
 -- the number of threads stays
-pub same_threads : (shape : Shape) (here : World) (e : Event) (there : World) (outcome : Outcome) → step shape here e ≡ Ok (there, outcome)
+pub same_threads : (shape : Shape) (here : World) (e : Event) (there : World) (outcome : Outcome)
+    → step shape here e ≡ Ok (there, outcome)
     → length there.places ≡ length here.places
 unfolding moved
 same_threads shape here e there outcome is =
@@ -280,23 +307,30 @@ same_threads shape here e there outcome is =
     ]
 
 -- the event that a longer schedule begins with was made
-pub first_made : (shape : Shape) (here : World) (e : Event) (there : World) (es : List Event) → run shape (Some here) (e ∷ es) ≡ Some there
-    → (next : World) × ((outcome : Outcome) × ((step shape here e ≡ Ok (next, outcome)) × (run shape (Some next) es ≡ Some there)))
+pub first_made : (shape : Shape) (here : World) (e : Event) (there : World) (es : List Event)
+    → run shape (Some here) (e ∷ es) ≡ Some there
+    → (next : World)
+    × ((outcome : Outcome) × ((step shape here e ≡ Ok (next, outcome)) × (run shape (Some next) es ≡ Some there)))
 first_made shape here e there es is = by_result (step shape here e) refl is
   where
-    by_result : (r : Result (World × Outcome) NotEnabled) → step shape here e ≡ r → run shape (world_of r) es ≡ Some there
-        → (next : World) × ((outcome : Outcome) × ((step shape here e ≡ Ok (next, outcome)) × (run shape (Some next) es ≡ Some there)))
+    by_result : (r : Result (World × Outcome) NotEnabled) → step shape here e ≡ r
+        → run shape (world_of r) es ≡ Some there
+        → (next : World)
+        × ((outcome : Outcome) × ((step shape here e ≡ Ok (next, outcome)) × (run shape (Some next) es ≡ Some there)))
     by_result (Ok pair) made h = (pair.0, (pair.1, (made, h)))
     by_result (Err fault) made h = absurd (let gone : None ≡ Some there = sym (run_none shape es) ∙ h in cc)
 
 -- the first event is no own one where there is none, and the others have none
-pub own_none : (thread : ℕ) (e : Event) (es : List Event) → own thread (e ∷ es) ≡ [] → (thread ≢ e.thread) × (own thread es ≡ [])
+pub own_none : (thread : ℕ) (e : Event) (es : List Event) → own thread (e ∷ es) ≡ [] → (thread ≢ e.thread)
+    × (own thread es ≡ [])
 own_none thread e es empty = cases (e.thread == thread) refl empty
   where
-    cases : (b : Bool) → (e.thread == thread) ≡ b → cond b (e ∷ own thread es) (own thread es) ≡ [] → (thread ≢ e.thread)
+    cases : (b : Bool) → (e.thread == thread) ≡ b → cond b (e ∷ own thread es) (own thread es) ≡ []
+        → (thread ≢ e.thread)
         × (own thread es ≡ [])
     cases true is gone = absurd (cc)
-    cases false is gone = ((λ same. absurd (let h : (e.thread == thread) ≡ true = eq-eqb e.thread thread (sym same) in (cc))), gone)
+    cases false is gone =
+        ((λ same. absurd (let h : (e.thread == thread) ≡ true = eq-eqb e.thread thread (sym same) in (cc))), gone)
 
 -- Locality: a schedule with no event of a thread leaves it where it was
 pub same_place : (shape : Shape) (here there : World) (events : List Event) (thread : ℕ) → own thread events ≡ []
@@ -308,7 +342,8 @@ same_place shape here there (e ∷ es) thread empty is =
     let m = first_made shape here e there es is in
     same_place shape m.0 there es thread n.1 m.1.1.1 ∙ other_place shape here e m.0 m.1.0 thread n.0 m.1.1.0
 
-pub still_threads : (shape : Shape) (here there : World) (events : List Event) → run shape (Some here) events ≡ Some there
+pub still_threads : (shape : Shape) (here there : World) (events : List Event)
+    → run shape (Some here) events ≡ Some there
     → length there.places ≡ length here.places
 still_threads shape here there [] is = ap (λ (w : World). length w.places) (sym (Some-injective _ _ is))
 still_threads shape here there (e ∷ es) is =

@@ -21,7 +21,8 @@ use Rattle.kfifo_machine.specs.declared.event.Event.{Event}
 use Rattle.kfifo_machine.specs.declared.event.Outcome.{Outcome}
 use Rattle.kfifo_machine.specs.declared.event.Outcome.TheVariants.{Went, Ended}
 use Rattle.kfifo_machine.specs.declared.event.NotEnabled.{NotEnabled}
-use Rattle.kfifo_machine.specs.declared.event.NotEnabled.TheVariants.{NoSuchThread, Idle, InCall, BadCall, ClockSpent, NotSealable}
+use Rattle.kfifo_machine.specs.declared.event.NotEnabled.TheVariants.{NoSuchThread, Idle, InCall, BadCall, ClockSpent}
+use Rattle.kfifo_machine.specs.declared.event.NotEnabled.TheVariants.{NotSealable}
 use Rattle.kfifo_machine.specs.Program.{access, accessed, advance, sealed_word}
 
 -- the words of the table, and each thread's place in its call

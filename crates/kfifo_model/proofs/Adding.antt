@@ -1,6 +1,6 @@
 -- One more beginning of an order adds to the next level of the search just what it leads to, each once.
-use Rattle.std.proofs.Common.{ℕ, zero, suc, false, ◌≡◌, ◌+◌, ◌<◌, ◌≤◌, ◌⊎◌, ◌↔◌, List, [], ◌∷◌, ◌++◌, length, get_or, sym, ◌∙◌, ap, subst}
-use Rattle.std.proofs.Common.{inl, inr, arith, append_assoc, length-append}
+use Rattle.std.proofs.Common.{ℕ, zero, suc, false, ◌≡◌, ◌+◌, ◌<◌, ◌≤◌, ◌⊎◌, ◌↔◌, List, [], ◌∷◌, ◌++◌, length, get_or}
+use Rattle.std.proofs.Common.{sym, ◌∙◌, ap, subst, inl, inr, arith, append_assoc, length-append}
 use Rattle.std.specs.List.{All, Any, Contains}
 use Rattle.std.proofs.lemmas.List.Sums.{count_by-le-length}
 use Rattle.std.specs.Result.{OnOk}
@@ -15,22 +15,26 @@ use Rattle.std.specs.List.Sorted.{IsPermutation}
 use Rattle.kfifo_model.proofs.Types.{Call}
 use Rattle.kfifo_model.specs.Reach.{Reach}
 use Rattle.kfifo_model.proofs.Resting.{opening, opening_sound, opening_complete, none_counted}
-use Rattle.kfifo_model.specs.Searching.{HasOrder, Extends, IsNoNext, IsFurther, IsAdded, IsLevel, IsNextLevel, done_count}
+use Rattle.kfifo_model.specs.Searching.{HasOrder, Extends, IsNoNext, IsFurther, IsAdded, IsLevel, IsNextLevel}
+use Rattle.kfifo_model.specs.Searching.{done_count}
 
 pub on_ok_map : {T E : Type 0} (r : Result T E) (P Q : Type 0) → (P → Q) → OnOk r P → OnOk r Q
 on_ok_map (Ok x) P Q f h = f h
 on_ok_map (Err e) P Q f h = h
 
 pub all_left : {X : Type 0} (P : X → Type 0) (xs ys : List X) → All P (xs ++ ys) → All P xs
-all_left P xs ys a = λ k d lt. subst P (get_or_append_left xs ys d k lt) (a k d (let e = length-append xs ys in omega arith))
+all_left P xs ys a =
+    λ k d lt. subst P (get_or_append_left xs ys d k lt) (a k d (let e = length-append xs ys in omega arith))
 
 pub all_right : {X : Type 0} (P : X → Type 0) (xs ys : List X) → All P (xs ++ ys) → All P ys
-all_right P xs ys a = λ k d lt. subst P (get_or-append-add xs ys k d) (a (length xs + k) d (let e = length-append xs ys in omega arith))
+all_right P xs ys a =
+    λ k d lt. subst P (get_or-append-add xs ys k d) (a (length xs + k) d (let e = length-append xs ys in omega arith))
 
 pub all_one : {X : Type 0} (P : X → Type 0) (x : X) → P x → All P (x ∷ [])
 all_one P x p = All-cons P x [] p (All-nil P)
 
-pub added_none : (k : ℕ) (h : List Call) (r : Reach) (before : List Reach) (Said : Type 0) → Said → IsAdded k h r before before Said
+pub added_none : (k : ℕ) (h : List Call) (r : Reach) (before : List Reach) (Said : Type 0) → Said
+    → IsAdded k h r before before Said
 added_none k h r before Said s = record {
   added = [];
   is = sym (append-nil before);
@@ -39,7 +43,8 @@ added_none k h r before Said s = record {
   complete = λ a. s;
 }
 
-pub added_as : (k : ℕ) (h : List Call) (r : Reach) (before after : List Reach) (P Q : Type 0) → (P → Q) → IsAdded k h r before after P
+pub added_as : (k : ℕ) (h : List Call) (r : Reach) (before after : List Reach) (P Q : Type 0) → (P → Q)
+    → IsAdded k h r before after P
     → IsAdded k h r before after Q
 added_as k h r before after P Q f a = record {
   added = a.added;
@@ -60,7 +65,8 @@ added_both k h r before now after A B C f a b = record {
       (b.complete (all_right (λ t. Extends k h t → ⊥) a.added b.added c));
 }
 
-pub no_next_more : (k : ℕ) (h : List Call) (r : Reach) (n : ℕ) → ((j : ℕ) → j < n → IsNoNext k h r j) → IsNoNext k h r n → (j : ℕ)
+pub no_next_more : (k : ℕ) (h : List Call) (r : Reach) (n : ℕ) → ((j : ℕ) → j < n → IsNoNext k h r j) → IsNoNext k h r n
+    → (j : ℕ)
     → j < n + 1 → IsNoNext k h r j
 no_next_more k h r n f g j lt =
     elim (cases_lt j n) [
@@ -85,7 +91,8 @@ led_none k h level next e =
       complete = λ a j d lt. absurd (omega arith);
     })
 
-further_level : (h : List Call) (count : ℕ) (r : Reach) (added : List Reach) → length r.done ≡ length h → done_count r.done ≡ count
+further_level : (h : List Call) (count : ℕ) (r : Reach) (added : List Reach) → length r.done ≡ length h
+    → done_count r.done ≡ count
     → All (IsFurther r) added → IsLevel h (count + 1) added
 further_level h count r added sized counted a = λ k d lt.
     let f = a k d lt in
@@ -93,7 +100,8 @@ further_level h count r added sized counted a = λ k d lt.
     let q : done_count (get_or added k d).done ≡ done_count r.done + 1 = f.1 in
     (p ∙ sized, omega arith)
 
-pub led_more : (k : ℕ) (h : List Call) (level next after : List Reach) (i : ℕ) (r : Reach) → i < length level → r ≡ get_or level i r
+pub led_more : (k : ℕ) (h : List Call) (level next after : List Reach) (i : ℕ) (r : Reach) → i < length level
+    → r ≡ get_or level i r
     → IsLed k h level next i → IsAdded k h r next after (Extends k h r → ⊥) → IsLed k h level after (i + 1)
 led_more k h level next after i r lt is led a =
     let P : List Reach → Type 0 = λ t. IsLed k h level t (i + 1) in
@@ -102,7 +110,8 @@ led_more k h level next after i r lt is led a =
           let here = l i r lt in
           let Q : Reach → Type 0 = λ s. (length s.done ≡ length h) × (done_count s.done ≡ count) in
           let at = subst Q (sym is) here in
-          All-append (λ s. (length s.done ≡ length h) × (done_count s.done ≡ count + 1)) next a.added (led.further count l)
+          All-append (λ s. (length s.done ≡ length h) × (done_count s.done ≡ count + 1)) next a.added
+          (led.further count l)
           (further_level h count r a.added at.0 at.1 a.further);
       sound = λ s.
           let Q : Reach → Type 0 = λ t. Extends k h t → HasOrder k h in
@@ -143,7 +152,10 @@ one_member x r zero lt e = e
 one_member x r (suc k) lt e = absurd (omega arith)
 
 last_or : (rest : List Reach) (x r : Reach) → Contains (rest ++ x ∷ []) r → Contains rest r ⊎ (x ≡ r)
-last_or rest x r c = elim (Contains-append_cases rest (x ∷ []) r c) [ inl a ↦ inl a | inr b ↦ inr (one_member x r b.0 b.1 b.2) ]
+last_or rest x r c = elim (Contains-append_cases rest (x ∷ []) r c) [
+  | inl a ↦ inl a
+  | inr b ↦ inr (one_member x r b.0 b.1 b.2)
+]
 
 has_last : (rest : List Reach) (x r : Reach) → x ≡ r → Contains (rest ++ x ∷ []) r
 has_last rest x r e = Contains-append_right rest (x ∷ []) r (0, omega arith, e)
@@ -158,12 +170,16 @@ members_init full left kept p e r =
       ],
     )
 
-pub members_pushed : (full left rest kept more : List Reach) (x : Reach) → AreMembers full left kept → left ≡ rest ++ x ∷ []
+pub members_pushed : (full left rest kept more : List Reach) (x : Reach) → AreMembers full left kept
+    → left ≡ rest ++ x ∷ []
     → more ≡ kept ++ x ∷ [] → AreMembers full rest more
 members_pushed full left rest kept more x m e f r =
     let P : List Reach → Type 0 = λ t. Contains t r in (
       λ c. elim ((m r).0 c) [
-        | inl a ↦ elim (last_or rest x r (subst P e a)) [ inl b ↦ inl b | inr q ↦ inr (subst P (sym f) (has_last kept x r q)) ]
+        | inl a ↦ elim (last_or rest x r (subst P e a)) [
+          | inl b ↦ inl b
+          | inr q ↦ inr (subst P (sym f) (has_last kept x r q))
+        ]
         | inr a ↦ inr (subst P (sym f) (Contains-append_left kept (x ∷ []) r a))
       ],
       λ c. elim c [
@@ -173,7 +189,8 @@ members_pushed full left rest kept more x m e f r =
       ],
     )
 
-pub members_same : (full left rest kept : List Reach) (x : Reach) → AreMembers full left kept → left ≡ rest ++ x ∷ [] → Contains kept x
+pub members_same : (full left rest kept : List Reach) (x : Reach) → AreMembers full left kept → left ≡ rest ++ x ∷ []
+    → Contains kept x
     → AreMembers full rest kept
 members_same full left rest kept x m e here r =
     let P : List Reach → Type 0 = λ t. Contains t r in
@@ -190,11 +207,17 @@ members_same full left rest kept x m e here r =
 
 pub members_end : (full left kept : List Reach) → AreMembers full left kept → length left ≡ 0 → (r : Reach)
     → Contains full r ↔ Contains kept r
-members_end full left kept m e r =
-    (λ c. elim ((m r).0 c) [ inl a ↦ absurd (let lt : a.0 < length left = a.1 in omega arith) | inr b ↦ b ], λ c. (m r).1 (inr c))
+members_end full left kept m e r = (
+  λ c. elim ((m r).0 c) [
+    | inl a ↦ absurd (let lt : a.0 < length left = a.1 in omega arith)
+    | inr b ↦ b
+  ],
+  λ c. (m r).1 (inr c),
+)
 
 -- what holds of the members of one holds of those of the other
-pub all_members : (P : Reach → Type 0) (xs ys : List Reach) → ((r : Reach) → Contains ys r → Contains xs r) → All P xs → All P ys
+pub all_members : (P : Reach → Type 0) (xs ys : List Reach) → ((r : Reach) → Contains ys r → Contains xs r) → All P xs
+    → All P ys
 all_members P xs ys f a = λ k d lt.
     let r = get_or ys k d in
     let c = f r (k, lt, get_or_default ys k r d lt) in
@@ -207,7 +230,8 @@ pub record IsAt (k : ℕ) (h : List Call) (count : ℕ) (level : List Reach) : T
   pub sound : All (λ r. Extends k h r → HasOrder k h) level
   pub complete : All (λ r. Extends k h r → ⊥) level → HasOrder k h → ⊥
 
-pub at_start : (k : ℕ) (h : List Call) (level before : List Reach) (r : Reach) → r ≡ opening h → before ≡ [] → level ≡ before ++ r ∷ []
+pub at_start : (k : ℕ) (h : List Call) (level before : List Reach) (r : Reach) → r ≡ opening h → before ≡ []
+    → level ≡ before ++ r ∷ []
     → IsAt k h 0 level
 at_start k h level before r e none is =
     let P : List Reach → Type 0 = λ t. IsAt k h 0 t in
@@ -218,7 +242,8 @@ at_start k h level before r e none is =
       complete = λ a o. a 0 (opening h) (omega arith) (opening_complete k h o);
     })
 
-pub at_next : (k : ℕ) (h : List Call) (count : ℕ) (level next kept : List Reach) → IsAt k h count level → IsNextLevel k h level next
+pub at_next : (k : ℕ) (h : List Call) (count : ℕ) (level next kept : List Reach) → IsAt k h count level
+    → IsNextLevel k h level next
     → ((r : Reach) → Contains next r ↔ Contains kept r) → IsAt k h (count + 1) kept
 at_next k h count level next kept at n m = record {
   sized = all_members (λ s. (length s.done ≡ length h) × (done_count s.done ≡ count + 1)) next kept (λ r. (m r).1)
@@ -227,7 +252,8 @@ at_next k h count level next kept at n m = record {
   complete = λ a o. at.complete (n.complete (all_members (λ s. Extends k h s → ⊥) kept next (λ r. (m r).0) a)) o;
 }
 
-pub at_end : (k : ℕ) (h : List Call) (count : ℕ) (level : List Reach) → IsAt k h count level → length h < count → HasOrder k h → ⊥
+pub at_end : (k : ℕ) (h : List Call) (count : ℕ) (level : List Reach) → IsAt k h count level → length h < count
+    → HasOrder k h → ⊥
 at_end k h count level at lt o =
     at.complete (λ j d lj g. let s = at.sized j d lj in
     let p : length (get_or level j d).done ≡ length h = s.0 in
@@ -242,6 +268,7 @@ found_at k h count level others e at a =
     let Q : Reach → Type 0 = λ t. Extends k h t in
     at.sound b.0 b.1 b.2 (subst Q (sym b.3) b.4)
 
-pub level_along : (k : ℕ) (h : List Call) (level others next : List Reach) → others ≡ level → IsNextLevel k h others next
+pub level_along : (k : ℕ) (h : List Call) (level others next : List Reach) → others ≡ level
+    → IsNextLevel k h others next
     → IsNextLevel k h level next
 level_along k h level others next e n = let P : List Reach → Type 0 = λ t. IsNextLevel k h t next in subst P e n

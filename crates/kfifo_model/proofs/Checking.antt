@@ -1,6 +1,6 @@
 -- One more call of an order: the run so far goes on or breaks there, and it ends before no earlier one begins or does.
-use Rattle.std.proofs.Common.{ℕ, ◌≡◌, ◌≢◌, ◌+◌, ◌<◌, ◌≤◌, ◌↔◌, ◌&&◌, ltb, List, [], ◌∷◌, ◌++◌, length, map, take, get_or, refl, sym, ◌∙◌}
-use Rattle.std.proofs.Common.{ap, subst, inl, inr, arith, Option, Some, None, append_assoc}
+use Rattle.std.proofs.Common.{ℕ, ◌≡◌, ◌≢◌, ◌+◌, ◌<◌, ◌≤◌, ◌↔◌, ◌&&◌, ltb, List, [], ◌∷◌, ◌++◌, length, map, take}
+use Rattle.std.proofs.Common.{get_or, refl, sym, ◌∙◌, ap, subst, inl, inr, arith, Option, Some, None, append_assoc}
 use Rattle.std.specs.List.{remove}
 use Rattle.std.proofs.lemmas.Bool.{cases_lt, cond-false, and_parts, ltb-true, false_from_ne_true}
 use Rattle.std.proofs.lemmas.Option.{get_or_from_slice_get}
@@ -24,8 +24,10 @@ in_bounds h n s =
     ]
 
 -- a number of an order is that of a call
-pub at_bounds : (h : List Call) (order : List ℕ) (j : ℕ) → HasOnlyCalls h order → j < length order → get_or order j 0 < length h
-at_bounds h order j p lt = in_bounds h (get_or order j 0) (each_place (λ c. CanStand (call h c).end (call h c).op) order j p lt)
+pub at_bounds : (h : List Call) (order : List ℕ) (j : ℕ) → HasOnlyCalls h order → j < length order
+    → get_or order j 0 < length h
+at_bounds h order j p lt =
+    in_bounds h (get_or order j 0) (each_place (λ c. CanStand (call h c).end (call h c).op) order j p lt)
 
 pub read : (h : List Call) (n : ℕ) (d : Call) → n < length h → get_or h n d ≡ call h n
 read h n d lt = get_or_default h n d no_call lt
@@ -39,7 +41,8 @@ one_more : (h : List Call) (order : List ℕ) (p : ℕ) (es : List Effect) → p
 one_more h order p es lt = ap (λ t. t ++ es) (map_more (does h) order p 0 lt)
     ∙ append_assoc (map (does h) (take p order)) (does h (get_or order p 0) ∷ []) es
 
-pub goes_on : (k : ℕ) (h : List Call) (order : List ℕ) (p : ℕ) (items after : List ℕ) → p < length order → RunsAs k h order p items
+pub goes_on : (k : ℕ) (h : List Call) (order : List ℕ) (p : ℕ) (items after : List ℕ) → p < length order
+    → RunsAs k h order p items
     → next k items (does h (get_or order p 0)) ≡ Some after → RunsAs k h order (p + 1) after
 goes_on k h order p items after lt r e es =
     let P : List Effect → Type 0 = λ t. IsRun k [] t ↔ IsRun k after es in
@@ -49,7 +52,8 @@ goes_on k h order p items after lt r e es =
       λ b. s.1 (run_back k items after (does h (get_or order p 0)) es e b),
     )
 
-pub breaks_at : (k : ℕ) (h : List Call) (order : List ℕ) (p : ℕ) (items : List ℕ) → p < length order → RunsAs k h order p items
+pub breaks_at : (k : ℕ) (h : List Call) (order : List ℕ) (p : ℕ) (items : List ℕ) → p < length order
+    → RunsAs k h order p items
     → next k items (does h (get_or order p 0)) ≡ None → (p < length order) × IsRun k [] (map (does h) (take p order))
     × (IsRun k [] (map (does h) (take (p + 1) order)) → ⊥)
 breaks_at k h order p items lt r e =
@@ -61,7 +65,8 @@ breaks_at k h order p items lt r e =
           (subst P (sym (append-nil (map (does h) (take (p + 1) order))) ∙ one_more h order p [] lt) a)),
     )
 
-pub runs_whole : (k : ℕ) (h : List Call) (order : List ℕ) (p : ℕ) (items : List ℕ) → take p order ≡ order → RunsAs k h order p items
+pub runs_whole : (k : ℕ) (h : List Call) (order : List ℕ) (p : ℕ) (items : List ℕ) → take p order ≡ order
+    → RunsAs k h order p items
     → IsRun k [] (map (does h) order)
 runs_whole k h order p items e r =
     let P : List Effect → Type 0 = λ t. IsRun k [] t in
@@ -69,7 +74,8 @@ runs_whole k h order p items e r =
 
 -- a call that ends below the first step of one before it
 pub breaks_before : (h : List Call) (order : List ℕ) (i j : ℕ) (end : End) → i < j → j < length order
-    → (call h (get_or order j 0)).end ≡ Some end → end.last < (call h (get_or order i 0)).first → KeepsBefore h order → ⊥
+    → (call h (get_or order j 0)).end ≡ Some end → end.last < (call h (get_or order i 0)).first
+    → KeepsBefore h order → ⊥
 breaks_before h order i j end lt lj e l keeps =
     let P : Option End → Type 0 = λ o. EndsBelow o (call h (get_or order i 0)).first in
     pairs_place (λ c d. Precedes h d c → ⊥) order i j keeps lt lj (subst P (sym e) l)
@@ -89,19 +95,24 @@ pub keeps_more : (h : List Call) (order : List ℕ) (n latest : ℕ)
 keeps_more h order n latest kept most safe i j lt lj b =
     elim (cases_lt j n) [
       | inl below ↦ kept i j lt below b
-      | inr le ↦ (let e : j ≡ n = omega arith in let P : ℕ → Type 0 = λ w. Precedes h (get_or order w 0) (get_or order i 0) in
+      | inr le ↦ (let e : j ≡ n = omega arith in let P : ℕ → Type 0 =
+          λ w. Precedes h (get_or order w 0) (get_or order i 0) in
           safe (call h (get_or order i 0)).first (most i (omega arith)) (subst P e b))
     ]
 
-pub most_more : (h : List Call) (order : List ℕ) (n latest now : ℕ) → ((j : ℕ) → j < n → (call h (get_or order j 0)).first ≤ latest)
-    → latest ≤ now → (call h (get_or order n 0)).first ≤ now → (j : ℕ) → j < n + 1 → (call h (get_or order j 0)).first ≤ now
+pub most_more : (h : List Call) (order : List ℕ) (n latest now : ℕ)
+    → ((j : ℕ) → j < n → (call h (get_or order j 0)).first ≤ latest)
+    → latest ≤ now → (call h (get_or order n 0)).first ≤ now → (j : ℕ) → j < n + 1
+    → (call h (get_or order j 0)).first ≤ now
 most_more h order n latest now most up last j lj =
     elim (cases_lt j n) [
       | inl below ↦ (let m = most j below in omega arith)
-      | inr le ↦ (let e : j ≡ n = omega arith in let P : ℕ → Type 0 = λ w. (call h (get_or order w 0)).first ≤ now in subst P (sym e) last)
+      | inr le ↦ (let e : j ≡ n = omega arith in let P : ℕ → Type 0 =
+          λ w. (call h (get_or order w 0)).first ≤ now in subst P (sym e) last)
     ]
 
-pub safe_some : (o : Option End) (end : End) (latest s : ℕ) → o ≡ Some end → latest ≤ end.last → s ≤ latest → EndsBelow o s → ⊥
+pub safe_some : (o : Option End) (end : End) (latest s : ℕ) → o ≡ Some end → latest ≤ end.last → s ≤ latest
+    → EndsBelow o s → ⊥
 safe_some o end latest s e le sl b = let lt = ends_at o end s e b in omega arith
 
 -- no such item among the first k
@@ -111,7 +122,8 @@ not_below k items x f =
     cond-false (ltb (place items x) k && ltb (place items x) (length items)) (Some (remove items (place items x))) None
     (false_from_ne_true _ (λ e. let p = and_parts (ltb (place items x) k) (ltb (place items x) (length items)) e in
     let lt = ltb-true (place items x) (length items) p.1 in
-    f (place items x) (ltb-true (place items x) k p.0) lt (get_or_from_slice_get items (place items x) x 0 (place_in items x lt))))
+    f (place items x) (ltb-true (place items x) k p.0) lt
+    (get_or_from_slice_get items (place items x) x 0 (place_in items x lt))))
 
 -- a call that was tried and is not illegal went
 pub tried_went : (k : ℕ) (before after : List ℕ) (e : Effect) (t : Tried) → IsTried k before after e t → t ≢ NotLegal

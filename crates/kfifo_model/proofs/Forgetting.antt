@@ -1,6 +1,6 @@
 -- Runs from lists that differ in items that nothing takes, runs without idle calls, and what a run can take.
-use Rattle.std.proofs.Common.{ℕ, zero, suc, ◌≡◌, ◌<◌, ◌⊎◌, List, [], ◌∷◌, ◌++◌, length, get_or, refl, sym, ◌∙◌, ap, subst, inl, inr, arith}
-use Rattle.std.proofs.Common.{Some, slice_get}
+use Rattle.std.proofs.Common.{ℕ, zero, suc, ◌≡◌, ◌<◌, ◌⊎◌, List, [], ◌∷◌, ◌++◌, length, get_or, refl, sym, ◌∙◌, ap}
+use Rattle.std.proofs.Common.{subst, inl, inr, arith, Some, slice_get}
 use Rattle.std.specs.List.{remove}
 use Rattle.kfifo_model.specs.Lists.{IsIn}
 use Rattle.kfifo_model.proofs.Types.{Effect}
@@ -29,7 +29,8 @@ pub both_from_places : (W : ℕ → Type 0) (l m : List ℕ) → length m ≡ le
 both_from_places W [] [] e f = tt
 both_from_places W [] (y ∷ m) e f = absurd (omega arith)
 both_from_places W (x ∷ l) [] e f = absurd (omega arith)
-both_from_places W (x ∷ l) (y ∷ m) e f = (f 0 (omega arith), both_from_places W l m (omega arith) (λ i h. f (suc i) (omega arith)))
+both_from_places W (x ∷ l) (y ∷ m) e f =
+    (f 0 (omega arith), both_from_places W l m (omega arith) (λ i h. f (suc i) (omega arith)))
 
 good_flip : (W : ℕ → Type 0) (x y : ℕ) → Good W x y → Good W y x
 good_flip W x y (inl e) = inl (sym e)
@@ -67,7 +68,8 @@ good_worth : (W : ℕ → Type 0) (x y : ℕ) → W x → Good W x y → y ≡ x
 good_worth W x y w (inl e) = sym e
 good_worth W x y w (inr p) = absurd (p.0 w)
 
-both_get : (W : ℕ → Type 0) (l m : List ℕ) (i x : ℕ) → W x → Both W l m → slice_get l i ≡ Some x → slice_get m i ≡ Some x
+both_get : (W : ℕ → Type 0) (l m : List ℕ) (i x : ℕ) → W x → Both W l m → slice_get l i ≡ Some x
+    → slice_get m i ≡ Some x
 both_get W [] [] i x w b e = absurd (cc)
 both_get W [] (y ∷ m) i x w b e = absurd b
 both_get W (z ∷ l) [] i x w b e = absurd b
@@ -78,18 +80,24 @@ both_get W (z ∷ l) (y ∷ m) zero x w b e =
 both_get W (z ∷ l) (y ∷ m) (suc i) x w b e = both_get W l m i x w b.1 e
 
 -- what runs from one list runs from one as good, where what is taken has worth
-pub as_good_runs : (k : ℕ) (W : ℕ → Type 0) (es : List Effect) (l m : List ℕ) → ((x : ℕ) → Has (Takes x) es → W x) → Both W l m
+pub as_good_runs : (k : ℕ) (W : ℕ → Type 0) (es : List Effect) (l m : List ℕ) → ((x : ℕ) → Has (Takes x) es → W x)
+    → Both W l m
     → IsRun k l es → IsRun k m es
 as_good_runs k W [] l m f b r = tt
 as_good_runs k W (Adds x ∷ es) l m f b r =
-    let P : List ℕ → Type 0 = λ t. IsRun k t es in
-    (m ++ x ∷ [], refl, as_good_runs k W es (l ++ x ∷ []) (m ++ x ∷ []) (λ y h. f y (inr h)) (both_push W l m x b) (subst P r.1 r.2))
+    let P : List ℕ → Type 0 = λ t. IsRun k t es in (
+      m ++ x ∷ [],
+      refl,
+      as_good_runs k W es (l ++ x ∷ []) (m ++ x ∷ []) (λ y h. f y (inr h)) (both_push W l m x b)
+          (subst P r.1 r.2),
+    )
 as_good_runs k W (Takes x ∷ es) l m f b r =
     let P : List ℕ → Type 0 = λ t. IsRun k t es in
     let s = r.1 in (
       remove m s.0,
       (s.0, s.1, both_get W l m s.0 x (f x (inl refl)) b s.2, refl),
-      as_good_runs k W es (remove l s.0) (remove m s.0) (λ y h. f y (inr h)) (both_remove W l m s.0 b) (subst P s.3 r.2),
+      as_good_runs k W es (remove l s.0) (remove m s.0) (λ y h. f y (inr h)) (both_remove W l m s.0 b)
+          (subst P s.3 r.2),
     )
 as_good_runs k W (FindsNone ∷ es) l m f b r =
     let P : List ℕ → Type 0 = λ t. IsRun k t es in
@@ -102,7 +110,8 @@ as_good_runs k W (Refused ∷ es) l m f b r =
     (m, refl, as_good_runs k W es l m (λ y h. f y (inr h)) b (subst P r.1 r.2))
 as_good_runs k W (Wrong ∷ es) l m f b r = absurd r.1
 
-idle_same : (k : ℕ) (items after others : List ℕ) (e : Effect) → IsIdle others e → Leaves k items e after → after ≡ items
+idle_same : (k : ℕ) (items after others : List ℕ) (e : Effect) → IsIdle others e → Leaves k items e after
+    → after ≡ items
 idle_same k items after others (Adds x) i s = absurd i
 idle_same k items after others (Takes x) i s = absurd i
 idle_same k items after others FindsNone i s = s.1 ∙ sym s.0
@@ -110,13 +119,16 @@ idle_same k items after others Refused i s = s
 idle_same k items after others Wrong i s = absurd s
 
 -- an idle call in a run may be left out
-pub without_idle : (k : ℕ) (items others : List ℕ) (e : Effect) (es fs : List Effect) → IsIdle others e → IsRun k items (es ++ e ∷ fs)
+pub without_idle : (k : ℕ) (items others : List ℕ) (e : Effect) (es fs : List Effect) → IsIdle others e
+    → IsRun k items (es ++ e ∷ fs)
     → IsRun k items (es ++ fs)
-without_idle k items others e [] fs i r = let P : List ℕ → Type 0 = λ t. IsRun k t fs in subst P (idle_same k items r.0 others e i r.1) r.2
+without_idle k items others e [] fs i r = let P : List ℕ → Type 0 = λ t. IsRun k t fs in
+    subst P (idle_same k items r.0 others e i r.1) r.2
 without_idle k items others e (d ∷ es) fs i r = (r.0, r.1, without_idle k r.0 others e es fs i r.2)
 
 -- and may go first
-pub idle_first : (k : ℕ) (items : List ℕ) (e : Effect) (es : List Effect) → IsIdle items e → IsRun k items es → IsRun k items (e ∷ es)
+pub idle_first : (k : ℕ) (items : List ℕ) (e : Effect) (es : List Effect) → IsIdle items e → IsRun k items es
+    → IsRun k items (e ∷ es)
 idle_first k items (Adds x) es i r = absurd i
 idle_first k items (Takes x) es i r = absurd i
 idle_first k [] FindsNone es i r = ([], (refl, refl), r)
@@ -142,26 +154,31 @@ in_pushed x y [] (inr h) = absurd h
 in_pushed x y (z ∷ l) (inl e) = inl (inl e)
 in_pushed x y (z ∷ l) (inr h) = elim (in_pushed x y l h) [ inl i ↦ inl (inr i) | inr e ↦ inr e ]
 
-later : (x : ℕ) (e : Effect) (es : List Effect) (l : List ℕ) → IsIn x l ⊎ Has (Adds x) es → IsIn x l ⊎ Has (Adds x) (e ∷ es)
+later : (x : ℕ) (e : Effect) (es : List Effect) (l : List ℕ) → IsIn x l ⊎ Has (Adds x) es
+    → IsIn x l ⊎ Has (Adds x) (e ∷ es)
 later x e es l (inl i) = inl i
 later x e es l (inr h) = inr (inr h)
 
-pushed_later : (x y : ℕ) (es : List Effect) (l : List ℕ) → IsIn x (l ++ y ∷ []) ⊎ Has (Adds x) es → IsIn x l ⊎ Has (Adds x) (Adds y ∷ es)
+pushed_later : (x y : ℕ) (es : List Effect) (l : List ℕ) → IsIn x (l ++ y ∷ []) ⊎ Has (Adds x) es
+    → IsIn x l ⊎ Has (Adds x) (Adds y ∷ es)
 pushed_later x y es l (inl i) = elim (in_pushed x y l i) [ inl j ↦ inl j | inr e ↦ inr (inl (ap (λ t. Adds t) e)) ]
 pushed_later x y es l (inr h) = inr (inr h)
 
-removed_later : (x : ℕ) (e : Effect) (es : List Effect) (l : List ℕ) (i : ℕ) → IsIn x (remove l i) ⊎ Has (Adds x) es → IsIn x l
+removed_later : (x : ℕ) (e : Effect) (es : List Effect) (l : List ℕ) (i : ℕ) → IsIn x (remove l i) ⊎ Has (Adds x) es
+    → IsIn x l
     ⊎ Has (Adds x) (e ∷ es)
 removed_later x e es l i (inl h) = inl (in_removed x l i h)
 removed_later x e es l i (inr h) = inr (inr h)
 
 -- what a run takes is there or is added
-pub taken_from : (k : ℕ) (x : ℕ) (es : List Effect) (l : List ℕ) → Has (Takes x) es → IsRun k l es → IsIn x l ⊎ Has (Adds x) es
+pub taken_from : (k : ℕ) (x : ℕ) (es : List Effect) (l : List ℕ) → Has (Takes x) es → IsRun k l es
+    → IsIn x l ⊎ Has (Adds x) es
 taken_from k x [] l h r = absurd h
 taken_from k x (Adds y ∷ es) l (inl e) r = absurd (cc)
 taken_from k x (Adds y ∷ es) l (inr h) r = let P : List ℕ → Type 0 = λ t. IsRun k t es in
     pushed_later x y es l (taken_from k x es (l ++ y ∷ []) h (subst P r.1 r.2))
-taken_from k x (Takes y ∷ es) l (inl e) r = inl (let s = r.1 in let q : x ≡ y = cc in in_get l s.0 x (s.2 ∙ ap (λ t. Some t) (sym q)))
+taken_from k x (Takes y ∷ es) l (inl e) r =
+    inl (let s = r.1 in let q : x ≡ y = cc in in_get l s.0 x (s.2 ∙ ap (λ t. Some t) (sym q)))
 taken_from k x (Takes y ∷ es) l (inr h) r =
     let P : List ℕ → Type 0 = λ t. IsRun k t es in
     let s = r.1 in

@@ -1,9 +1,10 @@
 -- Where equal items may go, taking the first of them is as good as any choice.
-use Rattle.std.proofs.Common.{ℕ, zero, suc, ◌≡◌, ◌+◌, ◌<◌, ◌≤◌, ◌⊎◌, Bool, true, false, cond, ◌&&◌, eqb, ltb, List, [], ◌∷◌, ◌++◌, length}
-use Rattle.std.proofs.Common.{refl, sym, ◌∙◌, ap, subst, inl, inr, arith, add-one, Option, Some, None, slice_get}
+use Rattle.std.proofs.Common.{ℕ, zero, suc, ◌≡◌, ◌+◌, ◌<◌, ◌≤◌, ◌⊎◌, Bool, true, false, cond, ◌&&◌, eqb, ltb, List, []}
+use Rattle.std.proofs.Common.{◌∷◌, ◌++◌, length, refl, sym, ◌∙◌, ap, subst, inl, inr, arith, add-one, Option, Some}
+use Rattle.std.proofs.Common.{None, slice_get}
 use Rattle.std.specs.List.{remove}
-use Rattle.std.proofs.lemmas.Bool.{cases_eq, cases_lt, cases_order, cond-true, cond-false, eq-eqb, ne_eqb, and_parts, and_from, ltb-true}
-use Rattle.std.proofs.lemmas.Bool.{lt-ltb}
+use Rattle.std.proofs.lemmas.Bool.{cases_eq, cases_lt, cases_order, cond-true, cond-false, eq-eqb, ne_eqb, and_parts}
+use Rattle.std.proofs.lemmas.Bool.{and_from, ltb-true, lt-ltb}
 use Rattle.std.proofs.lemmas.List.Edits.{remove-append_left}
 use Rattle.kfifo_model.specs.Lists.{place}
 use Rattle.kfifo_model.proofs.Types.{Effect}
@@ -47,8 +48,10 @@ same_some : (o : Option ℕ) (x y : ℕ) → o ≡ Some x → o ≡ Some y → x
 same_some o x y p q = cc
 
 -- x at i and v at a later place suc j: taken in either order, each is within k
-later_first : (k : ℕ) (l d e : List ℕ) (x v i j : ℕ) → i ≤ j → suc j < k → slice_get l i ≡ Some x → slice_get l (suc j) ≡ Some v
-    → d ≡ remove l i → e ≡ remove l (suc j) → (c : List ℕ) × (j' : ℕ) × (suc j' < k) × (slice_get d j' ≡ Some v) × (c ≡ remove d j')
+later_first : (k : ℕ) (l d e : List ℕ) (x v i j : ℕ) → i ≤ j → suc j < k → slice_get l i ≡ Some x
+    → slice_get l (suc j) ≡ Some v
+    → d ≡ remove l i → e ≡ remove l (suc j) → (c : List ℕ) × (j' : ℕ) × (suc j' < k) × (slice_get d j' ≡ Some v)
+    × (c ≡ remove d j')
     × Out k e x c
 later_first k l d e x v i j le lt gx gv dd ee = (
   remove d j,
@@ -65,8 +68,10 @@ later_first k l d e x v i j le lt gx gv dd ee = (
 )
 
 -- x at suc i and v at an earlier place j
-earlier_first : (k : ℕ) (l d e : List ℕ) (x v i j : ℕ) → j ≤ i → suc i < k → slice_get l (suc i) ≡ Some x → slice_get l j ≡ Some v
-    → d ≡ remove l (suc i) → e ≡ remove l j → (c : List ℕ) × (j' : ℕ) × (suc j' < k) × (slice_get d j' ≡ Some v) × (c ≡ remove d j')
+earlier_first : (k : ℕ) (l d e : List ℕ) (x v i j : ℕ) → j ≤ i → suc i < k → slice_get l (suc i) ≡ Some x
+    → slice_get l j ≡ Some v
+    → d ≡ remove l (suc i) → e ≡ remove l j → (c : List ℕ) × (j' : ℕ) × (suc j' < k) × (slice_get d j' ≡ Some v)
+    × (c ≡ remove d j')
     × Out k e x c
 earlier_first k l d e x v i j le lt gx gv dd ee = (
   remove d j,
@@ -82,17 +87,25 @@ earlier_first k l d e x v i j le lt gx gv dd ee = (
   ),
 )
 
-swapped_below : (k : ℕ) (g d c : List ℕ) (x v j i : ℕ) → j < i → i < k → slice_get g i ≡ Some x → d ≡ remove g i → suc j < k
+swapped_below : (k : ℕ) (g d c : List ℕ) (x v j i : ℕ) → j < i → i < k → slice_get g i ≡ Some x → d ≡ remove g i
+    → suc j < k
     → slice_get d j ≡ Some v → c ≡ remove d j → (f : List ℕ) × Out k g v f × Out k f x c
 swapped_below k g d c x v j zero h ik gx dd lt gv e = absurd (omega arith)
 swapped_below k g d c x v j (suc i) h ik gx dd lt gv e = (
   remove g j,
   (j, omega arith, sym (get_before g (suc i) j h) ∙ ap (λ t. slice_get t j) (sym dd) ∙ gv, refl),
-  (i, omega arith, get_after g j i (omega arith) ∙ gx, e ∙ ap (λ t. remove t j) dd ∙ sym (remove_swap g j i (omega arith))),
+  (
+    i,
+    omega arith,
+    get_after g j i (omega arith) ∙ gx,
+    e ∙ ap (λ t. remove t j) dd
+        ∙ sym (remove_swap g j i (omega arith)),
+  ),
 )
 
 -- v at j of d, which took x out of g: g takes v out as well, and then x
-swapped : (k : ℕ) (g d c : List ℕ) (x v j : ℕ) → Out k g x d → suc j < k → slice_get d j ≡ Some v → c ≡ remove d j → (f : List ℕ)
+swapped : (k : ℕ) (g d c : List ℕ) (x v j : ℕ) → Out k g x d → suc j < k → slice_get d j ≡ Some v → c ≡ remove d j
+    → (f : List ℕ)
     × Out k g v f × Out k f x c
 swapped k g d c x v j o lt gv ce =
     elim (cases_lt j o.0) [
@@ -100,7 +113,13 @@ swapped k g d c x v j o lt gv ce =
       | inr above ↦ (
         remove g (suc j),
         (suc j, lt, sym (get_after g o.0 j above) ∙ ap (λ t. slice_get t j) (sym o.3) ∙ gv, refl),
-        (o.0, o.1, get_before g (suc j) o.0 (omega arith) ∙ o.2, ce ∙ ap (λ t. remove t j) o.3 ∙ remove_swap g o.0 j above),
+        (
+          o.0,
+          o.1,
+          get_before g (suc j) o.0 (omega arith) ∙ o.2,
+          ce ∙ ap (λ t. remove t j) o.3 ∙ remove_swap g o.0 j
+              above,
+        ),
       )
     ]
 
@@ -139,13 +158,15 @@ pub record Like (k : ℕ) (g : List ℕ) (e : Effect) (after : List ℕ) : Type 
   pub alike : Alike k to after
 
 -- x at i and v at j of o
-like_apart : (k : ℕ) (g o d after : List ℕ) (x v : ℕ) → Out k g x d → (c : List ℕ) × (j : ℕ) × (suc j < k) × (slice_get d j ≡ Some v)
+like_apart : (k : ℕ) (g o d after : List ℕ) (x v : ℕ) → Out k g x d → (c : List ℕ) × (j : ℕ) × (suc j < k)
+    × (slice_get d j ≡ Some v)
     × (c ≡ remove d j) × Out k after x c → Like k g (Takes v) after
 like_apart k g o d after x v og p =
     let s = swapped k g d p.0 x v p.1 og p.2 p.3 p.4 in
     record { to = s.0; step = s.1; alike = inr (x, p.0, s.2, p.5) }
 
-like_taken : (k : ℕ) (g o d after : List ℕ) (x v i j : ℕ) → Out k g x d → i < k → slice_get o i ≡ Some x → d ≡ remove o i → j < k
+like_taken : (k : ℕ) (g o d after : List ℕ) (x v i j : ℕ) → Out k g x d → i < k → slice_get o i ≡ Some x
+    → d ≡ remove o i → j < k
     → slice_get o j ≡ Some v → after ≡ remove o j → (i ≡ j) ⊎ ((i < j) ⊎ (j < i)) → Like k g (Takes v) after
 like_taken k g o d after x v i j og ik gx dd jk gv e (inl q) =
     let same : x ≡ v = same_some (slice_get o j) x v (ap (slice_get o) (sym q) ∙ gx) gv in
@@ -175,7 +196,11 @@ like k g o after (Takes v) m l =
     like_taken k g o m.1 after m.0 v om.0 l.0 m.2 om.1 om.2 om.3 l.1 l.2 l.3 (cases_order om.0 l.0)
 like k g o after FindsNone m l = absurd (out_none k o m.1 m.0 m.3 l.0)
 like k g o after Refused m l =
-    record { to = g; step = refl; alike = inr (m.0, m.1, m.2, (let P : List ℕ → Type 0 = λ t. Out k t m.0 m.1 in subst P (sym l) m.3)) }
+    record {
+      to = g;
+      step = refl;
+      alike = inr (m.0, m.1, m.2, (let P : List ℕ → Type 0 = λ t. Out k t m.0 m.1 in subst P (sym l) m.3));
+    }
 like k g o after Wrong m l = absurd l
 
 -- what runs from o runs from what is alike
@@ -204,15 +229,18 @@ place_least (y ∷ l) x (suc j) h =
           (omega arith, ap (slice_get (y ∷ l)) z ∙ get_suc y l x (place l x) r.1))
     ]
 
-next_takes : (k : ℕ) (l : List ℕ) (x : ℕ) → place l x < k → place l x < length l → next k l (Takes x) ≡ Some (remove l (place l x))
+next_takes : (k : ℕ) (l : List ℕ) (x : ℕ) → place l x < k → place l x < length l
+    → next k l (Takes x) ≡ Some (remove l (place l x))
 next_takes k l x p q = cond-true (ltb (place l x) k && ltb (place l x) (length l)) (Some (remove l (place l x))) None
-    (and_from (ltb (place l x) k) (ltb (place l x) (length l)) (lt-ltb (place l x) k p) (lt-ltb (place l x) (length l) q))
+    (and_from (ltb (place l x) k) (ltb (place l x) (length l)) (lt-ltb (place l x) k p)
+    (lt-ltb (place l x) (length l) q))
 
 pub place_in : (l : List ℕ) (x : ℕ) → place l x < length l → slice_get l (place l x) ≡ Some x
 place_in [] x h = absurd (omega arith)
 place_in (y ∷ l) x h =
     elim (cases_eq y x) [
-      | inl e ↦ (let z = cond-true (eqb y x) 0 (place l x + 1) (eq-eqb y x e) in ap (slice_get (y ∷ l)) z ∙ ap (λ t. Some t) e)
+      | inl e ↦ (let z = cond-true (eqb y x) 0 (place l x + 1) (eq-eqb y x e) in ap (slice_get (y ∷ l)) z
+          ∙ ap (λ t. Some t) e)
       | inr ne ↦ (let z = cond-false (eqb y x) 0 (place l x + 1) (ne_eqb y x ne) in ap (slice_get (y ∷ l)) z
           ∙ get_suc y l x (place l x) (place_in l x (omega arith)))
     ]
@@ -221,7 +249,8 @@ same_list : (o : Option (List ℕ)) (x y : List ℕ) → o ≡ Some x → o ≡ 
 same_list o x y p q = cc
 
 takes_test : (k : ℕ) (l after : List ℕ) (x : ℕ) (b : Bool) → b ≡ (ltb (place l x) k && ltb (place l x) (length l))
-    → cond b (Some (remove l (place l x))) None ≡ Some after → (place l x < k) × (place l x < length l) × (after ≡ remove l (place l x))
+    → cond b (Some (remove l (place l x))) None ≡ Some after → (place l x < k) × (place l x < length l)
+    × (after ≡ remove l (place l x))
 takes_test k l after x true q h =
     let p = and_parts (ltb (place l x) k) (ltb (place l x) (length l)) (sym q) in
     (ltb-true (place l x) k p.0, ltb-true (place l x) (length l) p.1, cc)
@@ -237,7 +266,8 @@ next_leaves k (y ∷ l) after FindsNone h = absurd (cc)
 next_leaves k l after Refused h = cc
 next_leaves k l after Wrong h = absurd (cc)
 
-take_alike : (k : ℕ) (l o : List ℕ) (x i j : ℕ) → i ≤ j → j < k → slice_get l i ≡ Some x → slice_get l j ≡ Some x → o ≡ remove l j
+take_alike : (k : ℕ) (l o : List ℕ) (x i j : ℕ) → i ≤ j → j < k → slice_get l i ≡ Some x → slice_get l j ≡ Some x
+    → o ≡ remove l j
     → Alike k (remove l i) o
 take_alike k l o x i zero le jk gi gj e = let z : i ≡ 0 = omega arith in inl (ap (remove l) z ∙ sym e)
 take_alike k l o x i (suc j) le jk gi gj e =
@@ -248,7 +278,8 @@ take_alike k l o x i (suc j) le jk gi gj e =
     ]
 
 -- the first item is as good as any
-takes_first : (k : ℕ) (l o : List ℕ) (x : ℕ) → Leaves k l (Takes x) o → (next k l (Takes x) ≡ Some (remove l (place l x)))
+takes_first : (k : ℕ) (l o : List ℕ) (x : ℕ) → Leaves k l (Takes x) o
+    → (next k l (Takes x) ≡ Some (remove l (place l x)))
     × Alike k (remove l (place l x)) o
 takes_first k l o x s =
     let p = place_least l x s.0 s.2 in
@@ -267,14 +298,16 @@ leaves_next k l o Refused s = (l, refl, inl (sym s))
 leaves_next k l o Wrong s = absurd s
 
 -- a run goes on with the list that the first choices leave, and only so
-pub run_on : (k : ℕ) (l after : List ℕ) (e : Effect) (es : List Effect) → next k l e ≡ Some after → IsRun k l (e ∷ es) → IsRun k after es
+pub run_on : (k : ℕ) (l after : List ℕ) (e : Effect) (es : List Effect) → next k l e ≡ Some after → IsRun k l (e ∷ es)
+    → IsRun k after es
 run_on k l after e es h r =
     let p = leaves_next k l r.0 e r.1 in
     let same : p.0 ≡ after = same_list (next k l e) p.0 after p.1 h in
     let P : List ℕ → Type 0 = λ t. IsRun k t es in
     subst P same (alike_runs k es p.0 r.0 p.2 r.2)
 
-pub run_back : (k : ℕ) (l after : List ℕ) (e : Effect) (es : List Effect) → next k l e ≡ Some after → IsRun k after es → IsRun k l (e ∷ es)
+pub run_back : (k : ℕ) (l after : List ℕ) (e : Effect) (es : List Effect) → next k l e ≡ Some after → IsRun k after es
+    → IsRun k l (e ∷ es)
 run_back k l after e es h r = (after, next_leaves k l after e h, r)
 
 pub no_run : (k : ℕ) (l : List ℕ) (e : Effect) (es : List Effect) → next k l e ≡ None → IsRun k l (e ∷ es) → ⊥

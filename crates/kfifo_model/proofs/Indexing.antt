@@ -1,13 +1,15 @@
 -- An index grows call by call; counted over the rivals that it gives, an item's certain overtakings are all of them.
-use Rattle.std.proofs.Common.{ℕ, zero, suc, ◌≡◌, ◌≢◌, ◌+◌, ◌<◌, ◌⊎◌, ◌&&◌, ◌||◌, Bool, true, false, cond, not, eqb, ltb, List, [], ◌∷◌}
-use Rattle.std.proofs.Common.{◌++◌, length, refl, sym, ◌∙◌, ap, subst, inl, inr, arith, Option, Some, None}
+use Rattle.std.proofs.Common.{ℕ, zero, suc, ◌≡◌, ◌≢◌, ◌+◌, ◌<◌, ◌⊎◌, ◌&&◌, ◌||◌, Bool, true, false, cond, not, eqb, ltb}
+use Rattle.std.proofs.Common.{List, [], ◌∷◌, ◌++◌, length, refl, sym, ◌∙◌, ap, subst, inl, inr, arith, Option, Some}
+use Rattle.std.proofs.Common.{None}
 use Rattle.std.specs.Option.{MatchOption, option_map, option_to_list, is_some}
 use Rattle.std.proofs.lemmas.Bool.{cases_lt, cases_eq, ne_eqb, false≢true}
 use Rattle.std.proofs.lemmas.Bool.{and_parts, eqb-true, eq-eqb, false_from_ne_true}
 use Rattle.std.proofs.lemmas.List.Sums.{sum_by-cons, sum_by-append}
 use Rattle.std.specs.List.{filter, range_with_len, count_by}
 use Rattle.kfifo_model.proofs.Types.{Call, Effect, End, Op, Rival}
-use Rattle.kfifo_model.specs.Overtaking.{some, adds, takes, ends_below, precedes, overtakes_at, overtakes, numbers_of, certainly_overtaken}
+use Rattle.kfifo_model.specs.Overtaking.{some, adds, takes, ends_below, precedes, overtakes_at, overtakes, numbers_of}
+use Rattle.kfifo_model.specs.Overtaking.{certainly_overtaken}
 use Rattle.kfifo_model.proofs.Ranges.{in_range, some_at, some_none, some_below}
 use Rattle.kfifo_model.proofs.Measuring.{below, listed, count_more, count_same}
 use Rattle.std.specs.Ordering.{nat_cmp, is_eq}
@@ -35,9 +37,13 @@ Finds h side n x o = MatchOption o ((j : ℕ) → j < n → does h j ≡ side_ef
 at_below : (n j : ℕ) → j < n + 1 → (j < n) ⊎ (j ≡ n)
 at_below n j lt = elim (cases_lt j n) [ inl below ↦ inl below | inr le ↦ inr (omega arith) ]
 
-finds_skip : (h : List Call) (side : Side) (n x : ℕ) (o : Option ℕ) → Finds h side n x o → (does h n ≡ side_effect side x → ⊥)
+finds_skip : (h : List Call) (side : Side) (n x : ℕ) (o : Option ℕ) → Finds h side n x o
+    → (does h n ≡ side_effect side x → ⊥)
     → Finds h side (n + 1) x o
-finds_skip h side n x None f g = λ j lt e. elim (at_below n j lt) [ inl below ↦ f j below e | inr s ↦ g (ap (does h) (sym s) ∙ e) ]
+finds_skip h side n x None f g = λ j lt e. elim (at_below n j lt) [
+  | inl below ↦ f j below e
+  | inr s ↦ g (ap (does h) (sym s) ∙ e)
+]
 finds_skip h side n x (Some t) f g = (f.0, (let lt : f.0 < n = f.1 in omega arith), f.2, f.3)
 
 one_effect : (side : Side) (x y : ℕ) → side_effect side x ≡ side_effect side y → x ≡ y
@@ -46,11 +52,15 @@ one_effect Out x y e = cc
 
 once_more : (h : List Call) (side : Side) (n : ℕ)
     → ((x i j : ℕ) → i < n → j < n → does h i ≡ side_effect side x → does h j ≡ side_effect side x → i ≡ j)
-    → ((x j : ℕ) → j < n → does h j ≡ side_effect side x → does h n ≡ side_effect side x → ⊥) → (x i j : ℕ) → i < n + 1 → j < n + 1
+    → ((x j : ℕ) → j < n → does h j ≡ side_effect side x → does h n ≡ side_effect side x → ⊥) → (x i j : ℕ) → i < n + 1
+    → j < n + 1
     → does h i ≡ side_effect side x → does h j ≡ side_effect side x → i ≡ j
 once_more h side n f g x i j li lj a b =
     elim (at_below n i li) [
-      | inl p ↦ elim (at_below n j lj) [ inl q ↦ f x i j p q a b | inr e ↦ absurd (g x i p a (ap (does h) (sym e) ∙ b)) ]
+      | inl p ↦ elim (at_below n j lj) [
+        | inl q ↦ f x i j p q a b
+        | inr e ↦ absurd (g x i p a (ap (does h) (sym e) ∙ b))
+      ]
       | inr d ↦ elim (at_below n j lj) [ inl q ↦ absurd (g x j q b (ap (does h) (sym d) ∙ a)) | inr e ↦ d ∙ sym e ]
     ]
 
@@ -67,7 +77,8 @@ found_none h side n x None e f = f
 found_none h side n x (Some t) e f = absurd (cc)
 
 pub index_more : (h : List Call) (side : Side) (n x f : ℕ) (g k : ℕ → Option ℕ) → IsIndex h side n g → g x ≡ None
-    → does h n ≡ side_effect side x → (call h n).first ≡ f → k x ≡ Some f → ((q : ℕ) → q ≢ x → k q ≡ g q) → IsIndex h side (n + 1) k
+    → does h n ≡ side_effect side x → (call h n).first ≡ f → k x ≡ Some f → ((q : ℕ) → q ≢ x → k q ≡ g q)
+    → IsIndex h side (n + 1) k
 index_more h side n x f g k i new e first here others = record {
   finds = λ q. elim (cases_eq q x) [
     | inl s ↦ (
@@ -77,7 +88,8 @@ index_more h side n x f g k i new e first here others = record {
         )
     | inr ne ↦ (
         let P : Option ℕ → Type 0 = λ o. Finds h side (n + 1) q o in
-        subst P (sym (others q ne)) (finds_skip h side n q (g q) (i.finds q) (λ d. ne (one_effect side q x (sym d ∙ e))))
+        subst P (sym (others q ne))
+        (finds_skip h side n q (g q) (i.finds q) (λ d. ne (one_effect side q x (sym d ∙ e))))
         )
   ];
   once = once_more h side n i.once (λ q j lt a b. let s = one_effect side q x (sym b ∙ e) in let P : ℕ
@@ -101,7 +113,8 @@ was_none (Some x) p e f = absurd (false≢true f)
 count_step : (t : ℕ → Bool) (n : ℕ) (b : Bool) → t n ≡ b
     → length (filter t (range_with_len 0 (n + 1))) ≡ length (filter t (range_with_len 0 n)) + cond b 1 0
 count_step t n true e = count_more t n e
-count_step t n false e = let z : length (filter t (range_with_len 0 n)) ≡ length (filter t (range_with_len 0 n)) + 0 = omega arith in
+count_step t n false e = let z : length (filter t (range_with_len 0 n)) ≡ length (filter t (range_with_len 0 n)) + 0 =
+    omega arith in
     count_same t n e ∙ z
 
 abbrev pub test_of : (Rival → Bool) → Option Rival → Bool
@@ -110,7 +123,8 @@ test_of p (Some r) = p r
 
 count_option : (p : Rival → Bool) (o : Option Rival) → count_by p (option_to_list o) ≡ cond (test_of p o) 1 0
 count_option p None = refl
-count_option p (Some r) = sum_by-cons (λ x. cond (p x) 1 0) r [] ∙ (let z : cond (p r) 1 0 + 0 ≡ cond (p r) 1 0 = omega arith in z)
+count_option p (Some r) = sum_by-cons (λ x. cond (p x) 1 0) r []
+    ∙ (let z : cond (p r) 1 0 + 0 ≡ cond (p r) 1 0 = omega arith in z)
 
 pub count_rivals : (h : List Call) (g : ℕ → Option ℕ) (p : Rival → Bool) (n : ℕ)
     → count_by p (rivals_below h g n) ≡ length (filter (λ d. test_of p (rival_at h g d)) (range_with_len 0 n))
@@ -118,13 +132,16 @@ count_rivals h g p zero = refl
 count_rivals h g p (suc n) =
     sum_by-append (λ x. cond (p x) 1 0) (rivals_below h g n) (option_to_list (rival_at h g n))
     ∙ (ap (λ t. t + count_by p (option_to_list (rival_at h g n))) (count_rivals h g p n)
-    ∙ (ap (λ t. length (filter (λ d. test_of p (rival_at h g d)) (range_with_len 0 n)) + t) (count_option p (rival_at h g n))
+    ∙ (ap (λ t. length (filter (λ d. test_of p (rival_at h g d)) (range_with_len 0 n)) + t)
+    (count_option p (rival_at h g n))
     ∙ (sym (count_step (λ d. test_of p (rival_at h g d)) n (test_of p (rival_at h g n)) refl)
-    ∙ ap (λ k. length (filter (λ d. test_of p (rival_at h g d)) (range_with_len 0 k))) (let z : n + 1 ≡ suc n = omega arith in z))))
+    ∙ ap (λ k. length (filter (λ d. test_of p (rival_at h g d)) (range_with_len 0 k))) (let z : n + 1 ≡ suc n =
+    omega arith in z))))
 
 pub filter_same : (p q : ℕ → Bool) (l : List ℕ) → ((d : ℕ) → p d ≡ q d) → filter p l ≡ filter q l
 filter_same p q [] f = refl
-filter_same p q (x ∷ l) f = ap (λ b. cond b (x ∷ filter p l) (filter p l)) (f x) ∙ ap (λ t. cond (q x) (x ∷ t) t) (filter_same p q l f)
+filter_same p q (x ∷ l) f = ap (λ b. cond b (x ∷ filter p l) (filter p l)) (f x)
+    ∙ ap (λ t. cond (q x) (x ∷ t) t) (filter_same p q l f)
 
 -- ---- a test that only one number can pass
 
@@ -162,30 +179,35 @@ twice false = refl
 -- the call that put y comes after one that ended at last
 put_after : (h : List Call) (last y : ℕ) (o : Option ℕ) → Finds h In (length h) y o
     → ((i j : ℕ) → i < length h → j < length h → does h i ≡ Adds y → does h j ≡ Adds y → i ≡ j)
-    → some (λ e. adds y (does h e) && ltb last (call h e).first) (range_with_len 0 (length h)) ≡ option_test (ltb last) o
+    → some (λ e. adds y (does h e) && ltb last (call h e).first) (range_with_len 0 (length h))
+    ≡ option_test (ltb last) o
 put_after h last y None f once =
     some_none (λ e. adds y (does h e) && ltb last (call h e).first) 0 (length h)
     (λ j lt. false_from_ne_true _ (λ s. let p = and_parts (adds y (does h j)) (ltb last (call h j).first) s in let q : j
     < length h = omega arith in f j q (adds_is y (does h j) p.0)))
 put_after h last y (Some t) f once =
     one_some (λ e. adds y (does h e) && ltb last (call h e).first) (length h) f.0 f.1
-    (λ i lt s. let p = and_parts (adds y (does h i)) (ltb last (call h i).first) s in once i f.0 lt f.1 (adds_is y (does h i) p.0) f.2) _
+    (λ i lt s. let p = and_parts (adds y (does h i)) (ltb last (call h i).first) s in once i f.0 lt f.1
+    (adds_is y (does h i) p.0) f.2) _
     refl
     ∙ (ap (λ b. b && ltb last (call h f.0).first) (ap (adds y) f.2 ∙ eq-eqb y y refl) ∙ ap (ltb last) f.3)
 
 -- no call that got x begins by the step at which another ended
 got_after : (h : List Call) (last x : ℕ) (o : Option ℕ) → Finds h Out (length h) x o
     → ((i j : ℕ) → i < length h → j < length h → does h i ≡ Takes x → does h j ≡ Takes x → i ≡ j)
-    → not (some (λ t. takes x (does h t) && not (ltb last (call h t).first)) (range_with_len 0 (length h))) ≡ ends_before last o
+    → not (some (λ t. takes x (does h t) && not (ltb last (call h t).first)) (range_with_len 0 (length h)))
+    ≡ ends_before last o
 got_after h last x None f once =
     ap not (some_none (λ t. takes x (does h t) && not (ltb last (call h t).first)) 0 (length h)
-    (λ j lt. false_from_ne_true _ (λ s. let p = and_parts (takes x (does h j)) (not (ltb last (call h j).first)) s in let q : j
+    (λ j lt. false_from_ne_true _ (λ s. let p = and_parts (takes x (does h j)) (not (ltb last (call h j).first)) s in
+    let q : j
     < length h = omega arith in f j q (takes_is x (does h j) p.0))))
 got_after h last x (Some t) f once =
     ap not (one_some (λ e. takes x (does h e) && not (ltb last (call h e).first)) (length h) f.0 f.1
     (λ i lt s. let p = and_parts (takes x (does h i)) (not (ltb last (call h i).first)) s in
     once i f.0 lt f.1 (takes_is x (does h i) p.0) f.2) _ refl
-    ∙ (ap (λ b. b && not (ltb last (call h f.0).first)) (ap (takes x) f.2 ∙ eq-eqb x x refl) ∙ ap (λ w. not (ltb last w)) f.3))
+    ∙ (ap (λ b. b && not (ltb last (call h f.0).first)) (ap (takes x) f.2 ∙ eq-eqb x x refl)
+    ∙ ap (λ w. not (ltb last w)) f.3))
     ∙ twice (ltb last t)
 
 -- ---- overtakings by the index
@@ -194,7 +216,8 @@ some_same : (p q : ℕ → Bool) (l : List ℕ) → ((e : ℕ) → p e ≡ q e) 
 some_same p q [] f = refl
 some_same p q (x ∷ l) f = ap (λ b. b || some p l) (f x) ∙ ap (λ b. q x || b) (some_same p q l f)
 
-takes_ended : (op : Op) (o : Option End) (x : ℕ) → effect_at op o ≡ Takes x → (s : ℕ) → ends_below o s ≡ ltb (last_of o) s
+takes_ended : (op : Op) (o : Option End) (x : ℕ) → effect_at op o ≡ Takes x → (s : ℕ)
+    → ends_below o s ≡ ltb (last_of o) s
 takes_ended op (Some end) x e s = refl
 takes_ended (Enqueue y) None x e s = absurd (cc)
 takes_ended Dequeue None x e s = absurd (cc)
@@ -212,7 +235,8 @@ done_effect (Enqueue y) (Some end) x e = done_adds end.answer y x e
 done_effect (Enqueue y) None x e = absurd (cc)
 done_effect Dequeue o x e = absurd (cc)
 
-pub done_ended : (op : Op) (o : Option End) (x : ℕ) → done_item op o ≡ Some x → (s : ℕ) → ends_below o s ≡ ltb (last_of o) s
+pub done_ended : (op : Op) (o : Option End) (x : ℕ) → done_item op o ≡ Some x → (s : ℕ)
+    → ends_below o s ≡ ltb (last_of o) s
 done_ended op (Some end) x e s = refl
 done_ended (Enqueue y) None x e s = absurd (cc)
 done_ended Dequeue None x e s = absurd (cc)
@@ -224,7 +248,8 @@ rival_test last got_last f g None = refl
 rival_test last got_last f g (Some t) = refl
 
 -- the call d, which has this effect
-by_effect : (h : List Call) (puts gots : ℕ → Option ℕ) → IsIndex h In (length h) puts → IsIndex h Out (length h) gots → (c x last : ℕ)
+by_effect : (h : List Call) (puts gots : ℕ → Option ℕ) → IsIndex h In (length h) puts → IsIndex h Out (length h) gots
+    → (c x last : ℕ)
     → ((s : ℕ) → ends_below (call h c).end s ≡ ltb last s) → (d : ℕ) (e : Effect) → does h d ≡ e
     → overtakes_at (does h) (precedes h) (numbers_of h) c d (Adds x) e
     ≡ test_of (is_beaten last (gots x)) (rival_of puts e (last_of (call h d).end))
@@ -233,7 +258,8 @@ by_effect h puts gots p g c x last ends d (Takes y) q =
     let now = takes_ended (call h d).op (call h d).end y q in
     ap (λ b. b && not (some (λ t. takes x (does h t) && not (precedes h d t)) n))
     (some_same (λ e. adds y (does h e) && precedes h c e) (λ e. adds y (does h e) && ltb last (call h e).first) n
-    (λ e. ap (λ b. adds y (does h e) && b) (ends (call h e).first)) ∙ put_after h last y (puts y) (p.finds y) (p.once y))
+    (λ e. ap (λ b. adds y (does h e) && b) (ends (call h e).first))
+    ∙ put_after h last y (puts y) (p.finds y) (p.once y))
     ∙ (ap (λ b. option_test (ltb last) (puts y) && b)
     (ap not (some_same (λ t. takes x (does h t) && not (precedes h d t))
     (λ t. takes x (does h t) && not (ltb (last_of (call h d).end) (call h t).first)) n
@@ -245,7 +271,8 @@ by_effect h puts gots p g c x last ends d FindsNone q = refl
 by_effect h puts gots p g c x last ends d Refused q = refl
 by_effect h puts gots p g c x last ends d Wrong q = refl
 
-overtakes_is : (h : List Call) (puts gots : ℕ → Option ℕ) → IsIndex h In (length h) puts → IsIndex h Out (length h) gots → (c x last : ℕ)
+overtakes_is : (h : List Call) (puts gots : ℕ → Option ℕ) → IsIndex h In (length h) puts → IsIndex h Out (length h) gots
+    → (c x last : ℕ)
     → does h c ≡ Adds x → ((s : ℕ) → ends_below (call h c).end s ≡ ltb last s) → (d : ℕ)
     → overtakes (does h) (precedes h) (numbers_of h) c d ≡ test_of (is_beaten last (gots x)) (rival_at h puts d)
 overtakes_is h puts gots p g c x last adds ends d =
@@ -253,7 +280,8 @@ overtakes_is h puts gots p g c x last adds ends d =
     ∙ by_effect h puts gots p g c x last ends d (does h d) refl
 
 -- the overtakings that are certain, counted over the rivals
-pub count_is : (h : List Call) (puts gots : ℕ → Option ℕ) → IsIndex h In (length h) puts → IsIndex h Out (length h) gots → (c x last : ℕ)
+pub count_is : (h : List Call) (puts gots : ℕ → Option ℕ) → IsIndex h In (length h) puts → IsIndex h Out (length h) gots
+    → (c x last : ℕ)
     → does h c ≡ Adds x → ((s : ℕ) → ends_below (call h c).end s ≡ ltb last s)
     → count_by (λ r. is_beaten last (gots x) r) (rivals_below h puts (length h)) ≡ certainly_overtaken h c
 count_is h puts gots p g c x last adds ends =
@@ -266,14 +294,17 @@ next_measured : (h : List Call) (n : ℕ) → measured h (n + 1)
     ≡ measured h n ++ measure_of n (certainly_overtaken h n) (done_item (call h n).op (call h n).end)
 next_measured h n = ap (measured h) (let z : n + 1 ≡ suc n = omega arith in z)
 
-pub measured_none : (h : List Call) (n : ℕ) (found : List Overtaken) → found ≡ measured h n → done_item (call h n).op (call h n).end ≡ None
+pub measured_none : (h : List Call) (n : ℕ) (found : List Overtaken) → found ≡ measured h n
+    → done_item (call h n).op (call h n).end ≡ None
     → found ≡ measured h (n + 1)
 measured_none h n found e q =
     e ∙ (sym (append-nil (measured h n)) ∙ (ap (λ o. measured h n ++ measure_of n (certainly_overtaken h n) o) (sym q)
     ∙ sym (next_measured h n)))
 
-pub measured_some : (h : List Call) (puts gots : ℕ → Option ℕ) → IsIndex h In (length h) puts → IsIndex h Out (length h) gots
-    → (n : ℕ) (rivals : List Rival) (found more : List Overtaken) (o : Overtaken) → rivals ≡ rivals_below h puts (length h)
+pub measured_some : (h : List Call) (puts gots : ℕ → Option ℕ) → IsIndex h In (length h) puts
+    → IsIndex h Out (length h) gots
+    → (n : ℕ) (rivals : List Rival) (found more : List Overtaken) (o : Overtaken)
+    → rivals ≡ rivals_below h puts (length h)
     → found ≡ measured h n → o.call ≡ n → done_item (call h n).op (call h n).end ≡ Some o.item
     → o.count ≡ count_by (λ r. is_beaten (last_of (call h n).end) (gots o.item) r) rivals → more ≡ found ++ o ∷ []
     → more ≡ measured h (n + 1)
@@ -281,7 +312,8 @@ measured_some h puts gots p g n rivals found more o rs e number item count is =
     let c = call h n in
     let total : o.count ≡ certainly_overtaken h n =
     count ∙ (ap (λ t. count_by (λ r. is_beaten (last_of c.end) (gots o.item) r) t) rs
-    ∙ count_is h puts gots p g n o.item (last_of c.end) (done_effect c.op c.end o.item item) (done_ended c.op c.end o.item item)) in
+    ∙ count_is h puts gots p g n o.item (last_of c.end) (done_effect c.op c.end o.item item)
+    (done_ended c.op c.end o.item item)) in
     let same : o ≡ record { call = n; item = o.item; count = certainly_overtaken h n } =
     ap (λ t. let r : Overtaken = record { call = t; item = o.item; count = o.count } in r) number
     ∙ ap (λ t. let r : Overtaken = record { call = n; item = o.item; count = t } in r) total in
@@ -290,7 +322,8 @@ measured_some h puts gots p g n rivals found more o rs e number item count is =
 
 -- ---- the faults
 
-pub all_distinct : (h : List Call) (puts gots : ℕ → Option ℕ) → IsIndex h In (length h) puts → IsIndex h Out (length h) gots
+pub all_distinct : (h : List Call) (puts gots : ℕ → Option ℕ) → IsIndex h In (length h) puts
+    → IsIndex h Out (length h) gots
     → HasDistinctItems h
 all_distinct h puts gots p g = (
   λ x c d i j a b. p.once x c d (below h c i) (below h d j) a b,

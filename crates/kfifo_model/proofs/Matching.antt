@@ -1,22 +1,24 @@
 -- Two histories of the same calls, g and h: an order that is legal in h is legal in g, and h has what g has of distinct
 -- items, finished enqueues and certain overtakings.
-use Rattle.std.proofs.Common.{ℕ, ◌≡◌, ◌<◌, ◌≤◌, ◌⊎◌, ◌&&◌, Bool, true, not, List, [], ◌∷◌, ◌++◌, length, map, refl, sym, ◌∙◌, ap, subst}
-use Rattle.std.proofs.Common.{inl, inr, arith, Option, Some, None, length-append}
+use Rattle.std.proofs.Common.{ℕ, ◌≡◌, ◌<◌, ◌≤◌, ◌⊎◌, ◌&&◌, Bool, true, not, List, [], ◌∷◌, ◌++◌, length, map, refl, sym}
+use Rattle.std.proofs.Common.{◌∙◌, ap, subst, inl, inr, arith, Option, Some, None, length-append}
 use Rattle.std.specs.List.{filter}
-use Rattle.std.proofs.lemmas.Bool.{cases_lt, and_parts, and_from, not-true, not_from_false, false_from_ne_true, false≢true, ltb-true}
-use Rattle.std.proofs.lemmas.Bool.{lt-ltb}
+use Rattle.std.proofs.lemmas.Bool.{cases_lt, and_parts, and_from, not-true, not_from_false, false_from_ne_true}
+use Rattle.std.proofs.lemmas.Bool.{false≢true, ltb-true, lt-ltb}
 use Rattle.std.proofs.lemmas.List.{length-map}
 use Rattle.kfifo_model.proofs.Types.{Call, Effect, End, Op}
 use Rattle.kfifo_model.specs.declared.calls.Op.TheVariants.{Enqueue, Dequeue}
 use Rattle.kfifo_model.specs.Lists.{IsIn, EachPair}
 use Rattle.kfifo_model.specs.declared.effects.Effect.TheVariants.{Adds, Takes}
 use Rattle.kfifo_model.specs.Relaxed.{effect, IsRun}
-use Rattle.kfifo_model.specs.Histories.{call, does, effect_at, CanStand, HasEnd, IsFinished, EndsBelow, Precedes, HasOnlyCalls, IsOrder}
-use Rattle.kfifo_model.specs.Histories.{IsLegal}
-use Rattle.kfifo_model.specs.Overtaking.{some, adds, takes, overtakes_at, overtakes, ends_below, precedes, numbers_of, certainly_overtaken}
+use Rattle.kfifo_model.specs.Histories.{call, does, effect_at, CanStand, HasEnd, IsFinished, EndsBelow, Precedes}
+use Rattle.kfifo_model.specs.Histories.{HasOnlyCalls, IsOrder, IsLegal}
+use Rattle.kfifo_model.specs.Overtaking.{some, adds, takes, overtakes_at, overtakes, ends_below, precedes, numbers_of}
+use Rattle.kfifo_model.specs.Overtaking.{certainly_overtaken}
 use Rattle.kfifo_model.specs.Measures.{EndsDone, IsDoneEnqueue, HasDistinctItems}
 use Rattle.kfifo_model.specs.Matching.{Bijects, Matches}
-use Rattle.kfifo_model.proofs.Lists.{in_more, parted, each_at, each_from, each_map, in_map, pairs_map, pairs_weaker, Differ}
+use Rattle.kfifo_model.proofs.Lists.{in_more, parted, each_at, each_from, each_map, in_map, pairs_map, pairs_weaker}
+use Rattle.kfifo_model.proofs.Lists.{Differ}
 use Rattle.kfifo_model.proofs.Ranges.{in_filter, into_filter, pairs_filter, range_differs, some_at, some_from}
 use Rattle.kfifo_model.proofs.Checking.{in_bounds}
 use Rattle.kfifo_model.proofs.Measuring.{listed, below}
@@ -30,13 +32,15 @@ into_map f x (y ∷ l) (inl e) = inl (ap f e)
 into_map f x (y ∷ l) (inr i) = inr (into_map f x l i)
 
 -- f after t, member for member, is r
-pub map_through : {X : Type 0} (f r : ℕ → X) (t : ℕ → ℕ) (l : List ℕ) → ((x : ℕ) → IsIn x l → f (t x) ≡ r x) → map f (map t l) ≡ map r l
+pub map_through : {X : Type 0} (f r : ℕ → X) (t : ℕ → ℕ) (l : List ℕ) → ((x : ℕ) → IsIn x l → f (t x) ≡ r x)
+    → map f (map t l) ≡ map r l
 map_through f r t [] e = refl
 map_through f r t (x ∷ l) e =
     ap (λ y. y ∷ map f (map t l)) (e x (inl refl)) ∙ ap (λ ys. r x ∷ ys) (map_through f r t l (λ y i. e y (inr i)))
 
 -- a list with no repeats whose members are all in another is no longer than that one
-pub no_longer : (l others : List ℕ) → EachPair Differ l → ((x : ℕ) → IsIn x l → IsIn x others) → length l ≤ length others
+pub no_longer : (l others : List ℕ) → EachPair Differ l → ((x : ℕ) → IsIn x l → IsIn x others)
+    → length l ≤ length others
 no_longer [] others d f = omega arith
 no_longer (x ∷ l) others d f =
     let p = parted x others (f x (inl refl)) in
@@ -97,8 +101,10 @@ match_by R a b left right one_left one_right =
         from = from;
         to_within = λ n lt. (there n lt).0;
         from_within = λ m lt. (here m lt).0;
-        forth = λ n lt. let t = there n lt in let u = here (to n) t.0 in one_left (from (to n)) n (to n) u.0 lt t.0 u.1 t.1;
-        back = λ m lt. let u = here m lt in let t = there (from m) u.0 in one_right (from m) (to (from m)) m u.0 t.0 lt t.1 u.1;
+        forth = λ n lt. let t = there n lt in let u = here (to n) t.0 in
+            one_left (from (to n)) n (to n) u.0 lt t.0 u.1 t.1;
+        back = λ m lt. let u = here m lt in let t = there (from m) u.0 in
+            one_right (from m) (to (from m)) m u.0 t.0 lt t.1 u.1;
       },
       λ n lt. (there n lt).1,
     )
@@ -106,7 +112,8 @@ match_by R a b left right one_left one_right =
 -- ---- calls that match
 
 -- one answer, one effect
-same_effect : (op : Op) (o p : Option End) (e f : End) → o ≡ Some e → p ≡ Some f → e.answer ≡ f.answer → effect_at op o ≡ effect_at op p
+same_effect : (op : Op) (o p : Option End) (e f : End) → o ≡ Some e → p ≡ Some f → e.answer ≡ f.answer
+    → effect_at op o ≡ effect_at op p
 same_effect op o p e f oe pf a = ap (effect_at op) oe ∙ (ap (effect op) a ∙ sym (ap (effect_at op) pf))
 
 -- a call does the same in both histories, here by its number in g, and next by the one in h
@@ -114,7 +121,8 @@ pub same_does : (g h : List Call) (m : Matches g h) (n : ℕ) → n < length g �
 same_does g h m n lt =
     let there = call h (m.numbers.to n) in
     let a = m.answers n lt in
-    ap (λ op. effect_at op (call g n).end) (m.same_op n lt) ∙ same_effect there.op (call g n).end there.end a.0 a.1 a.2 a.3 a.4
+    ap (λ op. effect_at op (call g n).end) (m.same_op n lt) ∙ same_effect there.op (call g n).end there.end a.0 a.1 a.2
+    a.3 a.4
 
 pub does_back : (g h : List Call) (m : Matches g h) (n : ℕ) → n < length h → does g (m.numbers.from n) ≡ does h n
 does_back g h m n lt =
@@ -144,17 +152,20 @@ precedes_back g h m c d lc ld p =
     let t = m.numbers in
     let P : ℕ → Type 0 = λ w. Precedes h w (t.to (t.from d)) in
     let Q : ℕ → Type 0 = λ w. Precedes h c w in
-    subst Q (t.back d ld) (subst P (t.back c lc) (m.keeps (t.from c) (t.from d) (t.from_within c lc) (t.from_within d ld) p))
+    subst Q (t.back d ld)
+    (subst P (t.back c lc) (m.keeps (t.from c) (t.from d) (t.from_within c lc) (t.from_within d ld) p))
 
 -- an order of h is one of g
-matched_order : (g h : List Call) (order : List ℕ) (m : Matches g h) → IsOrder h order → IsOrder g (map m.numbers.from order)
+matched_order : (g h : List Call) (order : List ℕ) (m : Matches g h) → IsOrder h order
+    → IsOrder g (map m.numbers.from order)
 matched_order g h order m o =
     let t = m.numbers in
     let inside : (x : ℕ) → IsIn x order → x < length h = λ x i. order_within h order x o.calls i in
     record {
       distinct = pairs_map Differ t.from order
           (pairs_weaker Differ (λ x y. Differ (t.from x) (t.from y)) order
-          (λ x y i j ne e. ne (one_to (length h) (length g) (flipped (length g) (length h) t) x y (inside x i) (inside y j) e)) o.distinct);
+          (λ x y i j ne e. ne (one_to (length h) (length g) (flipped (length g) (length h) t) x y (inside x i)
+          (inside y j) e)) o.distinct);
       calls = each_map (λ c. CanStand (call g c).end (call g c).op) t.from order
           (each_from (λ c. CanStand (call g (t.from c)).end (call g (t.from c)).op) order
           (λ x i. let a = m.answers (t.from x) (t.from_within x (inside x i)) in
@@ -175,7 +186,8 @@ pub matched_legal : (k : ℕ) (g h : List Call) (order : List ℕ) (m : Matches 
     → IsLegal k g (map m.numbers.from order)
 matched_legal k g h order m l =
     let P : List Effect → Type 0 = λ es. IsRun k [] es in
-    let same = map_through (does g) (does h) m.numbers.from order (λ x i. does_back g h m x (order_within h order x l.is_order.calls i)) in
+    let same = map_through (does g) (does h) m.numbers.from order
+    (λ x i. does_back g h m x (order_within h order x l.is_order.calls i)) in
     record { is_order = matched_order g h order m l.is_order; is_run = subst P (sym same) l.is_run }
 
 -- ---- overtakings
@@ -193,7 +205,8 @@ still_precedes : (g h : List Call) (m : Matches g h) (c d : ℕ) → c < length 
     → precedes g c d ≡ true → precedes h (m.numbers.to c) (m.numbers.to d) ≡ true
 still_precedes g h m c d lc ld q =
     let t = m.numbers in
-    precedes_true (call h (t.to c)).end (call h (t.to d)).first (m.keeps c d lc ld (precedes_from (call g c).end (call g d).first q))
+    precedes_true (call h (t.to c)).end (call h (t.to d)).first
+    (m.keeps c d lc ld (precedes_from (call g c).end (call g d).first q))
 
 -- n puts y after c
 abbrev puts_after : (ℕ → Effect) → (ℕ → ℕ → Bool) → ℕ → ℕ → ℕ → Bool
@@ -203,12 +216,14 @@ puts_after act before c y n = adds y (act n) && before c n
 abbrev takes_by : (ℕ → Effect) → (ℕ → ℕ → Bool) → ℕ → ℕ → ℕ → Bool
 takes_by act before d x n = takes x (act n) && not (before d n)
 
-both_tests : (a b p q : Bool) → (a ≡ true → p ≡ true) → (q ≡ true → b ≡ true) → (a && not b) ≡ true → (p && not q) ≡ true
+both_tests : (a b p q : Bool) → (a ≡ true → p ≡ true) → (q ≡ true → b ≡ true) → (a && not b) ≡ true
+    → (p && not q) ≡ true
 both_tests a b p q f r e =
     let s = and_parts a (not b) e in
     and_from p (not q) (f s.0) (not_from_false q (false_from_ne_true q (λ w. false≢true (sym (not-true b s.1) ∙ r w))))
 
--- calls c and d among ns, and i and j among ms, which do the same e and f: where d overtakes c, j overtakes i, if what is put
+-- calls c and d among ns, and i and j among ms, which do the same e and f: where d overtakes c, j overtakes i, if what
+-- is put
 -- after c is put after i, and what is taken, and not after j, is taken, and not after d
 overtakes_still : (act now : ℕ → Effect) (before sooner : ℕ → ℕ → Bool) (ns ms : List ℕ) (c d i j : ℕ) (e f : Effect)
     → ((y : ℕ) → some (puts_after act before c y) ns ≡ true → some (puts_after now sooner i y) ms ≡ true)
@@ -221,7 +236,8 @@ overtakes_still act now before sooner ns ms c d i j (Adds x) (Takes y) put taken
 overtakes_still act now before sooner ns ms c d i j e f put taken q = absurd (false≢true q)
 
 -- where some call of g puts y after c, some call of h does
-still_put : (g h : List Call) (m : Matches g h) (c y : ℕ) → c < length g → some (puts_after (does g) (precedes g) c y) (numbers_of g) ≡ true
+still_put : (g h : List Call) (m : Matches g h) (c y : ℕ) → c < length g
+    → some (puts_after (does g) (precedes g) c y) (numbers_of g) ≡ true
     → some (puts_after (does h) (precedes h) (m.numbers.to c) y) (numbers_of h) ≡ true
 still_put g h m c y lt q =
     let t = m.numbers in
@@ -261,10 +277,12 @@ still_beats : (g h : List Call) (m : Matches g h) (c d : ℕ) → c < length g �
     → beats g c d ≡ true → beats h (m.numbers.to c) (m.numbers.to d) ≡ true
 still_beats g h m c d lc ld q =
     let t = m.numbers in
-    let there : Effect → Effect → Bool = λ e f. overtakes_at (does h) (precedes h) (numbers_of h) (t.to c) (t.to d) e f in
+    let there : Effect → Effect
+    → Bool = λ e f. overtakes_at (does h) (precedes h) (numbers_of h) (t.to c) (t.to d) e f in
     ap (λ e. there e (does h (t.to d))) (sym (same_does g h m c lc))
     ∙ (ap (λ f. there (does g c) f) (sym (same_does g h m d ld))
-    ∙ overtakes_still (does g) (does h) (precedes g) (precedes h) (numbers_of g) (numbers_of h) c d (t.to c) (t.to d) (does g c) (does g d)
+    ∙ overtakes_still (does g) (does h) (precedes g) (precedes h) (numbers_of g) (numbers_of h) c d (t.to c) (t.to d)
+    (does g c) (does g d)
     (λ y. still_put g h m c y lc) (λ x. was_taken g h m d x ld) q)
 
 -- the numbers of the calls that overtake c
@@ -317,7 +335,8 @@ one_call g h m e c d once ic id a b =
     let t = m.numbers in
     let lc = below h c ic in
     let ld = below h d id in
-    let one = once (t.from c) (t.from d) (listed g (t.from c) (t.from_within c lc)) (listed g (t.from d) (t.from_within d ld))
+    let one = once (t.from c) (t.from d) (listed g (t.from c) (t.from_within c lc))
+    (listed g (t.from d) (t.from_within d ld))
     (does_back g h m c lc ∙ a) (does_back g h m d ld ∙ b) in
     one_to (length h) (length g) (flipped (length g) (length h) t) c d lc ld one
 
@@ -342,7 +361,8 @@ done_same (Enqueue x) e f a q = sym a ∙ q
 done_same Dequeue e f a q = q
 
 -- an enqueue that was Done in g was Done in h
-pub matched_done : (g h : List Call) (m : Matches g h) (c : ℕ) → c < length g → IsDoneEnqueue g c → IsDoneEnqueue h (m.numbers.to c)
+pub matched_done : (g h : List Call) (m : Matches g h) (c : ℕ) → c < length g → IsDoneEnqueue g c
+    → IsDoneEnqueue h (m.numbers.to c)
 matched_done g h m c lt d =
     let there = call h (m.numbers.to c) in
     let a = m.answers c lt in

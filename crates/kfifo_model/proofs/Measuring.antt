@@ -1,6 +1,7 @@
 -- A legal order has one rank for each call that got an item; items are distinct where no call repeats an earlier one's.
-use Rattle.std.proofs.Common.{ℕ, suc, ◌≡◌, ◌≢◌, ◌+◌, ◌<◌, Bool, true, false, List, [], ◌∷◌, ◌++◌, length, map, take, drop, get_or, refl}
-use Rattle.std.proofs.Common.{sym, ◌∙◌, ap, subst, inl, inr, arith, Option, Some, None, append_assoc, length-append, cond, count_by}
+use Rattle.std.proofs.Common.{ℕ, suc, ◌≡◌, ◌≢◌, ◌+◌, ◌<◌, Bool, true, false, List, [], ◌∷◌, ◌++◌, length, map, take}
+use Rattle.std.proofs.Common.{drop, get_or, refl, sym, ◌∙◌, ap, subst, inl, inr, arith, Option, Some, None}
+use Rattle.std.proofs.Common.{append_assoc, length-append, cond, count_by}
 use Rattle.std.specs.List.{filter, range_with_len}
 use Rattle.std.proofs.lemmas.Bool.{cases_lt, cases_order, cond-true, cond-false}
 use Rattle.std.proofs.lemmas.List.{drop_more, map-append, take-append-drop}
@@ -9,7 +10,8 @@ use Rattle.std.proofs.lemmas.List.Sums.{sum_by-cons}
 use Rattle.kfifo_model.proofs.Types.{Call, Effect, End, Op}
 use Rattle.kfifo_model.specs.declared.calls.Op.TheVariants.{Enqueue, Dequeue}
 use Rattle.kfifo_model.specs.declared.orders.Verdict.{Verdict}
-use Rattle.kfifo_model.specs.declared.orders.Verdict.TheVariants.{Legal, Repeats, NotACall, LeavesOut, BreaksBefore, NotARun}
+use Rattle.kfifo_model.specs.declared.orders.Verdict.TheVariants.{Legal, Repeats, NotACall, LeavesOut, BreaksBefore}
+use Rattle.kfifo_model.specs.declared.orders.Verdict.TheVariants.{NotARun}
 use Rattle.kfifo_model.specs.Lists.{IsIn}
 use Rattle.kfifo_model.specs.declared.effects.Effect.TheVariants.{Adds, Takes, FindsNone, Refused, Wrong}
 use Rattle.kfifo_model.specs.Relaxed.{IsRun, next, effect}
@@ -33,22 +35,28 @@ rest_is : (h : List Call) (order : List ℕ) (i : ℕ) → i < length order
     → map (does h) (drop i order) ≡ does h (get_or order i 0) ∷ map (does h) (drop (i + 1) order)
 rest_is h order i lt = ap (map (does h)) (drop_more order i 0 lt)
 
-pub runs_at : (k : ℕ) (h : List Call) (order items : List ℕ) (i : ℕ) → i < length order → IsRun k items (map (does h) (drop i order))
+pub runs_at : (k : ℕ) (h : List Call) (order items : List ℕ) (i : ℕ) → i < length order
+    → IsRun k items (map (does h) (drop i order))
     → IsRun k items (does h (get_or order i 0) ∷ map (does h) (drop (i + 1) order))
 runs_at k h order items i lt r = let P : List Effect → Type 0 = λ t. IsRun k items t in subst P (rest_is h order i lt) r
 
-pub ranks_next : (k : ℕ) (h : List Call) (order found more items after : List ℕ) (i : ℕ) (total : List ℕ) → i < length order
-    → found ++ ranks_at k (Some items) (map (does h) (drop i order)) ≡ total → IsRun k items (map (does h) (drop i order))
+pub ranks_next : (k : ℕ) (h : List Call) (order found more items after : List ℕ) (i : ℕ) (total : List ℕ)
+    → i < length order
+    → found ++ ranks_at k (Some items) (map (does h) (drop i order)) ≡ total
+    → IsRun k items (map (does h) (drop i order))
     → next k items (does h (get_or order i 0)) ≡ Some after → more ≡ found ++ rank items (does h (get_or order i 0))
     → Ranked k h order more after (i + 1) total
 ranks_next k h order found more items after i total lt told run n e =
     record {
       told = ap (λ t. t ++ ranks_at k (Some after) (map (does h) (drop (i + 1) order))) e
-          ∙ append_assoc found (rank items (does h (get_or order i 0))) (ranks_at k (Some after) (map (does h) (drop (i + 1) order)))
-          ∙ ap (λ t. found ++ (rank items (does h (get_or order i 0)) ++ ranks_at k t (map (does h) (drop (i + 1) order)))) (sym n)
+          ∙ append_assoc found (rank items (does h (get_or order i 0)))
+          (ranks_at k (Some after) (map (does h) (drop (i + 1) order)))
+          ∙ ap (λ t. found
+          ++ (rank items (does h (get_or order i 0)) ++ ranks_at k t (map (does h) (drop (i + 1) order)))) (sym n)
           ∙ ap (λ t. found ++ ranks_at k (Some items) t) (sym (rest_is h order i lt))
           ∙ told;
-      runs = run_on k items after (does h (get_or order i 0)) (map (does h) (drop (i + 1) order)) n (runs_at k h order items i lt run);
+      runs = run_on k items after (does h (get_or order i 0)) (map (does h) (drop (i + 1) order)) n
+          (runs_at k h order items i lt run);
     }
 
 one_rank : (items : List ℕ) (e : Effect) → length (rank items e) ≡ cond (is_got e) 1 0
@@ -60,7 +68,8 @@ one_rank items Wrong = refl
 
 ranks_more : (k : ℕ) (items : List ℕ) (e : Effect) (es : List Effect) (count : ℕ) → IsRun k items (e ∷ es)
     → ((after : List ℕ) → IsRun k after es → length (ranks_at k (Some after) es) ≡ count)
-    → (left : Option (List ℕ)) → next k items e ≡ left → length (rank items e ++ ranks_at k left es) ≡ cond (is_got e) 1 0 + count
+    → (left : Option (List ℕ)) → next k items e ≡ left → length (rank items e ++ ranks_at k left es)
+    ≡ cond (is_got e) 1 0 + count
 ranks_more k items e es count run rest None gone = absurd (no_run k items e es gone run)
 ranks_more k items e es count run rest (Some after) gone =
     let one = one_rank items e in
@@ -81,14 +90,16 @@ runs_before : (k : ℕ) (items : List ℕ) (es fs : List Effect) → IsRun k ite
 runs_before k items [] fs r = tt
 runs_before k items (e ∷ es) fs r = (r.0, r.1, runs_before k r.0 es fs r.2)
 
-runs_front : (k : ℕ) (h : List Call) (order : List ℕ) (p : ℕ) → IsRun k [] (map (does h) order) → IsRun k [] (map (does h) (take p order))
+runs_front : (k : ℕ) (h : List Call) (order : List ℕ) (p : ℕ) → IsRun k [] (map (does h) order)
+    → IsRun k [] (map (does h) (take p order))
 runs_front k h order p r =
     let P : List Effect → Type 0 = λ t. IsRun k [] t in
     runs_before k [] (map (does h) (take p order)) (map (does h) (drop p order))
     (subst P (ap (map (does h)) (sym (take-append-drop p order)) ∙ map-append (does h) (take p order) (drop p order)) r)
 
 -- an order with a fault is not legal
-pub faulty : (k : ℕ) (h : List Call) (order : List ℕ) (v : Verdict) → IsVerdict k h order v → v ≢ Legal → IsLegal k h order → ⊥
+pub faulty : (k : ℕ) (h : List Call) (order : List ℕ) (v : Verdict) → IsVerdict k h order v → v ≢ Legal
+    → IsLegal k h order → ⊥
 faulty k h order Legal i ne l = ne refl
 faulty k h order Repeats i ne l = i l.is_order.distinct
 faulty k h order NotACall i ne l = i.1 l.is_order.calls
@@ -158,11 +169,13 @@ went_on k before after e Tries.NotLegal i es r = absurd (no_run k before e es i 
 went_on k before after e Went i es r = i.0
 went_on k before after e (Took p) i es r = i.0
 
-pub took_rank : (k : ℕ) (before after : List ℕ) (e : Effect) (t : Tried) (p : ℕ) → IsTried k before after e t → t ≡ Took p
+pub took_rank : (k : ℕ) (before after : List ℕ) (e : Effect) (t : Tried) (p : ℕ) → IsTried k before after e t
+    → t ≡ Took p
     → rank before e ≡ p ∷ []
 took_rank k before after e t p i q = let P : Tried → Type 0 = λ w. IsTried k before after e w in (subst P q i).1
 
-pub no_rank : (k : ℕ) (before after : List ℕ) (e : Effect) (t : Tried) → IsTried k before after e t → next k before e ≡ Some after
+pub no_rank : (k : ℕ) (before after : List ℕ) (e : Effect) (t : Tried) → IsTried k before after e t
+    → next k before e ≡ Some after
     → ((p : ℕ) → t ≡ Took p → ⊥) → rank before e ≡ []
 no_rank k before after e Tries.NotLegal i n f = cc
 no_rank k before after e Went i n f = i.1

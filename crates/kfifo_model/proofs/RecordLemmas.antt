@@ -1,6 +1,8 @@
--- The call that an object's entry says is in range and fits its operation; members that are read so far, and their faults.
-use Rattle.std.proofs.Common.{ℕ, ◌≡◌, ◌≢◌, ◌<◌, ◌≤◌, ◌^◌, ◌&&◌, Bool, true, false, cond, ltb, List, [], ◌∷◌, ◌++◌, length, map, get_or}
-use Rattle.std.proofs.Common.{refl, sym, ◌∙◌, ap, subst, inl, inr, arith, Option, Some, None, String, string_bytes}
+-- The call that an object's entry says is in range and fits its operation; members that are read so far, and their
+-- faults.
+use Rattle.std.proofs.Common.{ℕ, ◌≡◌, ◌≢◌, ◌<◌, ◌≤◌, ◌^◌, ◌&&◌, Bool, true, false, cond, ltb, List, [], ◌∷◌, ◌++◌}
+use Rattle.std.proofs.Common.{length, map, get_or, refl, sym, ◌∙◌, ap, subst, inl, inr, arith, Option, Some, None}
+use Rattle.std.proofs.Common.{String, string_bytes}
 use Rattle.std.specs.Result.{IfOk}
 use Rattle.std.specs.declared.result.Result.{Result}
 use Rattle.std.specs.declared.result.Result.TheVariants.{Ok, Err}
@@ -33,11 +35,13 @@ use Rattle.kfifo_model.proofs.Watching.{before_last, the_last}
 use Rattle.kfifo_model.specs.declared.effects.Effect.TheVariants.{Wrong}
 use Rattle.kfifo_model.specs.Relaxed.{effect}
 use Rattle.kfifo_model.specs.Validity.{IsHistory, IsItem, IsInRange, OpInRange, AnswerInRange, Answers}
-use Rattle.kfifo_model.specs.Records.{IsReadFault, IsMemberFault, is_key, are_keys, has_known_keys, members, at, AreRead, IsRead, IsReadTo}
-use Rattle.kfifo_model.specs.Records.{item_fits, is_item_number, is_in_range, answer_of, op_of, ending_of, with_ending, call_of, list_of}
+use Rattle.kfifo_model.specs.Records.{IsReadFault, IsMemberFault, is_key, are_keys, has_known_keys, members, at}
+use Rattle.kfifo_model.specs.Records.{AreRead, IsRead, IsReadTo, item_fits, is_item_number, is_in_range, answer_of}
+use Rattle.kfifo_model.specs.Records.{op_of, ending_of, with_ending, call_of, list_of}
 
 pub keys_known : (es : List (String Global × Value))
-    → list_all (λ k. is_key (string_bytes k)) (map (λ e. e.0) es) ≡ are_keys (members_of (map (λ m. (m.0, view m.1)) es))
+    → list_all (λ k. is_key (string_bytes k)) (map (λ e. e.0) es)
+    ≡ are_keys (members_of (map (λ m. (m.0, view m.1)) es))
 keys_known [] = refl
 keys_known (e ∷ es) = ap (λ b. is_key (string_bytes e.0) && b) (keys_known es)
 
@@ -61,7 +65,8 @@ op_in Enq (Some x) e = item_in x e
 op_in Enq None e = tt
 op_in Deq o e = tt
 
-answer_in : (w : OpWord) (v : AnswerWord) (o : Option ℕ) (a : Answer) → is_item_number o ≡ true → answer_of w v o ≡ Some a → AnswerInRange a
+answer_in : (w : OpWord) (v : AnswerWord) (o : Option ℕ) (a : Answer) → is_item_number o ≡ true
+    → answer_of w v o ≡ Some a → AnswerInRange a
 answer_in Enq Done o a e q = let P : Answer → Type 0 = λ t. AnswerInRange t in subst P (some_is answers.Done a q) tt
 answer_in Enq Full o a e q = let P : Answer → Type 0 = λ t. AnswerInRange t in subst P (some_is answers.Full a q) tt
 answer_in Enq Got o a e q = absurd (cc)
@@ -71,7 +76,8 @@ answer_in Enq Worn o a e q = let P : Answer → Type 0 = λ t. AnswerInRange t i
 answer_in Enq Other o a e q = absurd (cc)
 answer_in Deq Done o a e q = absurd (cc)
 answer_in Deq Full o a e q = absurd (cc)
-answer_in Deq Got (Some y) a e q = let P : Answer → Type 0 = λ t. AnswerInRange t in subst P (some_is (answers.Got y) a q) (item_in y e)
+answer_in Deq Got (Some y) a e q = let P : Answer → Type 0 = λ t. AnswerInRange t in
+    subst P (some_is (answers.Got y) a q) (item_in y e)
 answer_in Deq Got None a e q = absurd (cc)
 answer_in Deq Empty o a e q = let P : Answer → Type 0 = λ t. AnswerInRange t in subst P (some_is answers.Empty a q) tt
 answer_in Deq Busy o a e q = let P : Answer → Type 0 = λ t. AnswerInRange t in subst P (some_is answers.Busy a q) tt
@@ -80,7 +86,8 @@ answer_in Deq Other o a e q = absurd (cc)
 
 -- the answer is one of the operation's
 answer_fits : (w : OpWord) (v : AnswerWord) (o : Option ℕ) (a : Answer) (last : ℕ)
-    → item_fits w (Some (record { last = last; answer = v })) o ≡ true → answer_of w v o ≡ Some a → effect (op_of w o) a ≢ Wrong
+    → item_fits w (Some (record { last = last; answer = v })) o ≡ true → answer_of w v o ≡ Some a
+    → effect (op_of w o) a ≢ Wrong
 answer_fits Enq Done (Some x) a last f q = let P : Answer → Type 0 = λ t. effect (ops.Enqueue x) t ≢ Wrong in
     subst P (some_is answers.Done a q) (λ n. cc)
 answer_fits Enq Full (Some x) a last f q = let P : Answer → Type 0 = λ t. effect (ops.Enqueue x) t ≢ Wrong in
@@ -110,7 +117,8 @@ answer_fits Deq Other o a last f q = absurd (cc)
 abbrev IsValid : Call → Type 0
 IsValid c = IsInRange c × Answers c.op c.end
 
-valid_with : (e : Entry) (a : Option Answer) (x : Ending) (c : Call) → is_in_range e ≡ true → a ≡ answer_of e.op x.answer e.item
+valid_with : (e : Entry) (a : Option Answer) (x : Ending) (c : Call) → is_in_range e ≡ true
+    → a ≡ answer_of e.op x.answer e.item
     → e.ending ≡ Some x → item_fits e.op (Some x) e.item ≡ true
     → with_ending e (option_map (λ b. Some (record { last = x.last; answer = b })) a) ≡ Ok c → IsValid c
 valid_with e None x c r i is f q = absurd (cc)
@@ -121,7 +129,8 @@ valid_with e (Some a) x c r i is f q =
       answer_fits e.op x.answer e.item a x.last f (sym i),
     )
 
-valid_end : (e : Entry) (o : Option Ending) (c : Call) → is_in_range e ≡ true → e.ending ≡ o → item_fits e.op o e.item ≡ true
+valid_end : (e : Entry) (o : Option Ending) (c : Call) → is_in_range e ≡ true → e.ending ≡ o
+    → item_fits e.op o e.item ≡ true
     → with_ending e (ending_of e.op o e.item) ≡ Ok c → IsValid c
 valid_end e None c r is f q =
     let p = and_parts (ltb e.thread 64) (is_item_number e.item) r in
@@ -133,7 +142,8 @@ valid_if : (e : Entry) (b : Bool) (c : Call) → b ≡ is_in_range e → item_fi
 valid_if e true c r f q = valid_end e e.ending c (sym r) refl f q
 valid_if e false c r f q = absurd (cc)
 
-pub valid_call : (e : Entry) (c : Call) → item_fits e.op e.ending e.item ≡ true → call_of e ≡ Ok c → IsInRange c × Answers c.op c.end
+pub valid_call : (e : Entry) (c : Call) → item_fits e.op e.ending e.item ≡ true → call_of e ≡ Ok c → IsInRange c
+    × Answers c.op c.end
 valid_call e c f q = valid_if e (is_in_range e) c refl f q
 
 pub valid_result : (e : Entry) (r : Result Call Flaw) → item_fits e.op e.ending e.item ≡ true → r ≡ call_of e
@@ -155,7 +165,8 @@ pub members_array : (d : Data) (ds : List Data) → Some (items_of ds) ≡ as_ar
 members_array d ds q = ap (option_map list_of) (sym q) ∙ ap (λ t. Some t) (list_of-items_of ds)
 
 -- one more call
-pub read_more : (ds : List Data) (h : List Call) (c : Call) (n : ℕ) → length h ≡ n → AreRead ds h → IsRead (at ds n) (Ok c)
+pub read_more : (ds : List Data) (h : List Call) (c : Call) (n : ℕ) → length h ≡ n → AreRead ds h
+    → IsRead (at ds n) (Ok c)
     → AreRead ds (h ++ c ∷ [])
 read_more ds h c n len r i j lt =
     let P : Call → Type 0 = λ w. IsRead (at ds j) (Ok w) in
@@ -171,23 +182,28 @@ read_more ds h c n len r i j lt =
     ]
 
 -- a member, as the data that it is
-pub read_at : (vs : List Value) (v : Value) (n : ℕ) (r : Result Call Flaw) → n < length vs → v ≡ get_or vs n v → IsRead (view v) r
+pub read_at : (vs : List Value) (v : Value) (n : ℕ) (r : Result Call Flaw) → n < length vs → v ≡ get_or vs n v
+    → IsRead (view v) r
     → IsRead (at (map view vs) n) r
 read_at vs v n r lt e i =
     let P : Data → Type 0 = λ d. IsRead d r in
     subst P (sym (get_or-map view vs n v null lt ∙ ap view (sym e))) i
 
-pub read_to : (vs : List Value) (h : List Call) (n : ℕ) → n < length vs → length h ≡ n → AreRead (map view vs) h → IsHistory h
+pub read_to : (vs : List Value) (h : List Call) (n : ℕ) → n < length vs → length h ≡ n → AreRead (map view vs) h
+    → IsHistory h
     → IsReadTo (map view vs) n h
 read_to vs h n lt len r v = record { inside = rw length-map lt; sized = len; read = r; valid = v }
 
-pub is_array : (d : Data) (vs ws : List Value) → ws ≡ vs → Some (items_view vs) ≡ as_array d → members d ≡ Some (map view ws)
+pub is_array : (d : Data) (vs ws : List Value) → ws ≡ vs → Some (items_view vs) ≡ as_array d
+    → members d ≡ Some (map view ws)
 is_array d vs ws e q = members_array d (map view vs) q ∙ ap (λ t. Some (map view t)) (sym e)
 
-pub too_many : (d : Data) (vs : List Value) → Some (items_view vs) ≡ as_array d → 65536 < length vs → IsReadFault d faults.TooMany
+pub too_many : (d : Data) (vs : List Value) → Some (items_view vs) ≡ as_array d → 65536 < length vs
+    → IsReadFault d faults.TooMany
 too_many d vs q lt = (map view vs, members_array d (map view vs) q, rw length-map lt)
 
-pub member_fault : (d : Data) (ds : List Data) (f : RecordFault) → members d ≡ Some ds → length ds ≤ 65536 → IsMemberFault ds f
+pub member_fault : (d : Data) (ds : List Data) (f : RecordFault) → members d ≡ Some ds → length ds ≤ 65536
+    → IsMemberFault ds f
     → IsReadFault d f
 member_fault d ds faults.NotAList e le i = absurd i
 member_fault d ds faults.TooMany e le i = absurd i

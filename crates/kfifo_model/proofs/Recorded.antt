@@ -1,6 +1,6 @@
 -- Who reads the record of a history has that history.
-use Rattle.std.proofs.Common.{◌≡◌, ℕ, ◌<◌, ◌≤◌, ◌^◌, true, false, List, [], ◌∷◌, Option, Some, None, Ok, codes, length, map, refl, sym, ap}
-use Rattle.std.proofs.Common.{subst, arith}
+use Rattle.std.proofs.Common.{◌≡◌, ℕ, ◌<◌, ◌≤◌, ◌^◌, true, false, List, [], ◌∷◌, Option, Some, None, Ok, codes, length}
+use Rattle.std.proofs.Common.{map, refl, sym, ap, subst, arith}
 use Rattle.std.specs.Prelude.{nat_lt}
 use Rattle.std.proofs.lemmas.Bool.Decides.{nat_tests}
 use Rattle.std.proofs.lemmas.Grind.{common_steps}
@@ -35,7 +35,15 @@ plain_call : (c : Call) → IsPlain (call_value c)
 plain_call c = cases c.op c.end
   where
     answers : (last : ℕ) (answer : Answer) → IsPlain
-        (call_value (record { thread = c.thread; op = O.Dequeue; first = c.first; end = Some (record { last = last; answer = answer }) }))
+        (call_value (record {
+          thread = c.thread;
+          op = O.Dequeue;
+          first = c.first;
+          end = Some (record {
+            last = last;
+            answer = answer;
+          });
+        }))
     answers last A.Done = (refl, refl)
     answers last A.Full = (refl, refl)
     answers last (A.Got item) = (refl, refl)
@@ -43,7 +51,12 @@ plain_call c = cases c.op c.end
     answers last A.Busy = (refl, refl)
     answers last A.Worn = (refl, refl)
 
-    cases : (op : Op) (end : Option End) → IsPlain (call_value (record { thread = c.thread; op = op; first = c.first; end = end }))
+    cases : (op : Op) (end : Option End) → IsPlain (call_value (record {
+      thread = c.thread;
+      op = op;
+      first = c.first;
+      end = end;
+    }))
     cases (O.Enqueue item) None = (refl, refl)
     cases (O.Enqueue item) (Some end) = (refl, refl)
     cases O.Dequeue None = (refl, refl)
@@ -83,22 +96,54 @@ module _ (thread first : ℕ) (small : thread < 64) where
         → Reads (O.Enqueue item) (Some (record { last = last; answer = answer }))
     put last A.Done own = (
       entry Enq (Some item) (ended last W.Done),
-      record { keys = refl; thread = refl; op = refl; first = refl; item = refl; ending = (refl, codes "done", refl, refl); fits = refl },
+      record {
+        keys = refl;
+        thread = refl;
+        op = refl;
+        first = refl;
+        item = refl;
+        ending = (refl, codes "done", refl, refl);
+        fits = refl;
+      },
       rw (lt_true thread 64 small, lt_true 0 item some, lt_true item (2 ^ 24) fits) refl,
     )
     put last A.Full own = (
       entry Enq (Some item) (ended last W.Full),
-      record { keys = refl; thread = refl; op = refl; first = refl; item = refl; ending = (refl, codes "full", refl, refl); fits = refl },
+      record {
+        keys = refl;
+        thread = refl;
+        op = refl;
+        first = refl;
+        item = refl;
+        ending = (refl, codes "full", refl, refl);
+        fits = refl;
+      },
       rw (lt_true thread 64 small, lt_true 0 item some, lt_true item (2 ^ 24) fits) refl,
     )
     put last A.Busy own = (
       entry Enq (Some item) (ended last W.Busy),
-      record { keys = refl; thread = refl; op = refl; first = refl; item = refl; ending = (refl, codes "busy", refl, refl); fits = refl },
+      record {
+        keys = refl;
+        thread = refl;
+        op = refl;
+        first = refl;
+        item = refl;
+        ending = (refl, codes "busy", refl, refl);
+        fits = refl;
+      },
       rw (lt_true thread 64 small, lt_true 0 item some, lt_true item (2 ^ 24) fits) refl,
     )
     put last A.Worn own = (
       entry Enq (Some item) (ended last W.Worn),
-      record { keys = refl; thread = refl; op = refl; first = refl; item = refl; ending = (refl, codes "worn", refl, refl); fits = refl },
+      record {
+        keys = refl;
+        thread = refl;
+        op = refl;
+        first = refl;
+        item = refl;
+        ending = (refl, codes "worn", refl, refl);
+        fits = refl;
+      },
       rw (lt_true thread 64 small, lt_true 0 item some, lt_true item (2 ^ 24) fits) refl,
     )
     put last (A.Got other) own = absurd (own refl)
@@ -114,7 +159,15 @@ module _ (thread first : ℕ) (small : thread < 64) where
     got : (last : ℕ) → Reads O.Dequeue (Some (record { last = last; answer = A.Got item }))
     got last = (
       entry Deq (Some item) (ended last W.Got),
-      record { keys = refl; thread = refl; op = refl; first = refl; item = refl; ending = (refl, codes "got", refl, refl); fits = refl },
+      record {
+        keys = refl;
+        thread = refl;
+        op = refl;
+        first = refl;
+        item = refl;
+        ending = (refl, codes "got", refl, refl);
+        fits = refl;
+      },
       rw (lt_true thread 64 small, lt_true 0 item some, lt_true item (2 ^ 24) fits) refl,
     )
 
@@ -126,17 +179,41 @@ module _ (thread first : ℕ) (small : thread < 64) where
   taken last (A.Got item) own ranged = got item ranged.0 ranged.1 last
   taken last A.Empty own ranged = (
     entry Deq None (ended last W.Empty),
-    record { keys = refl; thread = refl; op = refl; first = refl; item = refl; ending = (refl, codes "empty", refl, refl); fits = refl },
+    record {
+      keys = refl;
+      thread = refl;
+      op = refl;
+      first = refl;
+      item = refl;
+      ending = (refl, codes "empty", refl, refl);
+      fits = refl;
+    },
     rw (lt_true thread 64 small) refl,
   )
   taken last A.Busy own ranged = (
     entry Deq None (ended last W.Busy),
-    record { keys = refl; thread = refl; op = refl; first = refl; item = refl; ending = (refl, codes "busy", refl, refl); fits = refl },
+    record {
+      keys = refl;
+      thread = refl;
+      op = refl;
+      first = refl;
+      item = refl;
+      ending = (refl, codes "busy", refl, refl);
+      fits = refl;
+    },
     rw (lt_true thread 64 small) refl,
   )
   taken last A.Worn own ranged = (
     entry Deq None (ended last W.Worn),
-    record { keys = refl; thread = refl; op = refl; first = refl; item = refl; ending = (refl, codes "worn", refl, refl); fits = refl },
+    record {
+      keys = refl;
+      thread = refl;
+      op = refl;
+      first = refl;
+      item = refl;
+      ending = (refl, codes "worn", refl, refl);
+      fits = refl;
+    },
     rw (lt_true thread 64 small) refl,
   )
 

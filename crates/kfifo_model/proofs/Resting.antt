@@ -1,6 +1,7 @@
 -- Beginnings of orders, by what is done, and what goes on from them.
-use Rattle.std.proofs.Common.{ℕ, zero, suc, ◌≡◌, ◌+◌, ◌<◌, ◌⊎◌, Bool, true, false, cond, List, [], ◌∷◌, ◌++◌, length, map, get_or, set}
-use Rattle.std.proofs.Common.{replicate, refl, sym, ◌∙◌, ap, subst, inl, inr, arith, Option, Some, None}
+use Rattle.std.proofs.Common.{ℕ, zero, suc, ◌≡◌, ◌+◌, ◌<◌, ◌⊎◌, Bool, true, false, cond, List, [], ◌∷◌, ◌++◌, length}
+use Rattle.std.proofs.Common.{map, get_or, set, replicate, refl, sym, ◌∙◌, ap, subst, inl, inr, arith, Option, Some}
+use Rattle.std.proofs.Common.{None}
 use Rattle.std.proofs.lemmas.Bool.{cases_lt, false≢true}
 use Rattle.std.proofs.lemmas.List.{map-append, get_or_past, get_or_append_left}
 use Rattle.std.proofs.Math.Seq.{get_or-append_seam}
@@ -14,16 +15,18 @@ use Rattle.std.specs.List.{AllByRecursion}
 use Rattle.kfifo_model.specs.Lists.{IsIn}
 use Rattle.kfifo_model.specs.declared.effects.Effect.TheVariants.{Adds, Takes, Wrong}
 use Rattle.kfifo_model.specs.Relaxed.{IsRun, next, effect}
-use Rattle.kfifo_model.specs.Histories.{call, no_call, does, effect_of, effect_at, CanStand, HasEnd, EndsBelow, Precedes}
+use Rattle.kfifo_model.specs.Histories.{call, no_call, does, effect_of, effect_at, CanStand, HasEnd, EndsBelow}
+use Rattle.kfifo_model.specs.Histories.{Precedes}
 use Rattle.kfifo_model.specs.Validity.{IsHistory, EndsFrom, AnswerInRange, EndInRange}
 use Rattle.kfifo_model.specs.Reach.{Reach, reach}
-use Rattle.kfifo_model.specs.Searching.{HasOrder, IsDone, IsComplete, IsFree, IsRest, GoesOn, Extends, IsNoNext, IsWanted, IsComing, IsIdle}
-use Rattle.kfifo_model.specs.Searching.{IsAsGood, AreAsGood, done_count, LeadsTo}
-use Rattle.kfifo_model.proofs.Lists.{in_append, in_right, each_at, each_from, pairs_back, pairs_across, pairs_less, in_less, in_more}
-use Rattle.kfifo_model.proofs.Lists.{parted, Differ}
+use Rattle.kfifo_model.specs.Searching.{HasOrder, IsDone, IsComplete, IsFree, IsRest, GoesOn, Extends, IsNoNext}
+use Rattle.kfifo_model.specs.Searching.{IsWanted, IsComing, IsIdle, IsAsGood, AreAsGood, done_count, LeadsTo}
+use Rattle.kfifo_model.proofs.Lists.{in_append, in_right, each_at, each_from, pairs_back, pairs_across, pairs_less}
+use Rattle.kfifo_model.proofs.Lists.{in_less, in_more, parted, Differ}
 use Rattle.kfifo_model.proofs.Greedy.{run_on, run_back, no_run}
 use Rattle.kfifo_model.proofs.Checking.{in_bounds}
-use Rattle.kfifo_model.proofs.Forgetting.{Has, Both, both_from_places, both_flip, as_good_runs, without_idle, idle_first, taken_from}
+use Rattle.kfifo_model.proofs.Forgetting.{Has, Both, both_from_places, both_flip, as_good_runs, without_idle}
+use Rattle.kfifo_model.proofs.Forgetting.{idle_first, taken_from}
 
 -- ---- what is done
 
@@ -54,7 +57,8 @@ none_done (suc n) (suc c) h = none_done n c h
 counted : (b : Bool) (done : List Bool) → done_count (b ∷ done) ≡ cond b 1 0 + done_count done
 counted b done = sum_by-cons (λ x. cond x 1 0) b done
 
-pub one_more_done : (done : List Bool) (n : ℕ) → n < length done → (IsDone done n → ⊥) → done_count (set done n true) ≡ done_count done + 1
+pub one_more_done : (done : List Bool) (n : ℕ) → n < length done → (IsDone done n → ⊥)
+    → done_count (set done n true) ≡ done_count done + 1
 one_more_done [] n lt f = absurd (omega arith)
 one_more_done (true ∷ done) zero lt f = absurd (f refl)
 one_more_done (false ∷ done) zero lt f = omega (arith, counted true done, counted false done)
@@ -79,12 +83,14 @@ not_below_itself (Some end) s e b = omega arith
 never_itself : (h : List Call) (n : ℕ) → IsHistory h → n < length h → Precedes h n n → ⊥
 never_itself h n v lt p = not_below_itself (call h n).end (call h n).first (v n lt).ends p
 
-stands_inside : (h : List Call) (n : ℕ) (rest : List ℕ) → AllByRecursion (λ c. CanStand (call h c).end (call h c).op) (n ∷ rest)
+stands_inside : (h : List Call) (n : ℕ) (rest : List ℕ)
+    → AllByRecursion (λ c. CanStand (call h c).end (call h c).op) (n ∷ rest)
     → n < length h
 stands_inside h n rest c = in_bounds h n c.0
 
 -- the first of a rest may come next
-pub rest_free : (h : List Call) (done : List Bool) (n : ℕ) (rest : List ℕ) → IsHistory h → IsRest h done (n ∷ rest) → IsFree h done n
+pub rest_free : (h : List Call) (done : List Bool) (n : ℕ) (rest : List ℕ) → IsHistory h → IsRest h done (n ∷ rest)
+    → IsFree h done n
 rest_free h done n rest v r =
     let lt = stands_inside h n rest r.calls in
     record {
@@ -137,7 +143,10 @@ rest_cons h done n rest lt free r = record {
     | inl d ↦ elim (done_cases done n c d) [ inl e ↦ inr (inl e) | inr o ↦ inl o ]
     | inr i ↦ inr (inr i)
   ];
-  before = (each_from (λ d. Precedes h d n → ⊥) rest (λ c i p. r.fresh c i (done_still done n c (free.ready c p))), r.before);
+  before = (
+    each_from (λ d. Precedes h d n → ⊥) rest (λ c i p. r.fresh c i (done_still done n c (free.ready c p))),
+    r.before,
+  );
 }
 
 -- ---- what a call leads to
@@ -154,11 +163,13 @@ adds_coming h done x [] f i = absurd i
 adds_coming h done x (c ∷ rest) f (inl e) = (c, f c (inl refl), sym e)
 adds_coming h done x (c ∷ rest) f (inr i) = adds_coming h done x rest (λ d j. f d (inr j)) i
 
-both : (h : List Call) (done : List Bool) (items others : List ℕ) → AreAsGood h done items others → Both (IsWanted h done) items others
+both : (h : List Call) (done : List Bool) (items others : List ℕ) → AreAsGood h done items others
+    → Both (IsWanted h done) items others
 both h done items others g = both_from_places (IsWanted h done) items others g.0 g.1
 
 -- n goes to the list after, and others are as good
-pub leads_to : (k : ℕ) (h : List Call) (done : List Bool) (items after others : List ℕ) (n : ℕ) → length done ≡ length h → IsFree h done n
+pub leads_to : (k : ℕ) (h : List Call) (done : List Bool) (items after others : List ℕ) (n : ℕ) → length done ≡ length h
+    → IsFree h done n
     → next k items (does h n) ≡ Some after → AreAsGood h (set done n true) after others
     → LeadsTo k h (reach done items) n (reach (set done n true) others)
 leads_to k h done items after others n sized free e good =
@@ -222,7 +233,11 @@ moved_rest h done n a b free r =
       calls = (free.stands, each_from S (a ++ b) (λ x i. each_at S x (a ++ n ∷ b) r.calls (in_less x n a b i)));
       fresh = λ x i. r.fresh x (moved_in x n a b i);
       complete = λ x f. elim (r.complete x f) [ inl d ↦ inl d | inr i ↦ inr (moved_out x n a b i) ];
-      before = (each_from (R n) (a ++ b) (λ x i p. r.fresh x (in_less x n a b i) (free.ready x p)), pairs_less R n a b r.before);
+      before = (
+        each_from (R n) (a ++ b) (λ x i p. r.fresh x (in_less x n a b i) (free.ready x p)),
+        pairs_less R n a b
+            r.before,
+      );
     }
 
 moved_run : (k : ℕ) (h : List Call) (items : List ℕ) (n : ℕ) (a b : List ℕ) → IsIdle items (does h n)
@@ -230,10 +245,12 @@ moved_run : (k : ℕ) (h : List Call) (items : List ℕ) (n : ℕ) (a b : List �
 moved_run k h items n a b idle r =
     let P : List Effect → Type 0 = λ t. IsRun k items t in
     idle_first k items (does h n) (map (does h) (a ++ b)) idle
-    (subst P (sym (map-append (does h) a b)) (without_idle k items items (does h n) (map (does h) a) (map (does h) b) idle
+    (subst P (sym (map-append (does h) a b)) (without_idle k items items (does h n) (map (does h) a)
+    (map (does h) b) idle
     (subst P (map-append (does h) a (n ∷ b)) r)))
 
-pub idle_goes : (k : ℕ) (h : List Call) (r : Reach) (n : ℕ) → IsFree h r.done n → IsIdle r.items (does h n) → IsNoNext k h r n
+pub idle_goes : (k : ℕ) (h : List Call) (r : Reach) (n : ℕ) → IsFree h r.done n → IsIdle r.items (does h n)
+    → IsNoNext k h r n
     → Extends k h r → ⊥
 idle_goes k h r n free idle never g =
     elim (g.1.is_rest.complete n (idle_end r.items (call h n).op (call h n).end idle)) [
@@ -256,12 +273,14 @@ takes_end op (Some end) x e = tt
 takes_end (Enqueue y) None x e = absurd (cc)
 takes_end Dequeue None x e = absurd (cc)
 
-has_effect : (h : List Call) (e : Effect) (n : ℕ) (rest : List ℕ) → does h n ≡ e → IsIn n rest → Has e (map (does h) rest)
+has_effect : (h : List Call) (e : Effect) (n : ℕ) (rest : List ℕ) → does h n ≡ e → IsIn n rest
+    → Has e (map (does h) rest)
 has_effect h e n [] q i = absurd i
 has_effect h e n (c ∷ rest) q (inl s) = inl (sym q ∙ ap (does h) s)
 has_effect h e n (c ∷ rest) q (inr i) = inr (has_effect h e n rest q i)
 
-pub cannot_finish : (k : ℕ) (h : List Call) (r : Reach) (x : ℕ) → IsWanted h r.done x → (IsIn x r.items → ⊥) → (IsComing h r.done x → ⊥)
+pub cannot_finish : (k : ℕ) (h : List Call) (r : Reach) (x : ℕ) → IsWanted h r.done x → (IsIn x r.items → ⊥)
+    → (IsComing h r.done x → ⊥)
     → Extends k h r → ⊥
 cannot_finish k h r x w gone never g =
     elim (g.1.is_rest.complete w.0 (takes_end (call h w.0).op (call h w.0).end x w.2)) [
@@ -280,7 +299,8 @@ none_by k h r [] v open_ f g = open_ (λ n e. elim (g.is_rest.complete n e) [ in
 none_by k h r (n ∷ rest) v open_ f g = f n (rest_free h r.done n rest v g.is_rest).inside rest g
 
 -- where nothing may come next and a finished call is not done, no order goes on
-pub none_goes : (k : ℕ) (h : List Call) (r : Reach) → IsHistory h → (IsComplete h r.done → ⊥) → ((n : ℕ) → n < length h → IsNoNext k h r n)
+pub none_goes : (k : ℕ) (h : List Call) (r : Reach) → IsHistory h → (IsComplete h r.done → ⊥)
+    → ((n : ℕ) → n < length h → IsNoNext k h r n)
     → Extends k h r → ⊥
 none_goes k h r v open_ f g = none_by k h r g.0 v open_ f g.1
 
@@ -360,7 +380,8 @@ zero_unwanted h done v w =
 
 -- one more item, as good as that at its place
 pub as_good_more : (h : List Call) (done : List Bool) (items kept : List ℕ) (i y : ℕ) → length kept ≡ i
-    → ((j : ℕ) → j < i → IsAsGood h done (get_or items j 0) (get_or kept j 0)) → IsAsGood h done (get_or items i 0) y → (j : ℕ) → j < i + 1
+    → ((j : ℕ) → j < i → IsAsGood h done (get_or items j 0) (get_or kept j 0)) → IsAsGood h done (get_or items i 0) y
+    → (j : ℕ) → j < i + 1
     → IsAsGood h done (get_or items j 0) (get_or (kept ++ y ∷ []) j 0)
 as_good_more h done items kept i y len good here j lt =
     elim (cases_lt j i) [
@@ -371,7 +392,8 @@ as_good_more h done items kept i y len good here j lt =
           )
       | inr le ↦ (
           let same : j ≡ length kept = omega arith in
-          let at : get_or (kept ++ y ∷ []) j 0 ≡ y = ap (λ w. get_or (kept ++ y ∷ []) w 0) same ∙ get_or-append_seam kept y [] 0 in
+          let at : get_or (kept ++ y ∷ []) j 0 ≡ y = ap (λ w. get_or (kept ++ y ∷ []) w 0) same
+          ∙ get_or-append_seam kept y [] 0 in
           let to : i ≡ j = omega arith in
           let G : ℕ → Type 0 = λ w. IsAsGood h done (get_or items j 0) w in
           let F : ℕ → Type 0 = λ w. IsAsGood h done (get_or items w 0) y in

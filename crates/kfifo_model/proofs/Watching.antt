@@ -1,6 +1,7 @@
 -- The calls so far, as a reader of a record keeps them.
-use Rattle.std.proofs.Common.{ℕ, ◌≡◌, ◌≢◌, ◌+◌, ◌<◌, ◌≤◌, ◌↔◌, List, [], ◌∷◌, ◌++◌, length, get_or, set, sym, ◌∙◌, ap, subst, inl, inr}
-use Rattle.std.proofs.Common.{arith, refl, Option, Some, None, get_or-set_other, get_or-set_same, length-append}
+use Rattle.std.proofs.Common.{ℕ, ◌≡◌, ◌≢◌, ◌+◌, ◌<◌, ◌≤◌, ◌↔◌, List, [], ◌∷◌, ◌++◌, length, get_or, set, sym, ◌∙◌, ap}
+use Rattle.std.proofs.Common.{subst, inl, inr, arith, refl, Option, Some, None, get_or-set_other, get_or-set_same}
+use Rattle.std.proofs.Common.{length-append}
 use Rattle.std.proofs.lemmas.Bool.{cases_lt, cases_eq}
 use Rattle.std.proofs.lemmas.List.{get_or_default, get_or_append_left}
 use Rattle.std.proofs.Math.ListN.{length-set}
@@ -11,7 +12,8 @@ use Rattle.kfifo_model.specs.declared.so_far.CallsSoFar.{CallsSoFar}
 use Rattle.kfifo_model.specs.declared.so_far.ThreadState.{ThreadState}
 use Rattle.kfifo_model.specs.declared.so_far.ThreadState.TheVariants.{Fresh}
 use Rattle.kfifo_model.specs.Histories.{call, no_call, EndsBelow}
-use Rattle.kfifo_model.specs.Validity.{IsHistory, IsGoodBelow, IsFault, IsGood, IsInRange, Answers, EndsFrom, Rises, IsApart}
+use Rattle.kfifo_model.specs.Validity.{IsHistory, IsGoodBelow, IsFault, IsGood, IsInRange, Answers, EndsFrom, Rises}
+use Rattle.kfifo_model.specs.Validity.{IsApart}
 use Rattle.kfifo_model.specs.SoFar.{LetsBegin, RisesFrom, state_after}
 
 -- the calls before n, as a next call has to heed them
@@ -25,7 +27,11 @@ pub none_so_far : (h : List Call) (p : CallsSoFar) → length p.threads ≡ 64 �
     → ((t : ℕ) (d : ThreadState) → t < 64 → get_or p.threads t d ≡ Fresh) → AreSoFar h 0 p
 none_so_far h p sized none fresh = record {
   sized = sized;
-  latest = λ s. (λ r j e. absurd (omega arith), λ f. let P : Option ℕ → Type 0 = λ o. RisesFrom o s in subst P (sym none) tt);
+  latest = λ s. (
+    λ r j e. absurd (omega arith),
+    λ f. let P : Option ℕ → Type 0 =
+        λ o. RisesFrom o s in subst P (sym none) tt,
+  );
   threads = λ t s d lt. (
     λ r j l. absurd (omega arith),
     λ f. let P : ThreadState
@@ -48,7 +54,8 @@ ends_through o None first s b e l = absurd l
 last_is : (j n : ℕ) → j < n + 1 → (j < n → ⊥) → j ≡ n
 last_is j n lt f = elim (cases_lt j n) [ inl below ↦ absurd (f below) | inr le ↦ omega arith ]
 
-pub more_so_far : (h : List Call) (n : ℕ) (p q : CallsSoFar) → AreSoFar h n p → IsGood h n → q.latest ≡ Some (call h n).first
+pub more_so_far : (h : List Call) (n : ℕ) (p q : CallsSoFar) → AreSoFar h n p → IsGood h n
+    → q.latest ≡ Some (call h n).first
     → q.threads ≡ set p.threads (call h n).thread (state_after (call h n).end) → AreSoFar h (n + 1) q
 more_so_far h n p q was good latest threads =
     let c = call h n in
@@ -69,11 +76,13 @@ more_so_far h n p q was good latest threads =
             | inl e ↦ (
                 let here : c.thread < length p.threads = (let z = was.sized in omega arith) in
                 let now : get_or q.threads t d ≡ state_after c.end =
-                at ∙ (ap (λ w. get_or (set p.threads c.thread (state_after c.end)) w d) e ∙ rw get_or-set_same refl) in (
+                at ∙ (ap (λ w. get_or (set p.threads c.thread (state_after c.end)) w d) e
+                ∙ rw get_or-set_same refl) in (
                   λ l j lj th. (
                       let ends = (lets_after c.end s).0 (subst P now l) in
                       elim (cases_lt j n) [
-                        | inl below ↦ ends_through (call h j).end c.end c.first s (good.apart j below (th ∙ e)) good.ends ends
+                        | inl below ↦ ends_through (call h j).end c.end c.first s (good.apart j below (th ∙ e))
+                            good.ends ends
                         | inr le ↦ (let same : j ≡ n = omega arith in let R : ℕ
                             → Type 0 = λ w. EndsBelow (call h w).end s in subst R (sym same) ends)
                       ]
@@ -82,10 +91,12 @@ more_so_far h n p q was good latest threads =
                 )
                 )
             | inr ne ↦ (
-                let now : get_or q.threads t d ≡ get_or p.threads t d = at ∙ (let m : t ≢ c.thread = ne in rw get_or-set_other refl) in (
+                let now : get_or q.threads t d ≡ get_or p.threads t d = at
+                ∙ (let m : t ≢ c.thread = ne in rw get_or-set_other refl) in (
                   λ l j lj th. elim (cases_lt j n) [
                     | inl below ↦ (was.threads t s d lt).0 (subst P now l) j below th
-                    | inr le ↦ (let same : j ≡ n = omega arith in absurd (ne (sym th ∙ ap (λ w. (call h w).thread) same)))
+                    | inr le ↦ (let same : j ≡ n =
+                        omega arith in absurd (ne (sym th ∙ ap (λ w. (call h w).thread) same)))
                   ],
                   λ f. subst P (sym now) ((was.threads t s d lt).1 (λ j lj th. f j (omega arith) th)),
                 )
@@ -112,20 +123,26 @@ good_call h n p was t =
       apart = (was.threads (call h n).thread (call h n).first Fresh small).0 (t.lets Fresh);
     }
 
-pub good_at : (h : List Call) (n : ℕ) (p : CallsSoFar) (d : Call) → n < length h → AreSoFar h n p → Tests p (get_or h n d) → IsGood h n
-good_at h n p d lt was t = let P : Call → Type 0 = λ w. Tests p w in good_call h n p was (subst P (get_or_default h n d no_call lt) t)
+pub good_at : (h : List Call) (n : ℕ) (p : CallsSoFar) (d : Call) → n < length h → AreSoFar h n p
+    → Tests p (get_or h n d) → IsGood h n
+good_at h n p d lt was t = let P : Call → Type 0 = λ w. Tests p w in
+    good_call h n p was (subst P (get_or_default h n d no_call lt) t)
 
-pub not_apart : (h : List Call) (n : ℕ) (p : CallsSoFar) (d : Call) → n < length h → AreSoFar h n p → (get_or h n d).thread < 64
-    → ((e : ThreadState) → LetsBegin (get_or p.threads (get_or h n d).thread e) (get_or h n d).first → ⊥) → IsApart h n → ⊥
+pub not_apart : (h : List Call) (n : ℕ) (p : CallsSoFar) (d : Call) → n < length h → AreSoFar h n p
+    → (get_or h n d).thread < 64
+    → ((e : ThreadState) → LetsBegin (get_or p.threads (get_or h n d).thread e) (get_or h n d).first → ⊥)
+    → IsApart h n → ⊥
 not_apart h n p d lt was small f apart =
     let e = get_or_default h n d no_call lt in
-    let P : Call → Type 0 = λ w. (w.thread < 64) × ((e : ThreadState) → LetsBegin (get_or p.threads w.thread e) w.first → ⊥) in
+    let P : Call → Type 0 = λ w. (w.thread < 64)
+    × ((e : ThreadState) → LetsBegin (get_or p.threads w.thread e) w.first → ⊥) in
     let q = subst P e (small, f) in
     q.1 Fresh ((was.threads (call h n).thread (call h n).first Fresh q.0).1 apart)
 
 -- one more good call
 pub more_calls : (h : List Call) (n : ℕ) (p q : CallsSoFar) (d : Call) → n < length h → AreSoFar h n p → IsGood h n
-    → q.latest ≡ Some (get_or h n d).first → q.threads ≡ set p.threads (get_or h n d).thread (state_after (get_or h n d).end)
+    → q.latest ≡ Some (get_or h n d).first
+    → q.threads ≡ set p.threads (get_or h n d).thread (state_after (get_or h n d).end)
     → AreSoFar h (n + 1) q
 more_calls h n p q d lt was good a b =
     let P : Call → Type 0 = λ w. (q.latest ≡ Some w.first) × (q.threads ≡ set p.threads w.thread (state_after w.end)) in
@@ -151,7 +168,8 @@ pub ends_at : (h : List Call) (n : ℕ) (d : Call) → n < length h → EndsFrom
     → EndsFrom (call h n).first (call h n).end
 ends_at h n d lt t = let P : Call → Type 0 = λ w. EndsFrom w.first w.end in subst P (get_or_default h n d no_call lt) t
 
-pub rises_at : (h : List Call) (n : ℕ) (p : CallsSoFar) (d : Call) → n < length h → AreSoFar h n p → RisesFrom p.latest (get_or h n d).first
+pub rises_at : (h : List Call) (n : ℕ) (p : CallsSoFar) (d : Call) → n < length h → AreSoFar h n p
+    → RisesFrom p.latest (get_or h n d).first
     → Rises h n
 rises_at h n p d lt was t =
     let P : Call → Type 0 = λ w. RisesFrom p.latest w.first in
@@ -184,16 +202,19 @@ good_with h c n lt g =
           let lj : j < length h = omega arith in
           let P : Call → Type 0 = λ w. EndsBelow w.end (call h n).first in
           let Q : Call → Type 0 = λ w. EndsBelow (call (h ++ c ∷ []) j).end w.first in
-          subst Q (e n lt) (subst P (e j lj) (g.apart j l (ap (λ w. w.thread) (e j lj) ∙ (t ∙ ap (λ w. w.thread) (sym (e n lt))))));
+          subst Q (e n lt)
+          (subst P (e j lj) (g.apart j l (ap (λ w. w.thread) (e j lj) ∙ (t ∙ ap (λ w. w.thread) (sym (e n lt))))));
     }
 
-so_far_with : (h : List Call) (c : Call) (n : ℕ) (p : CallsSoFar) → length h ≡ n → AreSoFar h n p → AreSoFar (h ++ c ∷ []) n p
+so_far_with : (h : List Call) (c : Call) (n : ℕ) (p : CallsSoFar) → length h ≡ n → AreSoFar h n p
+    → AreSoFar (h ++ c ∷ []) n p
 so_far_with h c n p len was =
     let e : (j : ℕ) → j < n → call h j ≡ call (h ++ c ∷ []) j = λ j l. sym (before_last h c j (omega arith)) in
     record {
       sized = was.sized;
       latest = λ s. (
-        λ r j q. (let lj : j < n = omega arith in let P : Call → Type 0 = λ w. w.first < s in subst P (e j lj) ((was.latest s).0 r j q)),
+        λ r j q. (let lj : j < n = omega arith in let P : Call → Type 0 =
+            λ w. w.first < s in subst P (e j lj) ((was.latest s).0 r j q)),
         λ f. (was.latest s).1 (λ j q. let lj : j < n = omega arith in let P : Call
             → Type 0 = λ w. w.first < s in subst P (sym (e j lj)) (f j q)),
       );
@@ -201,7 +222,8 @@ so_far_with h c n p len was =
         λ l j lj th. (let P : Call → Type 0 = λ w. EndsBelow w.end s in
             subst P (e j lj) ((was.threads t s d lt).0 l j lj (ap (λ w. w.thread) (e j lj) ∙ th))),
         λ f. (was.threads t s d lt).1 (λ j lj th. let P : Call
-            → Type 0 = λ w. EndsBelow w.end s in subst P (sym (e j lj)) (f j lj (ap (λ w. w.thread) (sym (e j lj)) ∙ th))),
+            → Type 0 = λ w. EndsBelow w.end s in
+            subst P (sym (e j lj)) (f j lj (ap (λ w. w.thread) (sym (e j lj)) ∙ th))),
       );
     }
 
@@ -222,8 +244,10 @@ fault_ends h c n len v r a f = (
   of_last h c n (λ w. EndsFrom w.first w.end → ⊥) len f,
 )
 
-pub fault_rises : (h : List Call) (c : Call) (n : ℕ) (p : CallsSoFar) → length h ≡ n → IsHistory h → AreSoFar h n p → IsInRange c
-    → Answers c.op c.end → EndsFrom c.first c.end → (RisesFrom p.latest c.first → ⊥) → IsFault (h ++ c ∷ []) (OutOfOrder n)
+pub fault_rises : (h : List Call) (c : Call) (n : ℕ) (p : CallsSoFar) → length h ≡ n → IsHistory h → AreSoFar h n p
+    → IsInRange c
+    → Answers c.op c.end → EndsFrom c.first c.end → (RisesFrom p.latest c.first → ⊥)
+    → IsFault (h ++ c ∷ []) (OutOfOrder n)
 fault_rises h c n p len v was r a e f = (
   good_below h c n len v,
   of_last h c n (λ w. IsInRange w) len r,
@@ -233,7 +257,8 @@ fault_rises h c n p len v was r a e f = (
       (((so_far_with h c n p len was).latest (call (h ++ c ∷ []) n).first).1 s),
 )
 
-pub fault_lets : (h : List Call) (c : Call) (n : ℕ) (p : CallsSoFar) → length h ≡ n → IsHistory h → AreSoFar h n p → IsInRange c
+pub fault_lets : (h : List Call) (c : Call) (n : ℕ) (p : CallsSoFar) → length h ≡ n → IsHistory h → AreSoFar h n p
+    → IsInRange c
     → Answers c.op c.end → EndsFrom c.first c.end → RisesFrom p.latest c.first
     → ((d : ThreadState) → LetsBegin (get_or p.threads c.thread d) c.first → ⊥) → IsFault (h ++ c ∷ []) (Overlap n)
 fault_lets h c n p len v was r a e s f = (
@@ -241,23 +266,29 @@ fault_lets h c n p len v was r a e s f = (
   of_last h c n (λ w. IsInRange w) len r,
   of_last h c n (λ w. Answers w.op w.end) len a,
   of_last h c n (λ w. EndsFrom w.first w.end) len e,
-  ((so_far_with h c n p len was).latest (call (h ++ c ∷ []) n).first).0 (of_last h c n (λ w. RisesFrom p.latest w.first) len s),
+  ((so_far_with h c n p len was).latest (call (h ++ c ∷ []) n).first).0
+      (of_last h c n (λ w. RisesFrom p.latest w.first) len s),
   λ apart. of_last h c n (λ w. LetsBegin (get_or p.threads w.thread Fresh) w.first → ⊥) len (f Fresh)
       (((so_far_with h c n p len was).threads (call (h ++ c ∷ []) n).thread (call (h ++ c ∷ []) n).first Fresh
       (of_last h c n (λ w. w.thread < 64) len r.0)).1 apart),
 )
 
-good_last : (h : List Call) (c : Call) (n : ℕ) (p : CallsSoFar) → length h ≡ n → AreSoFar h n p → Tests p c → IsGood (h ++ c ∷ []) n
-good_last h c n p len was t = good_call (h ++ c ∷ []) n p (so_far_with h c n p len was) (of_last h c n (λ w. Tests p w) len t)
+good_last : (h : List Call) (c : Call) (n : ℕ) (p : CallsSoFar) → length h ≡ n → AreSoFar h n p → Tests p c
+    → IsGood (h ++ c ∷ []) n
+good_last h c n p len was t = good_call (h ++ c ∷ []) n p (so_far_with h c n p len was)
+    (of_last h c n (λ w. Tests p w) len t)
 
-pub more_valid : (h : List Call) (c : Call) (n : ℕ) (p : CallsSoFar) → length h ≡ n → IsHistory h → AreSoFar h n p → Tests p c
+pub more_valid : (h : List Call) (c : Call) (n : ℕ) (p : CallsSoFar) → length h ≡ n → IsHistory h → AreSoFar h n p
+    → Tests p c
     → IsHistory (h ++ c ∷ [])
 more_valid h c n p len v was t j lt =
     let lj : j < n + 1 = (let e = length-append h (c ∷ []) in omega arith) in
     good_more (h ++ c ∷ []) n (good_below h c n len v).1 (good_last h c n p len was t) j lj
 
-pub more_noted : (h : List Call) (c : Call) (n : ℕ) (p q : CallsSoFar) → length h ≡ n → AreSoFar h n p → Tests p c → q.latest ≡ Some c.first
+pub more_noted : (h : List Call) (c : Call) (n : ℕ) (p q : CallsSoFar) → length h ≡ n → AreSoFar h n p → Tests p c
+    → q.latest ≡ Some c.first
     → q.threads ≡ set p.threads c.thread (state_after c.end) → AreSoFar (h ++ c ∷ []) (n + 1) q
 more_noted h c n p q len was t a b =
-    let m = of_last h c n (λ w. (q.latest ≡ Some w.first) × (q.threads ≡ set p.threads w.thread (state_after w.end))) len (a, b) in
+    let m = of_last h c n (λ w. (q.latest ≡ Some w.first) × (q.threads ≡ set p.threads w.thread (state_after w.end)))
+    len (a, b) in
     more_so_far (h ++ c ∷ []) n p q (so_far_with h c n p len was) (good_last h c n p len was t) m.0 m.1

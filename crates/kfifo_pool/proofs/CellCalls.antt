@@ -6,13 +6,14 @@ use Rattle.kfifo_live.specs.declared.payload.sealing.TakenOrSealed.{TakenOrSeale
 use Rattle.kfifo_live.specs.declared.payload.sealing.TakenOrSealed.TheVariants as S
 use Rattle.kfifo_live.specs.declared.tokens.Put.{Put}
 use Rattle.kfifo_live.specs.Payloads.{TokenView}
-use Rattle.kfifo_live.specs.Tokens.{TokenHeld}
+use Rattle.kfifo_live.specs.Tokens.{TokenHandleView}
 use Rattle.kfifo_pool.specs.Cells.{Publishes, PutsCell, ReleasesCell, cells_of, cells_or_sealed, with_reserved}
 use Rattle.kfifo_pool.specs.Pooled.{CellsInHand, Pooled}
 
 module _ {T : Type 0} where
   -- a put of the token of the cell that was reserved
-  pub published : (answer : Put T) (left : Option TokenView) (token : TokenView) (inside old : Pooled T) (held : TokenHeld T)
+  pub published : (answer : Put T) (left : Option TokenView) (token : TokenView) (inside old : Pooled T)
+      (held : TokenHandleView T)
       (cells : CellsInHand) → inside ≡ old → inside.cells.reserved ≡ Some token → PutsCell token answer inside.held held
       → cells ≡ with_reserved left inside.cells
       → Publishes answer left old (record { held = held; free = inside.free; cells = cells })

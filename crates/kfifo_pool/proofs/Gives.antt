@@ -5,12 +5,12 @@ use Rattle.kfifo_live.specs.declared.payload.token.Published.{Published}
 use Rattle.kfifo_live.specs.Handles.{further}
 use Rattle.kfifo_live.specs.Pass.{PassKeepsPromise}
 use Rattle.kfifo_live.specs.Payloads.{TokenView}
-use Rattle.kfifo_live.specs.Tokens.{GivesWith, TokenHeld}
+use Rattle.kfifo_live.specs.Tokens.{GivesWith, TokenHandleView}
 use Rattle.kfifo_pool.specs.Pooled.{GivesReserved, KeepsOne, Pooled, Refuses, TakesOne, pass_of}
 
 module _ {T : Type 0} where
   -- the starts after a give
-  abbrev pub Moves : TokenHeld T → TokenHeld T → Type 0
+  abbrev pub Moves : TokenHandleView T → TokenHandleView T → Type 0
   Moves old new = (new.put_start ≡ further (pass_of old) old.put_start) × (new.take_start ≡ old.take_start)
 
   -- a give with the token that was reserved before it
@@ -25,9 +25,9 @@ module _ {T : Type 0} where
         token = token;
         reserves = subst (λ (free : List TokenView). TakesOne (Some token) old.free free)
             (sym (ap (λ (h : Pooled T). h.free) is)) takes;
-        gives = subst (λ (h : TokenHeld T). GivesWith token payload h.put_start MAX_TURNS answer h.pass new.held.pass)
-            held gives;
-        starts = subst (λ (h : TokenHeld T). Moves h new.held) held starts;
+        gives = subst (λ (h : TokenHandleView T). GivesWith token payload h.put_start MAX_TURNS answer h.pass
+            new.held.pass) held gives;
+        starts = subst (λ (h : TokenHandleView T). Moves h new.held) held starts;
         promise = promise;
       }
 
@@ -37,13 +37,16 @@ module _ {T : Type 0} where
       → Refuses payload answer token old new
   refuses payload token answer old given new gives same keeps = (
     given.free,
-    subst (λ (held : TokenHeld T). GivesReserved payload answer given.free old (record { held = held; free = new.free; cells = new.cells }))
-        (sym same) (record {
-          token = gives.token;
-          reserves = gives.reserves;
-          gives = gives.gives;
-          starts = gives.starts;
-          promise = gives.promise;
-        }),
+    subst (λ (held : TokenHandleView T). GivesReserved payload answer given.free old (record {
+      held = held;
+      free = new.free;
+      cells = new.cells;
+    })) (sym same) (record {
+      token = gives.token;
+      reserves = gives.reserves;
+      gives = gives.gives;
+      starts = gives.starts;
+      promise = gives.promise;
+    }),
     keeps,
   )

@@ -1,6 +1,6 @@
 -- What a list has before and after a token is taken out of it or put into it.
-use Rattle.std.proofs.Common.{◌≡◌, ℕ, zero, suc, List, [], ◌∷◌, ◌++◌, All, Option, None, Some, IfSome, map, refl, reverse, sym, ap, subst, inl, inr, ◌∙◌}
-use Rattle.std.proofs.Common.{append_assoc}
+use Rattle.std.proofs.Common.{◌≡◌, ℕ, zero, suc, List, [], ◌∷◌, ◌++◌, All, Option, None, Some, IfSome, map, refl}
+use Rattle.std.proofs.Common.{reverse, sym, ap, subst, inl, inr, ◌∙◌, append_assoc}
 use Rattle.std.specs.Option.{MatchOption, option_to_list}
 use Rattle.std.proofs.lemmas.List.{append-nil, reverse-append}
 use Rattle.std.proofs.lemmas.Option.{none-some}

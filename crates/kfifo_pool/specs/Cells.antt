@@ -14,7 +14,7 @@ use Rattle.kfifo_live.specs.Calls.{IsDisturbed}
 use Rattle.kfifo_live.specs.Handles.{further}
 use Rattle.kfifo_live.specs.Pass.{IsSamePass, PassKeepsPromise}
 use Rattle.kfifo_live.specs.Payloads.{TokenView}
-use Rattle.kfifo_live.specs.Tokens.{Puts, TakesToken, TakesTokenOrSeals, TokenHeld}
+use Rattle.kfifo_live.specs.Tokens.{Puts, TakesToken, TakesTokenOrSeals, TokenHandleView}
 use Rattle.kfifo_pool.specs.Pooled.{CellsInHand, KeepsOne, Pooled, TakesOne, pass_of}
 
 -- the cell of a token
@@ -61,7 +61,8 @@ abbrev pub with_received : Option TokenView → CellsInHand → CellsInHand
 with_received token cells = record { reserved = cells.reserved; received = token }
 
 module _ {T : Type 0} where
-  -- A `reserve` where no cell was reserved takes a free token, if there is one. Where a cell was reserved, it is that one
+  -- A `reserve` where no cell was reserved takes a free token, if there is one. Where a cell was reserved, it is that
+  -- one
   abbrev pub Reserved : Option TokenView → Pooled T → Pooled T → Type 0
   Reserved None old new = TakesOne new.cells.reserved old.free new.free
   Reserved (Some token) old new = (new.cells.reserved ≡ Some token) × (new.free ≡ old.free)
@@ -74,7 +75,7 @@ module _ {T : Type 0} where
     pub same_received : new.cells.received ≡ old.cells.received
 
   -- a put of this token came to this
-  pub record PutsCell (token : TokenView) (answer : Put T) (old new : TokenHeld T) : Type 0 where
+  pub record PutsCell (token : TokenView) (answer : Put T) (old new : TokenHandleView T) : Type 0 where
     pub same : IsSamePass (pass_of old) (pass_of new)
     pub puts : Puts token old.put_start MAX_TURNS answer old.pass new.pass
     pub starts : (new.put_start ≡ further (pass_of old) old.put_start) × (new.take_start ≡ old.take_start)

@@ -18,7 +18,7 @@ use Rattle.kfifo_live.specs.Handles.{first_of, further}
 use Rattle.kfifo_live.specs.Calls.{IsDisturbed}
 use Rattle.kfifo_live.specs.Pass.{OpenQueue, PassKeepsPromise, PassView, queue_of}
 use Rattle.kfifo_live.specs.Payloads.{PayPassView, TokenView}
-use Rattle.kfifo_live.specs.Tokens.{GivesWith, ReceivesOrSeals, ReceivesWith, TokenHeld, new_token_passes}
+use Rattle.kfifo_live.specs.Tokens.{GivesWith, ReceivesOrSeals, ReceivesWith, TokenHandleView, new_token_passes}
 use Rattle.kfifo_pool.specs.declared.pool.TheConstants.{BATCH}
 
 -- the tokens are of this queue
@@ -72,10 +72,10 @@ pub record KeepsOne (token : TokenView) (old new : List TokenView) : Type 0 wher
 
 module _ {T : Type 0} where
   -- the pass of a handle, without payloads, and its queue
-  abbrev pub pass_of : TokenHeld T → PassView
+  abbrev pub pass_of : TokenHandleView T → PassView
   pass_of held = held.pass.pass
 
-  abbrev pub queue_in : TokenHeld T → OpenQueue
+  abbrev pub queue_in : TokenHandleView T → OpenQueue
   queue_in held = queue_of (pass_of held).table (pass_of held).opened
 
 -- the token of the cell that is reserved, and that of the one that was received, if they are
@@ -93,7 +93,7 @@ AreCellsOf queue cells = IfSome cells.reserved (λ (t : TokenView). t.queue ≡ 
 
 -- a handle of a queue with a pool: its pass and starts, its free tokens, the next one last, and its cells
 pub record Pooled (T : Type 0) : Type 0 where
-  pub held : TokenHeld T
+  pub held : TokenHandleView T
   pub free : List TokenView
   pub cells : CellsInHand
 

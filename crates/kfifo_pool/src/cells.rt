@@ -4,8 +4,8 @@ ghost use Rattle.kfifo_live.specs.Calls.{IsDisturbed};
 ghost use Rattle.kfifo_live.specs.Handles.{further};
 ghost use Rattle.kfifo_live.specs.Pass.{IsPassOf, IsSamePass, IsSealedEmpty, PassKeepsPromise};
 ghost use Rattle.kfifo_pool.specs.Cells.{CancelsCell, PublishesCell, ReceivesCell, ReceivesCellOrSeals, ReleasesCell};
-ghost use Rattle.kfifo_pool.specs.Cells.{ReservesCell, cell_in, cells_of, cells_or_sealed, token_or_sealed, token_taken};
-ghost use Rattle.kfifo_pool.specs.Cells.{with_received, with_reserved};
+ghost use Rattle.kfifo_pool.specs.Cells.{ReservesCell, cell_in, cells_of, cells_or_sealed, token_or_sealed};
+ghost use Rattle.kfifo_pool.specs.Cells.{token_taken, with_received, with_reserved};
 ghost use Rattle.kfifo_pool.specs.Pooled.{CellsInHand, no_cells, pass_of};
 
 use crate::handle::PooledHandle;
@@ -244,8 +244,8 @@ impl<T: Drop> PooledHandle<T> {
         taken
     }
 
-    /// Takes one of the k oldest cells out of a bare queue, as `receive_cell` does, or seals the queue where it is empty,
-    /// as `TokenHandle::take_or_seal` does.
+    /// Takes one of the k oldest cells out of a bare queue, as `receive_cell` does, or seals the queue where it is
+    /// empty, as `TokenHandle::take_or_seal` does.
     ///
     /// Returns Got with the cell's number, Empty, Sealed, Worn or Busy. Busy comes only where another thread won an
     /// exchange during the call. It never waits or locks.

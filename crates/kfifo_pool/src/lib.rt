@@ -5,6 +5,7 @@
 mod cells;
 mod free;
 mod handle;
+mod laid;
 mod pool;
 mod queue;
 

@@ -1,11 +1,13 @@
 //! The queue and the free tokens that no handle has.
-ghost use Rattle.std.specs.Prelude.{◌≡◌, ◌≤◌, ◌<◌, ◌*◌, ◌%◌, ◌++◌, All, IfOk, IfSome, List, [], None, reverse, vec_capacity};
+ghost use Rattle.std.specs.Prelude.{◌≡◌, ◌≤◌, ◌<◌, ◌*◌, ◌%◌, ◌++◌, All, IfOk, IfSome, List, [], None, reverse};
+ghost use Rattle.std.specs.Prelude.{vec_capacity};
 ghost use Rattle.counted_slot.specs.Counting.{IsTurn, readers};
 ghost use Rattle.kfifo_live.specs.Pass.{OpenQueue};
 ghost use Rattle.kfifo_live.specs.Payloads.{TokenView};
 ghost use Rattle.kfifo_pool.specs.Pooled.{AreOf, in_list};
 ghost use Rattle.kfifo_pool.specs.declared.pool.TheConstants.{BATCH};
 
+use crate::laid::Laid;
 use counted_slot::{Claim, Counted, FREE, Fits, PRESENT, TAKEN};
 use kfifo_exclusive::Exclusive;
 use kfifo_live::{Token, TokenQueue};
@@ -99,6 +101,7 @@ impl<T: Drop> Resting<T> {
 pub struct PooledQueue<T: Drop> {
     pub(crate) queue: TokenQueue<T>,
     pub(crate) places: Vec<Counted<Option<Resting<T>>>>,
+    pub(crate) laid: Laid,
 }
 
 impl<T: Drop> Model for PooledQueue<T> {
@@ -209,6 +212,7 @@ impl<T: Drop> PooledQueue<T> {
     {
         let (index, claim) = self.claim_any(from, FREE)?;
         *list = exchange(claim, list.take(), PRESENT);
+        self.laid.add();
         Some(index)
     }
 
@@ -221,8 +225,13 @@ impl<T: Drop> PooledQueue<T> {
         ensures of { AreOf self.now (in_list list.new) }
         ensures none { result ≡ None → list.new ≡ list.old }
     {
+        // Without this a give that is refused would look at all places, of which a queue of 16,384 has over a thousand.
+        if self.laid.is_none() {
+            return None;
+        }
         let (index, claim) = self.claim_any(from, PRESENT)?;
         *list = exchange(claim, list.take(), FREE);
+        self.laid.remove();
         Some(index)
     }
 }

@@ -10,6 +10,7 @@ ghost use Rattle.kfifo_live.specs.Tokens.{token_opening};
 ghost use Rattle.kfifo_pool.specs.Pooled.{AreOf, in_list, new_handle, new_handles, pass_of, passes_in};
 
 use crate::handle::PooledHandle;
+use crate::laid::Laid;
 use crate::pool::{BATCH, Batch, PooledQueue, Resting};
 use counted_slot::Counted;
 use kfifo_live::{CloseFault, Sizes, Token, TokenPass, TokenQueue};
@@ -107,7 +108,12 @@ impl<T: Drop> PooledQueue<T> {
         let batches = tokens.len().div_ceil(BATCH as usize);
         let count = batches.saturating_add(passes.len()).saturating_add(1);
         let places = empty_places(alloc, &queue, count)?;
-        let pooled = PooledQueue { queue, places };
+        let laid = Laid::new(alloc)?;
+        let pooled = PooledQueue {
+            queue,
+            places,
+            laid,
+        };
         pooled.lay_all(alloc, tokens)?;
         let handles = pooled.seat_all(alloc, passes)?;
         Ok((pooled, handles))
@@ -151,7 +157,11 @@ impl<T: Drop> PooledQueue<T> {
             (λ payloads. PayCloses self handle.held.pass (map (λ h. h.held.pass) others.items) payloads.items) }
         ensures missing { ¬ IsErrOf result MissingPass }
     {
-        let PooledQueue { queue, places: _ } = self;
+        let PooledQueue {
+            queue,
+            places: _,
+            laid: _,
+        } = self;
         let others = passes_of(alloc, others)?;
         queue.close_with(alloc, handle.into_pass(), others)
     }
@@ -204,7 +214,11 @@ impl PooledQueue<()> {
         ensures refused { ¬ IsComplete self.opened.threads (passes_in handles.items)
             → IsErrOf result MissingPass ⊎ IsErrOf result Memory }
     {
-        let PooledQueue { queue, places: _ } = self;
+        let PooledQueue {
+            queue,
+            places: _,
+            laid: _,
+        } = self;
         let passes = passes_of(alloc, handles)?;
         queue.close(alloc, passes)
     }

@@ -24,7 +24,8 @@ abbrev pub KeptTail : Shape → ℕ → (ℕ → ℕ) → Ledger → (ℕ → Op
 KeptTail shape from w l charge ends = w 0 ≡ ends → from < l.tail → Kept shape w charge Every l.tail
 
 abbrev pub KeptHead : Shape → ℕ → (ℕ → ℕ) → Ledger → (ℕ → Option ℕ) → ℕ → (ℕ → Type 0) → Type 0
-KeptHead shape from w l charge ends Slots = w 0 ≡ ends → from < l.head → l.head < l.tail → Kept shape w charge Slots l.head
+KeptHead shape from w l charge ends Slots = w 0 ≡ ends → from < l.head → l.head < l.tail
+    → Kept shape w charge Slots l.head
 
 abbrev pub Charged : ℕ → (ℕ → ℕ) → Ledger → (ℕ → Option ℕ) → ℕ → Type 0
 Charged from w l charge ends = w 0 ≡ ends → from < l.head → l.head < l.tail → is_some (charge l.head) ≡ true
@@ -40,18 +41,22 @@ HasKept shape from w l charge (R.Dequeue start left (D.ScanHead ends offset)) =
 HasKept shape from w l charge (R.Dequeue start left (D.Recheck ends Nothing)) = Charged from w l charge ends
 HasKept shape from w l charge (R.Dequeue start left (D.Recheck ends (Slot index seen))) =
     l.head ≡ l.tail → KeptTail shape from w l charge ends
-HasKept shape from w l charge (R.Dequeue start left (D.MoveTail ends index filled)) = KeptTail shape from w l charge ends
+HasKept shape from w l charge (R.Dequeue start left (D.MoveTail ends index filled)) =
+    KeptTail shape from w l charge ends
 HasKept shape from w l charge (R.Dequeue start left (D.MoveHead ends)) = Charged from w l charge ends
 HasKept shape from w l charge other = Unit {0}
 
-pub HasKept-others : (shape : Shape) (from : ℕ) (w w' : ℕ → ℕ) (l l' : Ledger) (charge charge' : ℕ → Option ℕ) (u : ℕ) (q : Running)
+pub HasKept-others : (shape : Shape) (from : ℕ) (w w' : ℕ → ℕ) (l l' : Ledger) (charge charge' : ℕ → Option ℕ) (u : ℕ)
+    (q : Running)
     → ((ends : ℕ) → Loaded shape w l u ends → w' 0 ≡ ends → (w 0 ≡ ends) × (l'.head ≡ l.head) × (l'.tail ≡ l.tail))
-    → ((Slots : ℕ → Type 0) (v : ℕ) → l.head ≤ v → v ≤ l.tail → Kept shape w charge Slots v → Kept shape w' charge' Slots v)
+    → ((Slots : ℕ → Type 0) (v : ℕ) → l.head ≤ v → v ≤ l.tail → Kept shape w charge Slots v → Kept shape w' charge'
+    Slots v)
     → ((v : ℕ) → is_some (charge v) ≡ true → is_some (charge' v) ≡ true) → l.head ≤ l.tail
     → HasLoaded shape w l u q → HasKept shape from w l charge q → HasKept shape from w' l' charge' q
 HasKept-others shape from w w' l l' charge charge' u q same keep grow ordered = by_place q
   where
-    tail_kept : (ends : ℕ) → Loaded shape w l u ends → KeptTail shape from w l charge ends → KeptTail shape from w' l' charge' ends
+    tail_kept : (ends : ℕ) → Loaded shape w l u ends → KeptTail shape from w l charge ends
+        → KeptTail shape from w' l' charge' ends
     tail_kept ends ld k e f =
         let x = same ends ld e in
         rw x.2 (keep Every l.tail ordered (omega arith) (k x.0 (omega (arith, f, x.2))))
@@ -67,10 +72,12 @@ HasKept-others shape from w w' l l' charge charge' u q same keep grow ordered = 
         let x = same ends ld e in
         rw x.1 (grow l.head (k x.0 (omega (arith, f, x.1)) (omega (arith, g, x.1, x.2))))
 
-    by_place : (q : Running) → HasLoaded shape w l u q → HasKept shape from w l charge q → HasKept shape from w' l' charge' q
+    by_place : (q : Running) → HasLoaded shape w l u q → HasKept shape from w l charge q
+        → HasKept shape from w' l' charge' q
     by_place (R.Enqueue item start left (E.Recheck ends Nothing)) ld k = tail_kept ends ld k
     by_place (R.Enqueue item start left (E.MoveTail ends)) ld k = tail_kept ends ld k
-    by_place (R.Enqueue item start left (E.ScanHead ends offset)) ld k = head_kept ends (Unseen shape ends 0 offset) ld k
+    by_place (R.Enqueue item start left (E.ScanHead ends offset)) ld k =
+        head_kept ends (Unseen shape ends 0 offset) ld k
     by_place (R.Enqueue item start left (E.MoveHead ends)) ld k = head_charged ends ld k
     by_place (R.Dequeue start left (D.ScanHead ends offset)) ld k = head_kept ends (Unseen shape ends start offset) ld k
     by_place (R.Dequeue start left (D.Recheck ends Nothing)) ld k = head_charged ends ld k
@@ -81,8 +88,10 @@ HasKept-others shape from w w' l l' charge charge' u q same keep grow ordered = 
     by_place other ld k = tt
 
 -- where the steps lead that see the head's segment
-recheck_leads : (shape : Shape) (P : Running → Type 0) (item start left ends word : ℕ) → P (R.Enqueue item start (left - 1) E.LoadEnds)
-    → (word ≡ ends → P (R.Enqueue item start left (E.ScanHead ends 0))) → (word ≡ ends → P (R.Enqueue item start left (E.MoveTail ends)))
+recheck_leads : (shape : Shape) (P : Running → Type 0) (item start left ends word : ℕ)
+    → P (R.Enqueue item start (left - 1) E.LoadEnds)
+    → (word ≡ ends → P (R.Enqueue item start left (E.ScanHead ends 0)))
+    → (word ≡ ends → P (R.Enqueue item start left (E.MoveTail ends)))
     → IfGoes P (advance shape (R.Enqueue item start left (E.Recheck ends Nothing)) word)
 recheck_leads shape P item start left ends word again scan move = grind (arith, nat_tests)
 
@@ -94,26 +103,31 @@ scan_head_leads : (shape : Shape) (P : Running → Type 0) (item start left ends
 scan_head_leads shape P item start left ends offset word full on last = grind (arith, nat_tests)
 
 dequeue_scan_leads : (shape : Shape) (P : Running → Type 0) (start left ends offset word : ℕ)
-    → (value_of word ≢ 0 → P (R.Dequeue start left (D.Recheck ends (Slot (scan_index shape (head_of ends) start offset) word))))
+    → (value_of word ≢ 0
+    → P (R.Dequeue start left (D.Recheck ends (Slot (scan_index shape (head_of ends) start offset) word))))
     → (value_of word ≡ 0 → P (R.Dequeue start left (D.ScanHead ends (offset + 1))))
     → (value_of word ≡ 0 → offset + 1 ≡ shape.k → P (R.Dequeue start left (D.Recheck ends Nothing)))
     → IfGoes P (advance shape (R.Dequeue start left (D.ScanHead ends offset)) word)
 dequeue_scan_leads shape P start left ends offset word found on last = grind (arith, nat_tests)
 
-module _ (shape : Shape) (from : ℕ) (w : ℕ → ℕ) (l : Ledger) (t : ℕ) (charge : ℕ → Option ℕ) (ok : EndsOk shape (w 0) l.head l.tail)
+module _ (shape : Shape) (from : ℕ) (w : ℕ → ℕ) (l : Ledger) (t : ℕ) (charge : ℕ → Option ℕ)
+    (ok : EndsOk shape (w 0) l.head l.tail)
     (kept : (v : ℕ) → from < v → l.head ≤ v → v < l.tail → Kept shape w charge Every v) where
   -- what the own step learns
-  tail_seen_filled : (ends start offset : ℕ) → w 0 ≡ ends → value_of (w (scan_index shape (tail_of ends) start offset)) ≢ 0
+  tail_seen_filled : (ends start offset : ℕ) → w 0 ≡ ends
+      → value_of (w (scan_index shape (tail_of ends) start offset)) ≢ 0
       → Kept shape w charge Every l.tail
   tail_seen_filled ends start offset e filled =
       let ring : InRing shape (w 0) = ends_in_ring shape (w 0) l.head l.tail ok in
-      seen_filled shape w l t charge ok (tail_of ends) start offset l.tail (rw (← e) ok.tail) (rw (← e) ring.tail) filled
+      seen_filled shape w l t charge ok (tail_of ends) start offset l.tail (rw (← e) ok.tail) (rw (← e) ring.tail)
+      filled
 
   head_seen_filled : (ends start offset : ℕ) → w 0 ≡ ends → l.head ≡ l.tail
       → value_of (w (scan_index shape (head_of ends) start offset)) ≢ 0 → Kept shape w charge Every l.tail
   head_seen_filled ends start offset e at filled =
       let ring : InRing shape (w 0) = ends_in_ring shape (w 0) l.head l.tail ok in
-      seen_filled shape w l t charge ok (head_of ends) start offset l.tail (rw (← e, ← at) ok.head) (rw (← e) ring.head) filled
+      seen_filled shape w l t charge ok (head_of ends) start offset l.tail (rw (← e, ← at) ok.head) (rw (← e) ring.head)
+      filled
 
   begins_scan : (ends start : ℕ) → start < shape.k → w 0 ≡ ends → from < l.head → l.head < l.tail
       → Kept shape w charge (Unseen shape ends start 0) l.head
@@ -121,24 +135,28 @@ module _ (shape : Shape) (from : ℕ) (w : ℕ → ℕ) (l : Ledger) (t : ℕ) (
       scan_begins shape w l t charge ok ends start l.head (rw (← e) ok.head) h (kept l.head f (omega arith) g)
 
   goes_on_scan : (ends start offset : ℕ) → value_of (w (scan_index shape (head_of ends) start offset)) ≡ 0
-      → Kept shape w charge (Unseen shape ends start offset) l.head → Kept shape w charge (Unseen shape ends start (offset + 1)) l.head
+      → Kept shape w charge (Unseen shape ends start offset) l.head
+      → Kept shape w charge (Unseen shape ends start (offset + 1)) l.head
   goes_on_scan ends start offset empty k = scan_goes_on shape w l t charge ok ends start offset l.head empty k
 
-  ends_scan : (ends start offset : ℕ) → offset + 1 ≡ shape.k → value_of (w (scan_index shape (head_of ends) start offset)) ≡ 0
+  ends_scan : (ends start offset : ℕ) → offset + 1 ≡ shape.k
+      → value_of (w (scan_index shape (head_of ends) start offset)) ≡ 0
       → Kept shape w charge (Unseen shape ends start offset) l.head → is_some (charge l.head) ≡ true
   ends_scan ends start offset last empty k =
-      scan_ends shape w l t charge ok ends start (offset + 1) l.head (omega (arith, last)) (goes_on_scan ends start offset empty k)
+      scan_ends shape w l t charge ok ends start (offset + 1) l.head (omega (arith, last))
+      (goes_on_scan ends start offset empty k)
 
   abbrev pub Leads : Running → Type 0
-  Leads r = IfGoes (HasKept shape from (words_by (access shape r) w) (stepped shape w t r l) (charge_after shape w l t r charge))
-      (advance shape r (found_in shape w r))
+  Leads r = IfGoes (HasKept shape from (words_by (access shape r) w) (stepped shape w t r l)
+      (charge_after shape w l t r charge)) (advance shape r (found_in shape w r))
 
   -- the own step keeps what it has to
   scan_tail_keeps : (item start left ends offset : ℕ) → Leads (R.Enqueue item start left (E.ScanTail ends offset))
   unfolding stepped
   scan_tail_keeps item start left ends offset = grind (arith, nat_tests, tail_seen_filled)
 
-  recheck_keeps : (item start left ends : ℕ) → KeptTail shape from w l charge ends → Leads (R.Enqueue item start left (E.Recheck ends Nothing))
+  recheck_keeps : (item start left ends : ℕ) → KeptTail shape from w l charge ends
+      → Leads (R.Enqueue item start left (E.Recheck ends Nothing))
   unfolding stepped
   recheck_keeps item start left ends mine =
       recheck_leads shape (HasKept shape from w l charge) item start left ends (w 0) tt
@@ -148,11 +166,13 @@ module _ (shape : Shape) (from : ℕ) (w : ℕ → ℕ) (l : Ledger) (t : ℕ) (
       → Leads (R.Enqueue item start left (E.ScanHead ends offset))
   unfolding stepped
   scan_head_keeps item start left ends offset mine =
-      scan_head_leads shape (HasKept shape from w l charge) item start left ends offset (w (scan_index shape (head_of ends) 0 offset)) tt
+      scan_head_leads shape (HasKept shape from w l charge) item start left ends offset
+      (w (scan_index shape (head_of ends) 0 offset)) tt
       (λ empty e f g. goes_on_scan ends 0 offset empty (mine e f g))
       (λ empty last e f g. ends_scan ends 0 offset last empty (mine e f g))
 
-  enqueue_keeps : (item start left : ℕ) (phase : EnqueuePhase) → HasKept shape from w l charge (R.Enqueue item start left phase)
+  enqueue_keeps : (item start left : ℕ) (phase : EnqueuePhase)
+      → HasKept shape from w l charge (R.Enqueue item start left phase)
       → Leads (R.Enqueue item start left phase)
   unfolding stepped
   enqueue_keeps item start left (E.ScanTail ends offset) mine = scan_tail_keeps item start left ends offset
@@ -161,11 +181,13 @@ module _ (shape : Shape) (from : ℕ) (w : ℕ → ℕ) (l : Ledger) (t : ℕ) (
   enqueue_keeps item start left (E.Recheck ends (Slot index seen)) mine = grind (arith, nat_tests)
   enqueue_keeps item start left phase mine = grind (arith, nat_tests)
 
-  dequeue_scan_keeps : (start left ends offset : ℕ) → KeptHead shape from w l charge ends (Unseen shape ends start offset)
+  dequeue_scan_keeps : (start left ends offset : ℕ)
+      → KeptHead shape from w l charge ends (Unseen shape ends start offset)
       → Leads (R.Dequeue start left (D.ScanHead ends offset))
   unfolding stepped
   dequeue_scan_keeps start left ends offset mine =
-      dequeue_scan_leads shape (HasKept shape from w l charge) start left ends offset (w (scan_index shape (head_of ends) start offset))
+      dequeue_scan_leads shape (HasKept shape from w l charge) start left ends offset
+      (w (scan_index shape (head_of ends) start offset))
       (λ filled at e f. head_seen_filled ends start offset e at filled)
       (λ empty e f g. goes_on_scan ends start offset empty (mine e f g))
       (λ empty last e f g. ends_scan ends start offset last empty (mine e f g))

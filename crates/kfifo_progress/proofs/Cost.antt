@@ -35,7 +35,8 @@ abbrev pub enqueue_cost : Shape → Prices → (ℕ → ℕ) → EnqueuePhase �
 enqueue_cost shape x w E.LoadEnds = x.round + x.put
 enqueue_cost shape x w (E.ScanTail ends offset) =
     enqueue_budget shape.k (E.ScanTail ends offset) + x.put + stale w 0 ends x.ends
-enqueue_cost shape x w (E.Recheck ends Nothing) = enqueue_budget shape.k (E.Recheck ends Nothing) + x.put + stale w 0 ends x.ends
+enqueue_cost shape x w (E.Recheck ends Nothing) = enqueue_budget shape.k (E.Recheck ends Nothing) + x.put + stale w 0
+    ends x.ends
 enqueue_cost shape x w (E.Recheck ends (Slot index seen)) =
     enqueue_budget shape.k (E.Recheck ends Nothing) + x.put + stale w 0 ends x.ends + stale w index seen x.round
 enqueue_cost shape x w (E.Put ends index empty) = 5 + x.put + stale w 0 ends x.ends + stale w index empty x.round
@@ -52,9 +53,11 @@ enqueue_cost shape x w (E.MoveTail ends) = 1 + x.put + stale w 0 ends x.ends
 
 abbrev pub dequeue_cost : Shape → Prices → (ℕ → ℕ) → DequeuePhase → ℕ
 dequeue_cost shape x w D.LoadEnds = x.round + x.put
-dequeue_cost shape x w (D.ScanHead ends offset) = dequeue_budget shape.k (D.ScanHead ends offset) + x.put + stale w 0 ends x.ends
+dequeue_cost shape x w (D.ScanHead ends offset) = dequeue_budget shape.k (D.ScanHead ends offset) + x.put + stale w 0
+    ends x.ends
 dequeue_cost shape x w (D.Recheck ends Nothing) = 4 + x.put + stale w 0 ends x.ends
-dequeue_cost shape x w (D.Recheck ends (Slot index seen)) = 4 + x.put + stale w 0 ends x.ends + stale w index seen x.round
+dequeue_cost shape x w (D.Recheck ends (Slot index seen)) = 4 + x.put + stale w 0 ends x.ends + stale w index seen
+    x.round
 dequeue_cost shape x w (D.MoveTail ends index filled) = 3 + x.put + stale w 0 ends x.ends + stale w index filled x.round
 dequeue_cost shape x w (D.Take ends index filled) = 2 + x.put + stale w index filled x.round
 dequeue_cost shape x w (D.MoveHead ends) = 1 + x.put + stale w 0 ends x.ends
@@ -84,7 +87,8 @@ pub others_rise : (shape : Shape) (threads : ℕ) (x : Prices) (w w' : ℕ → �
     → cost shape x w' q ≤ cost shape x w q + (x.ends + x.ends + x.round)
 others_rise shape threads x w w' q enough = grind (arith, nat_tests)
 
-pub others_rise_little : (shape : Shape) (threads : ℕ) (x : Prices) (w w' : ℕ → ℕ) (q : Running) → AreEnough shape threads x → w' 0 ≡ w 0
+pub others_rise_little : (shape : Shape) (threads : ℕ) (x : Prices) (w w' : ℕ → ℕ) (q : Running)
+    → AreEnough shape threads x → w' 0 ≡ w 0
     → cost shape x w' q ≤ cost shape x w q + x.round
 others_rise_little shape threads x w w' q enough same = grind (arith, nat_tests)
 
@@ -94,24 +98,30 @@ pub cost_bound : (shape : Shape) (threads : ℕ) (x : Prices) (w : ℕ → ℕ) 
 cost_bound shape threads x w q enough = grind (arith, nat_tests)
 
 -- a step that changes no word
-pub falls_own : (shape : Shape) (threads : ℕ) (x : Prices) (w : ℕ → ℕ) (r : Running) → AreEnough shape threads x → IsPlace shape r
+pub falls_own : (shape : Shape) (threads : ℕ) (x : Prices) (w : ℕ → ℕ) (r : Running) → AreEnough shape threads x
+    → IsPlace shape r
     → wins w (access shape r) ≡ false → quiet (advance shape r (found_in shape w r)) ≡ true
     → cost_at shape x w (place_after (advance shape r (found_in shape w r))) + 1 ≤ cost shape x w r
 falls_own shape threads x w (R.Enqueue item start left phase) enough place none calm = grind (arith, nat_tests)
 falls_own shape threads x w (R.Dequeue start left phase) enough place none calm = grind (arith, nat_tests)
 
 -- a step that changes the ends
-pub moves_own : (shape : Shape) (threads : ℕ) (x : Prices) (w w' : ℕ → ℕ) (r : Running) → AreEnough shape threads x → IsPlace shape r
+pub moves_own : (shape : Shape) (threads : ℕ) (x : Prices) (w w' : ℕ → ℕ) (r : Running) → AreEnough shape threads x
+    → IsPlace shape r
     → quiet (advance shape r (found_in shape w r)) ≡ true
-    → cost_at shape x w' (place_after (advance shape r (found_in shape w r))) ≤ cost shape x w r + (x.ends + x.ends + x.round)
+    → cost_at shape x w' (place_after (advance shape r (found_in shape w r))) ≤ cost shape x w r +
+    (x.ends + x.ends + x.round)
 moves_own shape threads x w w' (R.Enqueue item start left phase) enough place calm = grind (arith, nat_tests)
 moves_own shape threads x w w' (R.Dequeue start left phase) enough place calm = grind (arith, nat_tests)
 
 -- a step that changes a slot leaves each thread what one round costs
-pub slot_own : (shape : Shape) (threads : ℕ) (x : Prices) (w w' : ℕ → ℕ) (r : Running) → AreEnough shape threads x → IsPlace shape r
-    → wins w (access shape r) ≡ true → accessed (access shape r) ≢ 0 → quiet (advance shape r (found_in shape w r)) ≡ true → w' 0 ≡ w 0
+pub slot_own : (shape : Shape) (threads : ℕ) (x : Prices) (w w' : ℕ → ℕ) (r : Running) → AreEnough shape threads x
+    → IsPlace shape r
+    → wins w (access shape r) ≡ true → accessed (access shape r) ≢ 0 → quiet (advance shape r (found_in shape w r))
+    ≡ true → w' 0 ≡ w 0
     → cost_at shape x w' (place_after (advance shape r (found_in shape w r))) + (1 + x.put) ≤ cost shape x w r
-slot_own shape threads x w w' (R.Enqueue item start left phase) enough place won slot calm same = grind (arith, nat_tests)
+slot_own shape threads x w w' (R.Enqueue item start left phase) enough place won slot calm same =
+    grind (arith, nat_tests)
 slot_own shape threads x w w' (R.Dequeue start left phase) enough place won slot calm same = grind (arith, nat_tests)
 
 -- one that changes the ends while its call goes on moves head or tail

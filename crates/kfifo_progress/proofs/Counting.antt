@@ -20,7 +20,8 @@ pigeonhole (suc m) f below apart = pigeonhole m moved moved_below moved_apart
 
     moved_below : (i : ℕ) → i ≤ m → moved i < m
     moved_below i h = elim (moved_is i) [
-      | inl last ↦ omega (arith, last.0, last.1, below (suc m) (omega arith), apart i (suc m) (omega arith) (omega arith))
+      | inl last ↦
+          omega (arith, last.0, last.1, below (suc m) (omega arith), apart i (suc m) (omega arith) (omega arith))
       | inr other ↦ omega (arith, other.0, other.1, below i (omega arith))
     ]
 
@@ -46,14 +47,20 @@ total_rises f g zero c h = omega arith
 total_rises f g (suc n) c h = omega (arith, h n (omega arith), total_rises f g n c (λ i b. h i (omega arith)))
 
 -- where one of them falls
-pub total_falls : (f g : ℕ → ℕ) (n a c rise fall : ℕ) → a < n → g a + fall ≤ f a + rise → ((i : ℕ) → i < n → i ≢ a → g i ≤ f i + c)
+pub total_falls : (f g : ℕ → ℕ) (n a c rise fall : ℕ) → a < n → g a + fall ≤ f a + rise
+    → ((i : ℕ) → i < n → i ≢ a → g i ≤ f i + c)
     → total g n + fall ≤ total f n + rise + n * c
 total_falls f g zero a c rise fall b own h = absurd (omega arith)
 total_falls f g (suc n) a c rise fall b own h = elim (cases_eq a n) [
   | inl last ↦
       let o : g n + fall ≤ f n + rise = subst (λ x. g x + fall ≤ f x + rise) last own in
       omega (arith, o, total_rises f g n c (λ i z. h i (omega arith) (omega arith)))
-  | inr ne ↦ omega (arith, h n (omega arith) (λ z. ne (sym z)), total_falls f g n a c rise fall (omega arith) own (λ i z. h i (omega arith)))
+  | inr ne ↦ omega (
+    arith,
+    h n (omega arith) (λ z. ne (sym z)),
+    total_falls f g n a c rise fall (omega arith) own
+        (λ i z. h i (omega arith)),
+  )
 ]
 
 -- how many threads are old
@@ -69,9 +76,11 @@ few_old old (suc n) = omega (arith, few_old old n, one (old n))
     one false = omega arith
 
 -- one fewer, after an old thread is one no more
-pub fewer_old : (old : ℕ → Bool) (n t : ℕ) → t < n → old t ≡ true → old_threads (noted old t false) n + 1 ≤ old_threads old n
+pub fewer_old : (old : ℕ → Bool) (n t : ℕ) → t < n → old t ≡ true
+    → old_threads (noted old t false) n + 1 ≤ old_threads old n
 fewer_old old n t within was_old =
-    let k = total_falls (λ u. if old u then 1 else 0) (λ u. if noted old t false u then 1 else 0) n t 0 0 1 within (own (old t) was_old)
+    let k = total_falls (λ u. if old u then 1 else 0) (λ u. if noted old t false u then 1 else 0) n t 0 0 1 within
+    (own (old t) was_old)
     (λ u _ ne. other u ne) in
     omega (arith, k)
   where

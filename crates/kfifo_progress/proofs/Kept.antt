@@ -1,7 +1,7 @@
 -- While no item is taken, an item that stood in the tail's segment when the tail left it leaves its slot only as its
 -- enqueue takes it out. The enqueue's thread is then charged with the visit.
-use Rattle.std.proofs.Common.{◌≡◌, ◌≢◌, ℕ, ◌+◌, ◌-◌, ◌*◌, ◌/◌, ◌%◌, ◌<◌, ◌≤◌, inl, inr, Bool, true, false, refl, sym, ◌∙◌, ap, subst, arith, Option, Some}
-use Rattle.std.proofs.Common.{is_some}
+use Rattle.std.proofs.Common.{◌≡◌, ◌≢◌, ℕ, ◌+◌, ◌-◌, ◌*◌, ◌/◌, ◌%◌, ◌<◌, ◌≤◌, inl, inr, Bool, true, false, refl, sym}
+use Rattle.std.proofs.Common.{◌∙◌, ap, subst, arith, Option, Some, is_some}
 use Rattle.std.specs.Prelude.{nat_le, ◌==◌, ◌&&◌, if◌then◌else◌}
 use Rattle.std.proofs.Math.Nat.{div-mul-le_self, mul-le-mul_right}
 use Rattle.std.proofs.lemmas.Bool.{cases_eq, cases_lt, false≢true}
@@ -75,12 +75,14 @@ abbrev is_undo : Running → Bool
 is_undo (R.Enqueue item start left (E.Undo index filled worn)) = true
 is_undo other = false
 
-module _ (shape : Shape) (w : ℕ → ℕ) (l : Ledger) (t : ℕ) (charge : ℕ → Option ℕ) (ok : EndsOk shape (w 0) l.head l.tail) where
+module _ (shape : Shape) (w : ℕ → ℕ) (l : Ledger) (t : ℕ) (charge : ℕ → Option ℕ)
+    (ok : EndsOk shape (w 0) l.head l.tail) where
   pub grows : (r : Running) (v : ℕ) → is_some (charge v) ≡ true → is_some (charge_after shape w l t r charge v) ≡ true
   grows r v h = grind (arith, nat_tests, noted_tells)
 
   -- no step but an undo empties a slot while no item is taken
-  filled_stays : (r : Running) (i : ℕ) → Sane shape r → quiet (advance shape r (found_in shape w r)) ≡ true → is_undo r ≡ false
+  filled_stays : (r : Running) (i : ℕ) → Sane shape r → quiet (advance shape r (found_in shape w r)) ≡ true
+      → is_undo r ≡ false
       → 0 < i → value_of (words_by (access shape r) w i) ≡ 0 → value_of (w i) ≡ 0
   filled_stays r i s calm not_undo pos e = grind (arith, nat_tests, noted_tells, filled_with-value)
 
@@ -88,7 +90,8 @@ module _ (shape : Shape) (w : ℕ → ℕ) (l : Ledger) (t : ℕ) (charge : ℕ 
   charge_stays r v not_undo = grind arith
 
   -- the visit of an undo
-  pub undo_place : (index : ℕ) → IsSlotIndex shape index → (undo_visit shape w l index % shape.n ≡ segment_of shape index)
+  pub undo_place : (index : ℕ) → IsSlotIndex shape index
+      → (undo_visit shape w l index % shape.n ≡ segment_of shape index)
       × (l.head ≤ undo_visit shape w l index) × (undo_visit shape w l index < l.head + shape.n)
   unfolding settle_visit segment_of
   undo_place index is_slot =
@@ -100,7 +103,8 @@ module _ (shape : Shape) (w : ℕ → ℕ) (l : Ledger) (t : ℕ) (charge : ℕ 
       rw ok.head (d.0, omega arith, omega (arith, d.1))
 
   -- what is kept of a visit between head and tail stays so
-  pub keeps : (r : Running) (Slots : ℕ → Type 0) (v : ℕ) → Sane shape r → quiet (advance shape r (found_in shape w r)) ≡ true
+  pub keeps : (r : Running) (Slots : ℕ → Type 0) (v : ℕ) → Sane shape r → quiet (advance shape r (found_in shape w r))
+      ≡ true
       → l.head ≤ v → v ≤ l.tail → Kept shape w charge Slots v
       → Kept shape (words_by (access shape r) w) (charge_after shape w l t r charge) Slots v
   keeps (R.Enqueue item start left (E.Undo index filled worn)) Slots v s calm from to k =
@@ -108,7 +112,8 @@ module _ (shape : Shape) (w : ℕ → ℕ) (l : Ledger) (t : ℕ) (charge : ℕ 
         | inl won ↦ elim (cases_eq (segment_of shape index) (v % shape.n)) [
           | inl same ↦
               let p = undo_place index s.3.0 in
-              let at : undo_visit shape w l index ≡ v = one_visit v (undo_visit shape w l index) from to p.1 p.2 (p.0 ∙ same) in
+              let at : undo_visit shape w l index ≡ v = one_visit v (undo_visit shape w l index) from to p.1 p.2
+              (p.0 ∙ same) in
               record { charged = λ all. new_charge index filled worn item start left v won at to }
           | inr apart ↦ record {
             charged = λ all. grows (R.Enqueue item start left (E.Undo index filled worn)) v (k.charged
@@ -118,27 +123,32 @@ module _ (shape : Shape) (w : ℕ → ℕ) (l : Ledger) (t : ℕ) (charge : ℕ 
         ]
         | inr lost ↦ record {
           charged = λ all. grows (R.Enqueue item start left (E.Undo index filled worn)) v (k.charged
-              (λ i is_slot place in_slots. nothing index filled worn item start left i lost (all i is_slot place in_slots)));
+              (λ i is_slot place in_slots. nothing index filled worn item start left i lost
+              (all i is_slot place in_slots)));
         }
       ]
     where
-      one_visit : (v x : ℕ) → l.head ≤ v → v ≤ l.tail → l.head ≤ x → x < l.head + shape.n → x % shape.n ≡ v % shape.n → x ≡ v
+      one_visit : (v x : ℕ) → l.head ≤ v → v ≤ l.tail → l.head ≤ x → x < l.head + shape.n → x % shape.n ≡ v % shape.n
+          → x ≡ v
       one_visit v x from to low high e = elim (cases_lt x v) [
         | inl lt ↦ sym (same_place shape.n x v (omega arith) (omega (arith, ok.no_wrap)) (sym e))
         | inr ge ↦ same_place shape.n v x ge (omega arith) e
       ]
 
-      new_charge : (index filled : ℕ) (worn : Bool) (item start left v : ℕ) → w index ≡ filled → undo_visit shape w l index ≡ v
+      new_charge : (index filled : ℕ) (worn : Bool) (item start left v : ℕ) → w index ≡ filled
+          → undo_visit shape w l index ≡ v
           → v ≤ l.tail
           → is_some (charge_after shape w l t (R.Enqueue item start left (E.Undo index filled worn)) charge v) ≡ true
       new_charge index filled worn item start left v won at to = grind (arith, nat_tests, noted_tells)
 
       elsewhere : (index filled : ℕ) (worn : Bool) (item start left i : ℕ) → i ≢ index
-          → value_of (words_by (access shape (R.Enqueue item start left (E.Undo index filled worn))) w i) ≡ 0 → value_of (w i) ≡ 0
+          → value_of (words_by (access shape (R.Enqueue item start left (E.Undo index filled worn))) w i) ≡ 0
+          → value_of (w i) ≡ 0
       elsewhere index filled worn item start left i ne e = grind (arith, nat_tests, noted_tells)
 
       nothing : (index filled : ℕ) (worn : Bool) (item start left i : ℕ) → w index ≢ filled
-          → value_of (words_by (access shape (R.Enqueue item start left (E.Undo index filled worn))) w i) ≡ 0 → value_of (w i) ≡ 0
+          → value_of (words_by (access shape (R.Enqueue item start left (E.Undo index filled worn))) w i) ≡ 0
+          → value_of (w i) ≡ 0
       nothing index filled worn item start left i lost e = grind (arith, nat_tests, noted_tells)
   keeps r Slots v s calm from to k = record {
     charged = λ all. grows r v (k.charged (λ i is_slot place in_slots.
@@ -163,18 +173,20 @@ module _ (shape : Shape) (w : ℕ → ℕ) (l : Ledger) (t : ℕ) (charge : ℕ 
       look = back shape i start;
       from = omega arith;
       below = back-below shape i start shape.some_slot;
-      at = ap (λ x. scan_index shape x start (back shape i start)) (place ∙ sym at) ∙ scan_index-back shape i start shape.some_slot
-          is_slot.above h;
+      at = ap (λ x. scan_index shape x start (back shape i start)) (place ∙ sym at)
+          ∙ scan_index-back shape i start shape.some_slot is_slot.above h;
     }));
   }
 
   -- one that finds a slot empty goes on
   pub scan_goes_on : (ends start offset v : ℕ) → value_of (w (scan_index shape (head_of ends) start offset)) ≡ 0
-      → Kept shape w charge (Unseen shape ends start offset) v → Kept shape w charge (Unseen shape ends start (offset + 1)) v
+      → Kept shape w charge (Unseen shape ends start offset) v
+      → Kept shape w charge (Unseen shape ends start (offset + 1)) v
   scan_goes_on ends start offset v empty k = record {
     charged = λ all. k.charged (λ i is_slot at unseen.
         elim (cases_eq unseen.look offset) [
-          | inl same ↦ subst (λ x. value_of (w x) ≡ 0) (ap (scan_index shape (head_of ends) start) (sym same) ∙ unseen.at) empty
+          | inl same ↦
+              subst (λ x. value_of (w x) ≡ 0) (ap (scan_index shape (head_of ends) start) (sym same) ∙ unseen.at) empty
           | inr ne ↦
               let later : offset + 1 ≤ unseen.look = omega (arith, unseen.from) in
               all i is_slot at (record { look = unseen.look; from = later; below = unseen.below; at = unseen.at })
@@ -184,4 +196,5 @@ module _ (shape : Shape) (w : ℕ → ℕ) (l : Ledger) (t : ℕ) (charge : ℕ 
   -- and at its end has seen all
   pub scan_ends : (ends start offset v : ℕ) → shape.k ≤ offset → Kept shape w charge (Unseen shape ends start offset) v
       → is_some (charge v) ≡ true
-  scan_ends ends start offset v past k = k.charged (λ i is_slot at unseen. absurd (omega (arith, unseen.from, unseen.below)))
+  scan_ends ends start offset v past k =
+      k.charged (λ i is_slot at unseen. absurd (omega (arith, unseen.from, unseen.below)))

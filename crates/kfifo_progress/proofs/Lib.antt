@@ -8,5 +8,6 @@ pub mod Rounds
 pub mod Spending
 pub mod Changing
 pub mod Live
+pub mod LiveStretches
 pub mod Schedule
 pub mod Answers

@@ -1,6 +1,7 @@
--- A stretch in which no call ends, with what was spent in it, goes on with each step, each begin of a call and each tick.
-use Rattle.std.proofs.Common.{◌≡◌, ℕ, ◌+◌, ◌*◌, ◌<◌, ◌≤◌, Bool, true, false, inl, inr, refl, sym, ◌∙◌, ap, arith, Option}
-use Rattle.std.proofs.Common.{Some, None}
+-- A stretch in which no call ends, with what was spent in it, goes on with each step, each begin of a call and each
+-- tick.
+use Rattle.std.proofs.Common.{◌≡◌, ℕ, ◌+◌, ◌*◌, ◌<◌, ◌≤◌, Bool, true, false, inl, inr, refl, sym, ◌∙◌, ap, arith}
+use Rattle.std.proofs.Common.{Option, Some, None}
 use Rattle.std.proofs.lemmas.Bool.{cases_eq, false≢true}
 use Rattle.std.proofs.lemmas.Bool.Decides.{nat_tests}
 use Rattle.std.proofs.lemmas.Option.{none-some, same_Some}
@@ -21,7 +22,8 @@ use Rattle.kfifo_progress.proofs.Charges.{HasKept, HasKept-others}
 use Rattle.kfifo_progress.proofs.Cost.{AreEnough, Prices, cost, cost_at}
 use Rattle.kfifo_progress.proofs.Counting.{fewer_old, old_threads, total_rises}
 use Rattle.kfifo_progress.proofs.Kept.{Every, Kept, charge_after, goes, goes_quiet, quiet}
-use Rattle.kfifo_progress.proofs.Changing.{changes_at, changes_made, has_passed, last_undo_two, no_last_undo, to_change, top}
+use Rattle.kfifo_progress.proofs.Changing.{changes_at, changes_made, has_passed, last_undo_two, no_last_undo, to_change}
+use Rattle.kfifo_progress.proofs.Changing.{top}
 use Rattle.kfifo_progress.proofs.Rounds.{disturbed, rounds_left}
 use Rattle.kfifo_progress.proofs.Spending.{move_price, others_disturbed, own_rounds, purse}
 use Rattle.kfifo_progress.proofs.Spending.{spends, won_by}
@@ -29,7 +31,8 @@ use Rattle.kfifo_progress.proofs.Stretches.{Stretch, stretch_ends, stretch_step}
 use Rattle.kfifo_progress.specs.Progress.{HasTurns}
 use Rattle.kfifo_progress.proofs.Undos.{Undos, undos_begin, undos_step, undos_outside}
 
--- the stretch: the visit in which the tail was at its begin, the sum of the visits of both ends, and what the threads had.
+-- the stretch: the visit in which the tail was at its begin, the sum of the visits of both ends, and what the threads
+-- had.
 -- A thread that is not old makes a call that began with at least so many turns, and lost at most so many rounds before
 pub record Begun : Type 0 where
   pub tail : ℕ
@@ -41,8 +44,8 @@ pub record Begun : Type 0 where
   pub turns : ℕ
   pub lost : ℕ
 
-pub record Live (shape : Shape) (threads : ℕ) (x : Prices) (b : Begun) (old : ℕ → Bool) (w : ℕ → ℕ) (p : ℕ → Option Running) (l : Ledger) (spent : ℕ)
-    : Type 0 where
+pub record Live (shape : Shape) (threads : ℕ) (x : Prices) (b : Begun) (old : ℕ → Bool) (w : ℕ → ℕ)
+    (p : ℕ → Option Running) (l : Ledger) (spent : ℕ) : Type 0 where
   pub undos : Undos shape w p l
   pub names : threads ≤ b.names
   pub charge : ℕ → Option ℕ
@@ -51,19 +54,23 @@ pub record Live (shape : Shape) (threads : ℕ) (x : Prices) (b : Begun) (old : 
       ≤ b.purse + move_price x threads * (l.head + l.tail)
   pub changed : ℕ
   pub reached : b.tail ≤ l.tail
-  pub changes : changed + to_change b.tail l p threads + b.spare * old_threads old threads + b.ends + threads * 2 * b.tail
-      ≤ b.to_change + (l.head + l.tail) + threads * 2 * top b.tail l
+  pub changes : changed + to_change b.tail l p threads + b.spare * old_threads old threads + b.ends + threads * 2 *
+      b.tail ≤ b.to_change + (l.head + l.tail) + threads * 2 * top b.tail l
   pub young : (t : ℕ) (r : Running) → p t ≡ Some r → old t ≡ false
       → b.turns + disturbed w r ≤ rounds_left r + b.lost + 1 + changed
 
 -- a tick changes no word but the clock
-ticked_word : (shape : Shape) (w : ℕ → ℕ) (x i : ℕ) → i < clock_at shape.k shape.n → noted w (clock_at shape.k shape.n) x i ≡ w i
+ticked_word : (shape : Shape) (w : ℕ → ℕ) (x i : ℕ) → i < clock_at shape.k shape.n
+    → noted w (clock_at shape.k shape.n) x i ≡ w i
 ticked_word shape w x i h = noted-other w (clock_at shape.k shape.n) i x (λ z. omega (arith, h, z))
 
 kept_same : (shape : Shape) (w w' : ℕ → ℕ) (charge : ℕ → Option ℕ) (Slots : ℕ → Type 0) (v : ℕ)
     → ((i : ℕ) → IsSlotIndex shape i → w' i ≡ w i) → Kept shape w charge Slots v → Kept shape w' charge Slots v
 kept_same shape w w' charge Slots v same k =
-    record { charged = λ all. k.charged (λ i is_slot at in_slots. ap value_of (sym (same i is_slot)) ∙ all i is_slot at in_slots) }
+    record {
+      charged =
+          λ all. k.charged (λ i is_slot at in_slots. ap value_of (sym (same i is_slot)) ∙ all i is_slot at in_slots);
+    }
 
 cost_same : (shape : Shape) (x : Prices) (w w' : ℕ → ℕ) (q : Running) → Sane shape q → w' 0 ≡ w 0
     → ((i : ℕ) → 0 < i → i < 1 + shape.n * shape.k → w' i ≡ w i) → cost shape x w' q ≡ cost shape x w q
@@ -84,16 +91,19 @@ begun_round w b r g = grind arith
 begun_changes_one : (passed : Bool) (b : Begin) (r : Running) → begun b ≡ Some r → changes_at passed (Some r) ≡ 1
 begun_changes_one passed b r g = grind arith
 
-begun_kept : (shape : Shape) (from : ℕ) (w : ℕ → ℕ) (l : Ledger) (charge : ℕ → Option ℕ) (b : Begin) (r : Running) → begun b ≡ Some r
+begun_kept : (shape : Shape) (from : ℕ) (w : ℕ → ℕ) (l : Ledger) (charge : ℕ → Option ℕ) (b : Begin) (r : Running)
+    → begun b ≡ Some r
     → HasKept shape from w l charge r
 begun_kept shape from w l charge b r g = grind arith
 
-module _ (shape : Shape) (again : shape.holds_again ≡ true) (threads : ℕ) (x : Prices) (enough : AreEnough shape threads x) (b : Begun) (old : ℕ → Bool)
+module _ (shape : Shape) (again : shape.holds_again ≡ true) (threads : ℕ) (x : Prices)
+    (enough : AreEnough shape threads x) (b : Begun) (old : ℕ → Bool)
     (w : ℕ → ℕ) (p : ℕ → Option Running) (l : Ledger) (spent : ℕ) (h : Live shape threads x b old w p l spent) where
   -- a step after which the call goes on
   pub live_step : (t : ℕ) (r : Running) → p t ≡ Some r → t < threads → IsPlace shape r
       → goes (advance shape r (found_in shape w r)) ≡ true
-      → Live shape threads x b old (words_by (access shape r) w) (noted p t (place_after (advance shape r (found_in shape w r))))
+      → Live shape threads x b old (words_by (access shape r) w)
+      (noted p t (place_after (advance shape r (found_in shape w r))))
       (stepped shape w t r l) (spent + 1)
   live_step t r e in_range place calm =
       let calm_too = goes_quiet (advance shape r (found_in shape w r)) calm in
@@ -101,13 +111,16 @@ module _ (shape : Shape) (again : shape.holds_again ≡ true) (threads : ℕ) (x
         names = h.names;
         undos = undos_step shape again w p l t r h.undos e;
         charge = charge_after shape w l t r h.charge;
-        stretch = stretch_step shape threads b.tail w p l t r h.charge h.undos e in_range b.names old h.stretch calm h.names;
+        stretch = stretch_step shape threads b.tail w p l t r h.charge h.undos e in_range b.names old h.stretch calm
+            h.names;
         account =
-            let k = spends shape threads x enough w p l t r e in_range (h.undos.inv.base.sane t r e) place h.undos.inv.base.ends calm_too in
+            let k = spends shape threads x enough w p l t r e in_range (h.undos.inv.base.sane t r e) place
+            h.undos.inv.base.ends calm_too in
             omega (arith, k, h.account);
         changed = h.changed + won_by shape w r;
         changes =
-            let k = changes_made shape threads b.tail w p l t r e in_range (h.undos.inv.base.sane t r e) place h.undos.inv.base.ends calm_too
+            let k = changes_made shape threads b.tail w p l t r e in_range (h.undos.inv.base.sane t r e) place
+            h.undos.inv.base.ends calm_too
             (h.undos.passed t r e) h.reached in
             omega (arith, k, h.changes, no_last_undo shape w r calm);
         reached =
@@ -118,10 +131,12 @@ module _ (shape : Shape) (again : shape.holds_again ≡ true) (threads : ℕ) (x
               let k = goes_at (λ q. rounds_left r + disturbed (words_by (access shape r) w) q
               ≤ rounds_left q + won_by shape w r + disturbed w r) (advance shape r (found_in shape w r)) q
               (sym (noted-same p t u (place_after (advance shape r (found_in shape w r))) same) ∙ f)
-              (own_rounds shape threads x enough w p l t r e in_range (h.undos.inv.base.sane t r e) place h.undos.inv.base.ends calm_too) in
+              (own_rounds shape threads x enough w p l t r e in_range (h.undos.inv.base.sane t r e) place
+              h.undos.inv.base.ends calm_too) in
               omega (arith, k, h.young t r e (ap old (sym same) ∙ new))
           | inr ne ↦
-              let g : p u ≡ Some q = sym (noted-other p t u (place_after (advance shape r (found_in shape w r))) ne) ∙ f in
+              let g : p u ≡ Some q = sym (noted-other p t u (place_after (advance shape r (found_in shape w r))) ne)
+              ∙ f in
               let k = others_disturbed shape threads x enough w p l t r e in_range (h.undos.inv.base.sane t r e) place
               h.undos.inv.base.ends calm_too q in
               omega (arith, k, h.young u q g new)
@@ -141,17 +156,20 @@ module _ (shape : Shape) (again : shape.holds_again ≡ true) (threads : ℕ) (x
         names = h.names;
         undos = undos_step shape again w p l t r h.undos e;
         charge = charge_after shape w l (threads + t) r h.charge;
-        stretch = stretch_ends shape threads b.tail w p l t r h.charge h.undos e in_range b.names old h.stretch calm gone was_old names
-            range;
+        stretch = stretch_ends shape threads b.tail w p l t r h.charge h.undos e in_range b.names old h.stretch calm
+            gone was_old names range;
         account =
-            let k = spends shape threads x enough w p l t r e in_range (h.undos.inv.base.sane t r e) place h.undos.inv.base.ends calm in
+            let k = spends shape threads x enough w p l t r e in_range (h.undos.inv.base.sane t r e) place
+            h.undos.inv.base.ends calm in
             omega (arith, k, h.account);
         changed = h.changed + won_by shape w r;
         changes =
-            let k = changes_made shape threads b.tail w p l t r e in_range (h.undos.inv.base.sane t r e) place h.undos.inv.base.ends calm
+            let k = changes_made shape threads b.tail w p l t r e in_range (h.undos.inv.base.sane t r e) place
+            h.undos.inv.base.ends calm
             (h.undos.passed t r e) h.reached in
             let fewer = fewer_old old threads t in_range was_old in
-            let s1 : b.spare * old_threads old threads ≡ 2 * old_threads old threads = ap (λ z. z * old_threads old threads) spare in
+            let s1 : b.spare * old_threads old threads ≡ 2 * old_threads old threads =
+            ap (λ z. z * old_threads old threads) spare in
             let s2 : b.spare * old_threads (noted old t false) threads ≡ 2 * old_threads (noted old t false) threads =
             ap (λ z. z * old_threads (noted old t false) threads) spare in
             omega (arith, k, h.changes, fewer, s1, s2, last_undo_two w r);
@@ -159,10 +177,13 @@ module _ (shape : Shape) (again : shape.holds_again ≡ true) (threads : ℕ) (x
             let change = ends_change shape w l t r (h.undos.inv.base.sane t r e) h.undos.inv.base.ends in
             omega (arith, h.reached, change.tail_rise);
         young = λ u q f new. elim (cases_eq u t) [
-          | inl same ↦ absurd (none-some q (sym gone ∙ sym (noted-same p t u (place_after (advance shape r (found_in shape w r))) same)
+          | inl same ↦
+              absurd (none-some q
+              (sym gone ∙ sym (noted-same p t u (place_after (advance shape r (found_in shape w r))) same)
               ∙ f))
           | inr ne ↦
-              let g : p u ≡ Some q = sym (noted-other p t u (place_after (advance shape r (found_in shape w r))) ne) ∙ f in
+              let g : p u ≡ Some q = sym (noted-other p t u (place_after (advance shape r (found_in shape w r))) ne)
+              ∙ f in
               let k = others_disturbed shape threads x enough w p l t r e in_range (h.undos.inv.base.sane t r e) place
               h.undos.inv.base.ends calm q in
               omega (arith, k, h.young u q g (sym (noted-other old t u false ne) ∙ new))
@@ -189,7 +210,8 @@ module _ (shape : Shape) (again : shape.holds_again ≡ true) (threads : ℕ) (x
     | inr ne ↦ rw (noted-other p t u (Some r) ne) (omega arith)
   ]
 
-  pub live_begin : (t : ℕ) (begin : Begin) (r : Running) → p t ≡ None → may_begin shape begin ≡ true → begun begin ≡ Some r
+  pub live_begin : (t : ℕ) (begin : Begin) (r : Running) → p t ≡ None → may_begin shape begin ≡ true
+      → begun begin ≡ Some r
       → HasTurns b.turns (Some begin) → Live shape threads x b old w (noted p t (Some r)) (called t begin l) spent
   unfolding called
   live_begin t begin r idle may g turns =
@@ -205,7 +227,8 @@ module _ (shape : Shape) (again : shape.holds_again ≡ true) (threads : ℕ) (x
                 (begun_kept shape b.tail w (called t begin l) h.charge begin r g)
             | inr ne ↦
                 let k : p u ≡ Some q = sym (noted-other p t u (Some r) ne) ∙ f in
-                HasKept-others shape b.tail w w l (called t begin l) h.charge h.charge u q (λ ends ld z. (z, refl, refl))
+                HasKept-others shape b.tail w w l (called t begin l) h.charge h.charge u q
+                (λ ends ld z. (z, refl, refl))
                 (λ Slots v a c kept. kept) (λ v c. c) h.undos.inv.base.ends.ordered (h.undos.inv.threads u q k).loaded
                 (h.stretch.looks u q k)
           ];
@@ -247,13 +270,15 @@ module _ (shape : Shape) (again : shape.holds_again ≡ true) (threads : ℕ) (x
         undos = undos_outside shape again w _ p l (tick_outside shape w _) h.undos;
         charge = h.charge;
         stretch = record {
-          kept = λ v f a c. kept_same shape w (noted w (clock_at shape.k shape.n) (w (clock_at shape.k shape.n) + 1)) h.charge Every v
-              (λ i is_slot. z i is_slot.below) (h.stretch.kept v f a c);
+          kept = λ v f a c. kept_same shape w (noted w (clock_at shape.k shape.n) (w (clock_at shape.k shape.n) + 1))
+              h.charge Every v (λ i is_slot. z i is_slot.below) (h.stretch.kept v f a c);
           charged = h.stretch.charged;
           looks = λ u q f.
               HasKept-others shape b.tail w (noted w (clock_at shape.k shape.n) (w (clock_at shape.k shape.n) + 1)) l
-              (record l { now = l.now + 1 }) h.charge h.charge u q (λ ends ld e. (sym (z 0 (omega arith)) ∙ e, refl, refl))
-              (λ Slots v a c kept. kept_same shape w (noted w (clock_at shape.k shape.n) (w (clock_at shape.k shape.n) + 1)) h.charge
+              (record l { now = l.now + 1 }) h.charge h.charge u q
+              (λ ends ld e. (sym (z 0 (omega arith)) ∙ e, refl, refl))
+              (λ Slots v a c kept. kept_same shape w
+              (noted w (clock_at shape.k shape.n) (w (clock_at shape.k shape.n) + 1)) h.charge
               Slots v (λ i is_slot. z i is_slot.below) kept)
               (λ v c. c) h.undos.inv.base.ends.ordered (h.undos.inv.threads u q f).loaded (h.stretch.looks u q f);
           to_tail = h.stretch.to_tail;
@@ -264,7 +289,8 @@ module _ (shape : Shape) (again : shape.holds_again ≡ true) (threads : ℕ) (x
         };
         account =
             let k = total_rises (λ u. cost_at shape x w (p u))
-            (λ u. cost_at shape x (noted w (clock_at shape.k shape.n) (w (clock_at shape.k shape.n) + 1)) (p u)) threads 0
+            (λ u. cost_at shape x (noted w (clock_at shape.k shape.n) (w (clock_at shape.k shape.n) + 1)) (p u))
+            threads 0
             (λ u _. tick_cost u (p u) refl) in
             omega (arith, k, h.account);
         changed = h.changed;
@@ -278,7 +304,8 @@ module _ (shape : Shape) (again : shape.holds_again ≡ true) (threads : ℕ) (x
       }
     where
       tick_cost : (u : ℕ) (o : Option Running) → p u ≡ o
-          → cost_at shape x (noted w (clock_at shape.k shape.n) (w (clock_at shape.k shape.n) + 1)) o ≤ cost_at shape x w o + 0
+          → cost_at shape x (noted w (clock_at shape.k shape.n) (w (clock_at shape.k shape.n) + 1)) o ≤ cost_at shape x
+          w o + 0
       tick_cost u None is = omega arith
       tick_cost u (Some q) is =
           let y = ticked_word shape w (w (clock_at shape.k shape.n) + 1) in

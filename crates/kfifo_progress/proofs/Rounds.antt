@@ -66,12 +66,15 @@ module _ (shape : Shape) (w w' : ℕ → ℕ) where
   -- one's own step that changes no word
   pub rounds_own : (r : Running) → IsPlace shape r → wins w (access shape r) ≡ false
       → quiet (advance shape r (found_in shape w r)) ≡ true
-      → IfGoes (λ q. rounds_left r + disturbed w q ≤ rounds_left q + disturbed w r) (advance shape r (found_in shape w r))
+      → IfGoes (λ q. rounds_left r + disturbed w q ≤ rounds_left q + disturbed w r)
+      (advance shape r (found_in shape w r))
   rounds_own (R.Enqueue item start left phase) place none calm = grind (arith, nat_tests)
   rounds_own (R.Dequeue start left phase) place none calm = grind (arith, nat_tests)
 
   -- one that changes a word
-  pub rounds_change : (r : Running) → IsPlace shape r → wins w (access shape r) ≡ true → quiet (advance shape r (found_in shape w r)) ≡ true
-      → IfGoes (λ q. rounds_left r + disturbed w' q ≤ rounds_left q + 1 + disturbed w r) (advance shape r (found_in shape w r))
+  pub rounds_change : (r : Running) → IsPlace shape r → wins w (access shape r) ≡ true
+      → quiet (advance shape r (found_in shape w r)) ≡ true
+      → IfGoes (λ q. rounds_left r + disturbed w' q ≤ rounds_left q + 1 + disturbed w r)
+      (advance shape r (found_in shape w r))
   rounds_change (R.Enqueue item start left phase) place won calm = grind (arith, nat_tests)
   rounds_change (R.Dequeue start left phase) place won calm = grind (arith, nat_tests)

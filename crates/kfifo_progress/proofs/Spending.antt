@@ -1,5 +1,6 @@
 -- What all threads together may still spend: each step of a call spends some of it, and each move of an end adds to it.
-use Rattle.std.proofs.Common.{◌≡◌, ◌≢◌, ℕ, ◌+◌, ◌*◌, ◌<◌, ◌≤◌, true, false, inl, inr, refl, ap, arith, Option, Some, None}
+use Rattle.std.proofs.Common.{◌≡◌, ◌≢◌, ℕ, ◌+◌, ◌*◌, ◌<◌, ◌≤◌, true, false, inl, inr, refl, ap, arith, Option, Some}
+use Rattle.std.proofs.Common.{None}
 use Rattle.std.specs.Prelude.{if◌then◌else◌}
 use Rattle.std.proofs.lemmas.Bool.{cases_Bool, cases_eq}
 use Rattle.kfifo_linear.proofs.Types.{Next, Running, Shape}
@@ -12,8 +13,8 @@ use Rattle.kfifo_machine.proofs.NoWrap.{EndsOk}
 use Rattle.kfifo_machine.specs.Machine.{place_after}
 use Rattle.kfifo_machine.specs.Places.{IsPlace}
 use Rattle.kfifo_machine.specs.Program.{access, accessed, advance}
-use Rattle.kfifo_progress.proofs.Cost.{AreEnough, Prices, cost_at, ends_move, ends_same, falls_own, moves_own, others_rise}
-use Rattle.kfifo_progress.proofs.Cost.{others_rise_little, slot_own, wins, words_same}
+use Rattle.kfifo_progress.proofs.Cost.{AreEnough, Prices, cost_at, ends_move, ends_same, falls_own, moves_own}
+use Rattle.kfifo_progress.proofs.Cost.{others_rise, others_rise_little, slot_own, wins, words_same}
 use Rattle.kfifo_progress.proofs.Counting.{total, total_falls, total_rises}
 use Rattle.kfifo_progress.proofs.Kept.{quiet}
 use Rattle.kfifo_progress.proofs.Rounds.{disturbed, disturbed_rises, rounds_change, rounds_left, rounds_own}
@@ -54,7 +55,8 @@ pub if_goes : (P Q : Running → Type 0) → ((q : Running) → P q → Q q) →
 if_goes P Q on (Goes q) h = on q h
 if_goes P Q on (Answers answer) h = tt
 
-module _ (shape : Shape) (threads : ℕ) (x : Prices) (enough : AreEnough shape threads x) (w : ℕ → ℕ) (p : ℕ → Option Running) (l : Ledger)
+module _ (shape : Shape) (threads : ℕ) (x : Prices) (enough : AreEnough shape threads x) (w : ℕ → ℕ)
+    (p : ℕ → Option Running) (l : Ledger)
     (t : ℕ) (r : Running) (e : p t ≡ Some r) (in_range : t < threads) (s : Sane shape r) (place : IsPlace shape r)
     (ok : EndsOk shape (w 0) l.head l.tail) (calm : quiet (advance shape r (found_in shape w r)) ≡ true) where
   next : Option Running
@@ -65,43 +67,53 @@ module _ (shape : Shape) (threads : ℕ) (x : Prices) (enough : AreEnough shape 
 
   -- the costs, by what changes
   none_changed : wins w (access shape r) ≡ false
-      → purse shape x (words_by (access shape r) w) (noted p t (place_after (advance shape r (found_in shape w r)))) threads + 1
+      → purse shape x (words_by (access shape r) w) (noted p t (place_after (advance shape r (found_in shape w r))))
+      threads + 1
       ≤ purse shape x w p threads
   none_changed none =
       let o = falls_own shape threads x w r enough place none calm in
-      let k = sum_falls (λ _. cost_at shape x w) (λ _. cost_at shape x w) p t threads (place_after (advance shape r (found_in shape w r))) 0
+      let k = sum_falls (λ _. cost_at shape x w) (λ _. cost_at shape x w) p t threads
+      (place_after (advance shape r (found_in shape w r))) 0
       (λ u o _. omega arith) 0 1
       in_range (rw e (omega (arith, o))) in
       rw (words_same w (access shape r) none) (omega (arith, k))
 
   slot_changed : wins w (access shape r) ≡ true → accessed (access shape r) ≢ 0
-      → purse shape x (words_by (access shape r) w) (noted p t (place_after (advance shape r (found_in shape w r)))) threads + 1
+      → purse shape x (words_by (access shape r) w) (noted p t (place_after (advance shape r (found_in shape w r))))
+      threads + 1
       ≤ purse shape x w p threads
   slot_changed won slot =
       let same = ends_same w (access shape r) slot in
       let o = slot_own shape threads x w (words_by (access shape r) w) r enough place won slot calm same in
-      let k = sum_falls (λ _. cost_at shape x w) (λ _. cost_at shape x (words_by (access shape r) w)) p t threads (place_after (advance shape r (found_in shape w r)))
-      x.round (λ u o _. others_little (words_by (access shape r) w) same o) 0 (1 + x.put) in_range (rw e (omega (arith, o))) in
+      let k = sum_falls (λ _. cost_at shape x w) (λ _. cost_at shape x (words_by (access shape r) w)) p t threads
+      (place_after (advance shape r (found_in shape w r)))
+      x.round (λ u o _. others_little (words_by (access shape r) w) same o) 0 (1 + x.put) in_range
+      (rw e (omega (arith, o))) in
       omega (arith, k, enough.put)
     where
-      others_little : (w' : ℕ → ℕ) → w' 0 ≡ w 0 → (o : Option Running) → cost_at shape x w' o ≤ cost_at shape x w o + x.round
+      others_little : (w' : ℕ → ℕ) → w' 0 ≡ w 0 → (o : Option Running)
+          → cost_at shape x w' o ≤ cost_at shape x w o + x.round
       others_little w' same None = omega arith
       others_little w' same (Some q) = others_rise_little shape threads x w w' q enough same
 
-  ends_changed : purse shape x (words_by (access shape r) w) (noted p t (place_after (advance shape r (found_in shape w r)))) threads + 1
+  ends_changed : purse shape x (words_by (access shape r) w)
+      (noted p t (place_after (advance shape r (found_in shape w r)))) threads + 1
       ≤ purse shape x w p threads + move_price x threads
   ends_changed =
       let o = moves_own shape threads x w (words_by (access shape r) w) r enough place calm in
-      let k = sum_rises (λ _. cost_at shape x w) (λ _. cost_at shape x (words_by (access shape r) w)) p t threads (place_after (advance shape r (found_in shape w r)))
+      let k = sum_rises (λ _. cost_at shape x w) (λ _. cost_at shape x (words_by (access shape r) w)) p t threads
+      (place_after (advance shape r (found_in shape w r)))
       (x.ends + x.ends + x.round) (λ u o _. others_much (words_by (access shape r) w) o) (rw e o) in
       omega (arith, k)
     where
-      others_much : (w' : ℕ → ℕ) (o : Option Running) → cost_at shape x w' o ≤ cost_at shape x w o + (x.ends + x.ends + x.round)
+      others_much : (w' : ℕ → ℕ) (o : Option Running)
+          → cost_at shape x w' o ≤ cost_at shape x w o + (x.ends + x.ends + x.round)
       others_much w' None = omega arith
       others_much w' (Some q) = others_rise shape threads x w w' q enough
 
   -- each step of a call spends some of what the threads have
-  pub spends : purse shape x (words_by (access shape r) w) (noted p t (place_after (advance shape r (found_in shape w r)))) threads + 1
+  pub spends : purse shape x (words_by (access shape r) w)
+      (noted p t (place_after (advance shape r (found_in shape w r)))) threads + 1
       + move_price x threads * (l.head + l.tail)
       ≤ purse shape x w p threads + move_price x threads * ((stepped shape w t r l).head + (stepped shape w t r l).tail)
   spends =
@@ -113,7 +125,8 @@ module _ (shape : Shape) (threads : ℕ) (x : Prices) (enough : AreEnough shape 
           | inr slot ↦
               let z : words_by (access shape r) w 0 ≡ w 0 = ends_same w (access shape r) slot in
               rw (change.head_kept z, change.tail_kept z) (omega (arith, slot_changed won slot))
-          | inl at ↦ rw (ends_move shape w l t r won at place calm) (add_move _ _ (move_price x threads) (l.head + l.tail) ends_changed)
+          | inl at ↦ rw (ends_move shape w l t r won at place calm)
+              (add_move _ _ (move_price x threads) (l.head + l.tail) ends_changed)
         ]
       ]
     where
@@ -121,17 +134,19 @@ module _ (shape : Shape) (threads : ℕ) (x : Prices) (enough : AreEnough shape 
       add_move a b c m h = omega arith
 
   -- and a thread loses a round only to a change of a word
-  pub own_rounds : IfGoes (λ q. rounds_left r + disturbed (words_by (access shape r) w) q ≤ rounds_left q + won_by shape w r + disturbed w r)
-      (advance shape r (found_in shape w r))
+  pub own_rounds : IfGoes (λ q. rounds_left r + disturbed (words_by (access shape r) w) q ≤ rounds_left q + won_by shape
+      w r + disturbed w r) (advance shape r (found_in shape w r))
   own_rounds = elim (cases_Bool (wins w (access shape r))) [
     | inr none ↦ if_goes (λ q. rounds_left r + disturbed w q ≤ rounds_left q + disturbed w r)
-        (λ q. rounds_left r + disturbed (words_by (access shape r) w) q ≤ rounds_left q + won_by shape w r + disturbed w r)
+        (λ q. rounds_left r + disturbed (words_by (access shape r) w) q ≤ rounds_left q + won_by shape w r +
+        disturbed w r)
         (λ q k. rw (words_same w (access shape r) none) (omega (arith, k))) (advance shape r (found_in shape w r))
         (rounds_own shape w w r place none calm)
     | inl won ↦
         let y : won_by shape w r ≡ 1 = ap (λ b. if b then 1 else 0) won in
         if_goes (λ q. rounds_left r + disturbed (words_by (access shape r) w) q ≤ rounds_left q + 1 + disturbed w r)
-        (λ q. rounds_left r + disturbed (words_by (access shape r) w) q ≤ rounds_left q + won_by shape w r + disturbed w r)
+        (λ q. rounds_left r + disturbed (words_by (access shape r) w) q ≤ rounds_left q + won_by shape w r +
+        disturbed w r)
         (λ q k. omega (arith, k, y)) (advance shape r (found_in shape w r))
         (rounds_change shape w (words_by (access shape r) w) r place won calm)
   ]

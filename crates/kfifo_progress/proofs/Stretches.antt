@@ -1,7 +1,7 @@
 -- A stretch in which no call ends: each visit that the tail left in it, and that the head left too, is charged to a
 -- thread, and of n visits that follow each other a thread is charged with one at most.
-use Rattle.std.proofs.Common.{◌≡◌, ◌≢◌, ℕ, ◌+◌, ◌*◌, ◌%◌, ◌<◌, ◌≤◌, ◌⊎◌, inl, inr, Bool, true, false, refl, sym, ◌∙◌, ap, subst, arith}
-use Rattle.std.proofs.Common.{Option, Some, None, is_some}
+use Rattle.std.proofs.Common.{◌≡◌, ◌≢◌, ℕ, ◌+◌, ◌*◌, ◌%◌, ◌<◌, ◌≤◌, ◌⊎◌, inl, inr, Bool, true, false, refl, sym, ◌∙◌}
+use Rattle.std.proofs.Common.{ap, subst, arith, Option, Some, None, is_some}
 use Rattle.std.proofs.lemmas.Bool.{cases_eq, cases_lt, false≢true}
 use Rattle.std.proofs.lemmas.Bool.Decides.{nat_tests}
 use Rattle.std.proofs.lemmas.Option.{none-some, same_Some}
@@ -22,14 +22,16 @@ use Rattle.kfifo_machine.specs.Machine.{place_after}
 use Rattle.kfifo_machine.specs.Places.{IsSlotIndex}
 use Rattle.kfifo_machine.specs.Program.{access, advance}
 use Rattle.kfifo_progress.proofs.Counting.{pigeonhole}
-use Rattle.kfifo_progress.proofs.Kept.{Every, Kept, charge_after, goes, goes_quiet, grows, quiet, keeps, undo_place, undo_visit}
+use Rattle.kfifo_progress.proofs.Kept.{Every, Kept, charge_after, goes, goes_quiet, grows, quiet, keeps, undo_place}
+use Rattle.kfifo_progress.proofs.Kept.{undo_visit}
 use Rattle.kfifo_progress.proofs.Charges.{HasKept, HasKept-others, own_kept}
 use Rattle.kfifo_progress.proofs.Undos.{HasPassed, Undos}
 
--- a stretch that began when the tail was in visit `from`. A thread may have a second name, threads more than its number,
+-- a stretch that began when the tail was in visit `from`. A thread may have a second name, threads more than its
+-- number,
 -- with which it is charged once, when it is no longer old
-pub record Stretch (shape : Shape) (threads names from : ℕ) (old : ℕ → Bool) (w : ℕ → ℕ) (p : ℕ → Option Running) (l : Ledger)
-    (charge : ℕ → Option ℕ) : Type 0 where
+pub record Stretch (shape : Shape) (threads names from : ℕ) (old : ℕ → Bool) (w : ℕ → ℕ) (p : ℕ → Option Running)
+    (l : Ledger) (charge : ℕ → Option ℕ) : Type 0 where
   pub kept : (v : ℕ) → from < v → l.head ≤ v → v < l.tail → Kept shape w charge Every v
   pub charged : (v : ℕ) → from < v → v < l.head → is_some (charge v) ≡ true
   pub looks : (t : ℕ) (r : Running) → p t ≡ Some r → HasKept shape from w l charge r
@@ -54,14 +56,17 @@ record New (shape : Shape) (w : ℕ → ℕ) (l : Ledger) (t : ℕ) (r : Running
   again : (q : Running) → place_after (advance shape r (found_in shape w r)) ≡ Some q → at_load q ≡ true
 
 undo_goes : (shape : Shape) (item start left index filled word : ℕ)
-    → goes (advance shape (R.Enqueue item start left (E.Undo index filled false)) word) ≡ true → (word ≡ filled) × (left ≢ 1)
+    → goes (advance shape (R.Enqueue item start left (E.Undo index filled false)) word) ≡ true → (word ≡ filled)
+    × (left ≢ 1)
 undo_goes shape item start left index filled word calm = grind (arith, nat_tests)
 
 undo_again : (shape : Shape) (item start left index filled word : ℕ) (q : Running)
-    → place_after (advance shape (R.Enqueue item start left (E.Undo index filled false)) word) ≡ Some q → at_load q ≡ true
+    → place_after (advance shape (R.Enqueue item start left (E.Undo index filled false)) word) ≡ Some q
+    → at_load q ≡ true
 undo_again shape item start left index filled word q f = grind (arith, nat_tests)
 
-module _ (shape : Shape) (w : ℕ → ℕ) (l : Ledger) (t : ℕ) (charge : ℕ → Option ℕ) (ok : EndsOk shape (w 0) l.head l.tail) where
+module _ (shape : Shape) (w : ℕ → ℕ) (l : Ledger) (t : ℕ) (charge : ℕ → Option ℕ)
+    (ok : EndsOk shape (w 0) l.head l.tail) where
   undo_charges : (item start left index filled v x : ℕ)
       → goes (advance shape (R.Enqueue item start left (E.Undo index filled false)) (w index)) ≡ true
       → (left ≢ 1 → l.tail_seen t < l.head) → IsSlotIndex shape index → segment_of shape index ≡ l.tail_seen t % shape.n
@@ -101,11 +106,13 @@ module _ (shape : Shape) (w : ℕ → ℕ) (l : Ledger) (t : ℕ) (charge : ℕ 
         | inr ge ↦ ge
       ]
 
-  charge_tells : (r : Running) → Sane shape r → goes (advance shape r (found_in shape w r)) ≡ true → HasPassed l t r → HasOwn shape w l t r
+  charge_tells : (r : Running) → Sane shape r → goes (advance shape r (found_in shape w r)) ≡ true → HasPassed l t r
+      → HasOwn shape w l t r
       → (v x : ℕ) → charge_after shape w l t r charge v ≡ Some x → (charge v ≡ Some x) ⊎ New shape w l t r v x
   charge_tells (R.Enqueue item start left (E.Undo index filled false)) s calm passed own v x e =
       undo_charges item start left index filled v x calm passed s.3.0 own.place e
-  charge_tells (R.Enqueue item start left (E.Undo index filled true)) s calm passed own v x e = absurd (grind (arith, nat_tests))
+  charge_tells (R.Enqueue item start left (E.Undo index filled true)) s calm passed own v x e =
+      absurd (grind (arith, nat_tests))
   charge_tells r s calm passed own v x e = inl e
 
 -- what a step does to head and tail
@@ -129,7 +136,8 @@ MovesTail w (R.Enqueue item start left (E.MoveTail ends)) = w 0 ≡ ends
 MovesTail w (R.Dequeue start left (D.MoveTail ends index filled)) = w 0 ≡ ends
 MovesTail w other = ⊥
 
-moves_tail : (shape : Shape) (w : ℕ → ℕ) (l : Ledger) (t : ℕ) (r : Running) → (stepped shape w t r l).tail ≢ l.tail → MovesTail w r
+moves_tail : (shape : Shape) (w : ℕ → ℕ) (l : Ledger) (t : ℕ) (r : Running) → (stepped shape w t r l).tail ≢ l.tail
+    → MovesTail w r
 unfolding stepped
 moves_tail shape w l t r e = grind (arith, nat_tests)
 
@@ -150,9 +158,11 @@ head_left shape from w l charge (R.Dequeue start left (D.MoveHead ends)) ok s mi
     mine moves f (other_end shape (w 0) l.head l.tail ok (rw moves s.1))
 head_left shape from w l charge r ok s mine moves f = absurd moves
 
-module _ (shape : Shape) (threads from : ℕ) (w : ℕ → ℕ) (p : ℕ → Option Running) (l : Ledger) (t : ℕ) (r : Running) (charge : ℕ → Option ℕ)
+module _ (shape : Shape) (threads from : ℕ) (w : ℕ → ℕ) (p : ℕ → Option Running) (l : Ledger) (t : ℕ) (r : Running)
+    (charge : ℕ → Option ℕ)
     (h : Undos shape w p l) (e : p t ≡ Some r) (in_range : t < threads) (names name : ℕ) (aged : ℕ → Bool)
-    (calm : quiet (advance shape r (found_in shape w r)) ≡ true) (old : Stretch shape threads names from aged w p l charge) where
+    (calm : quiet (advance shape r (found_in shape w r)) ≡ true)
+    (old : Stretch shape threads names from aged w p l charge) where
   s : Sane shape r
   s = h.inv.base.sane t r e
 
@@ -186,7 +196,8 @@ module _ (shape : Shape) (threads from : ℕ) (w : ℕ → ℕ) (p : ℕ → Opt
         ]
       ]
 
-  step_charged : (v : ℕ) → from < v → v < (stepped shape w t r l).head → is_some (charge_after shape w l name r charge v) ≡ true
+  step_charged : (v : ℕ) → from < v → v < (stepped shape w t r l).head
+      → is_some (charge_after shape w l name r charge v) ≡ true
   step_charged v f b =
       elim (cases_lt v l.head) [
         | inl lt ↦ grow v (old.charged v f lt)
@@ -207,19 +218,23 @@ module _ (shape : Shape) (threads from : ℕ) (w : ℕ → ℕ) (p : ℕ → Opt
       (sym z ∙ f, change.head_kept z, change.tail_kept z)
 
   step_looks : ((q : Running) → place_after (advance shape r (found_in shape w r)) ≡ Some q
-      → HasKept shape from (words_by (access shape r) w) (stepped shape w t r l) (charge_after shape w l name r charge) q)
+      → HasKept shape from (words_by (access shape r) w) (stepped shape w t r l)
+      (charge_after shape w l name r charge) q)
       → (u : ℕ) (q : Running) → noted p t (place_after (advance shape r (found_in shape w r))) u ≡ Some q
-      → HasKept shape from (words_by (access shape r) w) (stepped shape w t r l) (charge_after shape w l name r charge) q
+      → HasKept shape from (words_by (access shape r) w) (stepped shape w t r l)
+      (charge_after shape w l name r charge) q
   step_looks mine u q f = elim (cases_eq u t) [
     | inl same ↦ mine q (sym (noted-same p t u (place_after (advance shape r (found_in shape w r))) same) ∙ f)
     | inr ne ↦
         let g : p u ≡ Some q = sym (noted-other p t u (place_after (advance shape r (found_in shape w r))) ne) ∙ f in
-        HasKept-others shape from w (words_by (access shape r) w) l (stepped shape w t r l) charge (charge_after shape w l name r charge) u q
+        HasKept-others shape from w (words_by (access shape r) w) l (stepped shape w t r l) charge
+        (charge_after shape w l name r charge) u q
         (others_same u) keep grow ok.ordered (h.inv.threads u q g).loaded (old.looks u q g)
   ]
 
 -- a step after which the call goes on
-module _ (shape : Shape) (threads from : ℕ) (w : ℕ → ℕ) (p : ℕ → Option Running) (l : Ledger) (t : ℕ) (r : Running) (charge : ℕ → Option ℕ)
+module _ (shape : Shape) (threads from : ℕ) (w : ℕ → ℕ) (p : ℕ → Option Running) (l : Ledger) (t : ℕ) (r : Running)
+    (charge : ℕ → Option ℕ)
     (h : Undos shape w p l) (e : p t ≡ Some r) (in_range : t < threads) (names : ℕ) (aged : ℕ → Bool)
     (old : Stretch shape threads names from aged w p l charge)
     (calm : goes (advance shape r (found_in shape w r)) ≡ true) (enough_names : threads ≤ names) where
@@ -227,7 +242,8 @@ module _ (shape : Shape) (threads from : ℕ) (w : ℕ → ℕ) (p : ℕ → Opt
   is_quiet = goes_quiet (advance shape r (found_in shape w r)) calm
 
   tells : (v x : ℕ) → charge_after shape w l t r charge v ≡ Some x → (charge v ≡ Some x) ⊎ New shape w l t r v x
-  tells v x f = charge_tells shape w l t charge h.inv.base.ends r (h.inv.base.sane t r e) calm (h.passed t r e) (h.inv.threads t r e).own v x f
+  tells v x f = charge_tells shape w l t charge h.inv.base.ends r (h.inv.base.sane t r e) calm (h.passed t r e)
+      (h.inv.threads t r e).own v x f
 
   own_round : (v : ℕ) → charge v ≡ Some t → (b : Bool) → at_load r ≡ b → v ≤ (stepped shape w t r l).tail_seen t
   own_round v c true b = omega (arith, old.to_tail v t c, (seen_after shape w l t r).1 b)
@@ -249,7 +265,8 @@ module _ (shape : Shape) (threads from : ℕ) (w : ℕ → ℕ) (p : ℕ → Opt
         absurd (false≢true (sym loaded ∙ new.again q g))
   ]
 
-  step_apart : (v u x : ℕ) → charge_after shape w l t r charge v ≡ Some x → charge_after shape w l t r charge u ≡ Some x → v < u
+  step_apart : (v u x : ℕ) → charge_after shape w l t r charge v ≡ Some x → charge_after shape w l t r charge u ≡ Some x
+      → v < u
       → v + shape.n ≤ u
   step_apart v u x c d lt = elim (tells v x c) [
     | inl was_v ↦ elim (tells u x d) [
@@ -257,20 +274,23 @@ module _ (shape : Shape) (threads from : ℕ) (w : ℕ → ℕ) (p : ℕ → Opt
       | inr new ↦ omega (arith, new.from_round, old.to_round v t r (was_v ∙ ap Some new.thread) e new.loaded)
     ]
     | inr new ↦ elim (tells u x d) [
-      | inl was_u ↦ absurd (omega (arith, lt, new.from_round, old.to_round u t r (was_u ∙ ap Some new.thread) e new.loaded))
+      | inl was_u ↦
+          absurd (omega (arith, lt, new.from_round, old.to_round u t r (was_u ∙ ap Some new.thread) e new.loaded))
       | inr again ↦ absurd (omega (arith, lt, new.visit, again.visit))
     ]
   ]
 
   pub stretch_step : Stretch shape threads names from aged (words_by (access shape r) w)
-      (noted p t (place_after (advance shape r (found_in shape w r)))) (stepped shape w t r l) (charge_after shape w l t r charge)
+      (noted p t (place_after (advance shape r (found_in shape w r)))) (stepped shape w t r l)
+      (charge_after shape w l t r charge)
   stretch_step =
       let change = ends_change shape w l t r (h.inv.base.sane t r e) h.inv.base.ends in
       record {
         kept = step_kept shape threads from w p l t r charge h e in_range names t aged is_quiet old;
         charged = step_charged shape threads from w p l t r charge h e in_range names t aged is_quiet old;
         looks = step_looks shape threads from w p l t r charge h e in_range names t aged is_quiet old
-            (λ q f. goes_at (HasKept shape from (words_by (access shape r) w) (stepped shape w t r l) (charge_after shape w l t r charge))
+            (λ q f. goes_at (HasKept shape from (words_by (access shape r) w) (stepped shape w t r l)
+            (charge_after shape w l t r charge))
             (advance shape r (found_in shape w r)) q f
             (own_kept shape from w l t charge h.inv.base.ends old.kept r (h.inv.base.sane t r e) (old.looks t r e)));
         to_tail = λ v x c. elim (tells v x c) [
@@ -304,7 +324,11 @@ last_tells shape w l name charge (R.Enqueue item start left (E.Undo index filled
         | inl above ↦ inl (sym (past_tail above) ∙ e)
         | inr below ↦ elim (cases_eq (w index) filled) [
           | inr lost ↦ inl (sym (was_lost lost) ∙ e)
-          | inl won ↦ inr (record { named = sym (same_Some name x (sym (is_charged won at below) ∙ e)); to_tail = below; visit = at })
+          | inl won ↦ inr (record {
+            named = sym (same_Some name x (sym (is_charged won at below) ∙ e));
+            to_tail = below;
+            visit = at;
+          })
         ]
       ]
     ]
@@ -313,10 +337,12 @@ last_tells shape w l name charge (R.Enqueue item start left (E.Undo index filled
         → charge_after shape w l name (R.Enqueue item start left (E.Undo index filled worn)) charge v ≡ charge v
     other_visit ne = grind (arith, nat_tests, noted_tells)
 
-    past_tail : l.tail < v → charge_after shape w l name (R.Enqueue item start left (E.Undo index filled worn)) charge v ≡ charge v
+    past_tail : l.tail < v → charge_after shape w l name (R.Enqueue item start left (E.Undo index filled worn)) charge v
+        ≡ charge v
     past_tail above = grind (arith, nat_tests, noted_tells)
 
-    was_lost : w index ≢ filled → charge_after shape w l name (R.Enqueue item start left (E.Undo index filled worn)) charge v ≡ charge v
+    was_lost : w index ≢ filled → charge_after shape w l name (R.Enqueue item start left (E.Undo index filled worn))
+        charge v ≡ charge v
     was_lost lost = grind (arith, nat_tests, noted_tells)
 
     is_charged : w index ≡ filled → v ≡ undo_visit shape w l index → v ≤ l.tail
@@ -325,11 +351,14 @@ last_tells shape w l name charge (R.Enqueue item start left (E.Undo index filled
 last_tells shape w l name charge r v x e = inl e
 
 -- and that step
-module _ (shape : Shape) (threads from : ℕ) (w : ℕ → ℕ) (p : ℕ → Option Running) (l : Ledger) (t : ℕ) (r : Running) (charge : ℕ → Option ℕ)
+module _ (shape : Shape) (threads from : ℕ) (w : ℕ → ℕ) (p : ℕ → Option Running) (l : Ledger) (t : ℕ) (r : Running)
+    (charge : ℕ → Option ℕ)
     (h : Undos shape w p l) (e : p t ≡ Some r) (in_range : t < threads) (names : ℕ) (aged : ℕ → Bool)
     (old : Stretch shape threads names from aged w p l charge)
-    (calm : quiet (advance shape r (found_in shape w r)) ≡ true) (gone : place_after (advance shape r (found_in shape w r)) ≡ None)
-    (was_old : aged t ≡ true) (two_names : names ≡ 2 * threads) (range : (u : ℕ) (q : Running) → p u ≡ Some q → u < threads) where
+    (calm : quiet (advance shape r (found_in shape w r)) ≡ true)
+    (gone : place_after (advance shape r (found_in shape w r)) ≡ None)
+    (was_old : aged t ≡ true) (two_names : names ≡ 2 * threads) (range : (u : ℕ) (q : Running) → p u ≡ Some q
+    → u < threads) where
   ends_tells : (v x : ℕ) → charge_after shape w l (threads + t) r charge v ≡ Some x
       → (charge v ≡ Some x) ⊎ Last shape w l (threads + t) r v x
   ends_tells v x f = last_tells shape w l (threads + t) charge r v x f
@@ -345,15 +374,19 @@ module _ (shape : Shape) (threads from : ℕ) (w : ℕ → ℕ) (p : ℕ → Opt
       record {
         kept = step_kept shape threads from w p l t r charge h e in_range names (threads + t) aged calm old;
         charged = step_charged shape threads from w p l t r charge h e in_range names (threads + t) aged calm old;
-        looks = step_looks shape threads from w p l t r charge h e in_range names (threads + t) aged calm old (λ q f. absurd (none-some q (sym gone ∙ f)));
+        looks = step_looks shape threads from w p l t r charge h e in_range names (threads + t) aged calm old
+            (λ q f. absurd (none-some q (sym gone ∙ f)));
         to_tail = λ v x c. elim (ends_tells v x c) [
           | inl was ↦ omega (arith, old.to_tail v x was, change.tail_rise)
           | inr new ↦ omega (arith, new.to_tail, change.tail_rise)
         ];
         to_round = λ v x q c f loaded. elim (cases_eq x t) [
-          | inl same ↦ absurd (none-some q (sym gone ∙ sym (noted-same p t x (place_after (advance shape r (found_in shape w r))) same) ∙ f))
+          | inl same ↦
+              absurd (none-some q
+              (sym gone ∙ sym (noted-same p t x (place_after (advance shape r (found_in shape w r))) same) ∙ f))
           | inr ne ↦
-              let g : p x ≡ Some q = sym (noted-other p t x (place_after (advance shape r (found_in shape w r))) ne) ∙ f in
+              let g : p x ≡ Some q = sym (noted-other p t x (place_after (advance shape r (found_in shape w r))) ne)
+              ∙ f in
               elim (ends_tells v x c) [
                 | inl was ↦ omega (arith, old.to_round v x q was g loaded, others_seen shape w l t r x ne)
                 | inr new ↦ absurd (omega (arith, new.named, range x q g))
@@ -392,15 +425,16 @@ charged_is (Some t) h = refl
 charged_is None h = absurd (false≢true h)
 
 -- so the head is soon past the visit in which the tail was
-pub head_bound : (shape : Shape) (threads names from : ℕ) (old : ℕ → Bool) (w : ℕ → ℕ) (p : ℕ → Option Running) (l : Ledger)
-    (charge : ℕ → Option ℕ)
+pub head_bound : (shape : Shape) (threads names from : ℕ) (old : ℕ → Bool) (w : ℕ → ℕ) (p : ℕ → Option Running)
+    (l : Ledger) (charge : ℕ → Option ℕ)
     → names < shape.n → Stretch shape threads names from old w p l charge → l.head ≤ from + names + 1
 head_bound shape threads names from old w p l charge few h = elim (cases_lt (from + names + 1) l.head) [
   | inr ge ↦ ge
   | inl beyond ↦ absurd (pigeonhole names (λ i. charged_thread (charge (from + 1 + i))) (below beyond) (apart beyond))
 ]
   where
-    is : from + names + 1 < l.head → (i : ℕ) → i ≤ names → charge (from + 1 + i) ≡ Some (charged_thread (charge (from + 1 + i)))
+    is : from + names + 1 < l.head → (i : ℕ) → i ≤ names
+        → charge (from + 1 + i) ≡ Some (charged_thread (charge (from + 1 + i)))
     is beyond i b = charged_is (charge (from + 1 + i)) (h.charged (from + 1 + i) (omega arith) (omega arith))
 
     below : from + names + 1 < l.head → (i : ℕ) → i ≤ names → charged_thread (charge (from + 1 + i)) < names

@@ -1,5 +1,6 @@
 -- Progress of every schedule: how many steps calls make until one of them ends.
-use Rattle.std.specs.Prelude.{Bool, nat_lt, if◌then◌else◌, ℕ, ◌≡◌, ◌+◌, ◌*◌, ◌<◌, ◌≤◌, Option, Some, None, Result, Ok, Err, List, [], ◌∷◌, ◌++◌}
+use Rattle.std.specs.Prelude.{Bool, nat_lt, if◌then◌else◌, ℕ, ◌≡◌, ◌+◌, ◌*◌, ◌<◌, ◌≤◌, Option, Some, None, Result, Ok}
+use Rattle.std.specs.Prelude.{Err, List, [], ◌∷◌, ◌++◌}
 use Rattle.kfifo_words.specs.declared.shape.Shape.{Shape}
 use Rattle.kfifo_model.specs.declared.calls.Answer.TheVariants.{Busy}
 use Rattle.kfifo_machine.specs.declared.event.Begin.{Begin}
@@ -71,7 +72,8 @@ abbrev pub round_steps : Shape → ℕ
 round_steps shape = 2 * shape.k + 9
 
 -- The bounds of a stretch in which no call ends: how often head and tail are moved, how many words are changed, and how
--- many steps are made. A thread puts an item into a slot or takes one out three times at most, and twice more after each
+-- many steps are made. A thread puts an item into a slot or takes one out three times at most, and twice more after
+-- each
 -- move of the head past the visit in which the tail was first, of which there are at most `past + 1`
 abbrev pub most_moves : Shape → ℕ → ℕ
 most_moves shape past = 2 * (past + shape.n)
@@ -94,7 +96,8 @@ SomeCallEnds shape threads = (events stretch : List Event) (here there : World)
     → call_steps stretch ≤ (seals_in stretch + 1) * most_steps shape threads threads
 
 -- Turns that no call loses before some call answers, and the steps until then. A call loses at most one round for each
--- word that changes, and one more, until a call ends; and each thread may have one call that ends with Busy, as it began
+-- word that changes, and one more, until a call ends; and each thread may have one call that ends with Busy, as it
+-- began
 -- before. In a ring with more than twice as many segments as threads this Busy costs two more changes of words, in a
 -- smaller one all begins again
 abbrev pub is_wide : Shape → ℕ → Bool

@@ -1,6 +1,7 @@
 -- From calls that passes made in turn to the record of the run.
-use Rattle.std.proofs.Common.{◌≡◌, ◌<◌, ◌≤◌, ◌+◌, ◌⊎◌, ℕ, zero, suc, List, [], ◌∷◌, length, map, get_or, Bool, true, false, refl, sym, ap}
-use Rattle.std.proofs.Common.{◌∙◌, subst, inl, inr, arith, cond, ne_eqb, eq-eqb, All, zero-add, max, length-append, ◌*◌, suc-mul}
+use Rattle.std.proofs.Common.{◌≡◌, ◌<◌, ◌≤◌, ◌+◌, ◌⊎◌, ℕ, zero, suc, List, [], ◌∷◌, length, map, get_or, Bool, true}
+use Rattle.std.proofs.Common.{false, refl, sym, ap, ◌∙◌, subst, inl, inr, arith, cond, ne_eqb, eq-eqb, All, zero-add}
+use Rattle.std.proofs.Common.{max, length-append, ◌*◌, suc-mul}
 use Rattle.std.specs.Prelude.{◌==◌, ◌||◌, IsPermutation, IsSome}
 use Rattle.std.specs.List.{fold, list_any, AllByRecursion}
 use Rattle.std.proofs.lemmas.List.Sorted.{All-permutation, length_permutation}
@@ -17,8 +18,8 @@ use Rattle.kfifo_live.specs.declared.view.Opening.{Opening}
 use Rattle.kfifo_live.specs.Schedule.{stamped_opening}
 use Rattle.kfifo_live.specs.Pass.{IsComplete, IsPassOf, OpenQueue, new_passes}
 use Rattle.kfifo_live.specs.Stamps.{Gathers, Logged, all_logs, calls_by, new_logs, passes_of}
-use Rattle.kfifo_record.specs.Scripts.{AreScripts, EachMakes, IsCall, IsOpenFor, IsRecord, MakesInTurn, MayRun, longest, room_for}
-use Rattle.kfifo_record.specs.Scripts.{script_of}
+use Rattle.kfifo_record.specs.Scripts.{AreScripts, EachMakes, IsCall, IsOpenFor, IsRecord, MakesInTurn, MayRun, longest}
+use Rattle.kfifo_record.specs.Scripts.{room_for, script_of}
 use Rattle.kfifo_live.proofs.NewPasses.{logs_of_new}
 use Rattle.kfifo_record.proofs.Turns.{grown}
 
@@ -54,7 +55,8 @@ each_ran passed q first (script ∷ scripts) (p ∷ ps) made =
     )
 
 -- by their places
-each_makes : (passed : ℕ → ℕ → Type 0) (scripts : List (List Begin)) (olds news : List Logged) → length olds ≡ length scripts
+each_makes : (passed : ℕ → ℕ → Type 0) (scripts : List (List Begin)) (olds news : List Logged)
+    → length olds ≡ length scripts
     → length news ≡ length scripts
     → ((t : ℕ) (d : Logged) → t < length scripts
     → MakesInTurn (passed (get_or olds t d).pass.thread) 1 (get_or scripts t []) (get_or olds t d) (get_or news t d))
@@ -83,35 +85,44 @@ long q first zero = refl
 long q first (suc count) = ap suc (long q (suc first) count)
 
 -- where each pass made the calls of the script of its thread
-pub by_threads : (passed : ℕ → ℕ → Type 0) (shape : Shape) (scripts : List (List Begin)) (q : OpenQueue) (olds news : List Logged) → IsOpenFor shape scripts q olds
+pub by_threads : (passed : ℕ → ℕ → Type 0) (shape : Shape) (scripts : List (List Begin)) (q : OpenQueue)
+    (olds news : List Logged) → IsOpenFor shape scripts q olds
     → length news ≡ length olds
     → ((t : ℕ) (d : Logged) → t < length olds
-    → MakesInTurn (passed (get_or olds t d).pass.thread) 1 (script_of scripts (get_or olds t d).pass.thread) (get_or olds t d)
+    → MakesInTurn (passed (get_or olds t d).pass.thread) 1 (script_of scripts (get_or olds t d).pass.thread)
+    (get_or olds t d)
     (get_or news t d)) → EachMakes passed scripts olds news
 by_threads passed shape scripts q olds news opened count each =
-    let same : length olds ≡ length scripts = ap (λ (ps : List Logged). length ps) opened.passes_are ∙ long q 0 (length scripts) in
+    let same : length olds ≡ length scripts = ap (λ (ps : List Logged). length ps) opened.passes_are
+    ∙ long q 0 (length scripts) in
     each_makes passed scripts olds news same (count ∙ same) (λ t d less.
     let thread : (get_or olds t d).pass.thread ≡ t =
-    ap (λ (ps : List Logged). (get_or ps t d).pass.thread) opened.passes_are ∙ thread_at q 0 (length scripts) t d less ∙ zero-add t in
-    subst (λ (n : ℕ). MakesInTurn (passed (get_or olds t d).pass.thread) 1 (script_of scripts n) (get_or olds t d) (get_or news t d)) thread (each t d (omega (arith, less, same))))
+    ap (λ (ps : List Logged). (get_or ps t d).pass.thread) opened.passes_are ∙ thread_at q 0 (length scripts) t d less
+    ∙ zero-add t in
+    subst (λ (n : ℕ). MakesInTurn (passed (get_or olds t d).pass.thread) 1 (script_of scripts n) (get_or olds t d)
+    (get_or news t d)) thread (each t d (omega (arith, less, same))))
 
 -- ---- a pass may run its script
 
-at_least : (most : ℕ) (scripts : List (List Begin)) → most ≤ fold (λ a (script : List Begin). max a (length script)) most scripts
+at_least : (most : ℕ) (scripts : List (List Begin))
+    → most ≤ fold (λ a (script : List Begin). max a (length script)) most scripts
 at_least most [] = omega arith
 at_least most (script ∷ scripts) = let more = at_least (max most (length script)) scripts in omega (arith, more)
 
 no_longer : (most : ℕ) (scripts : List (List Begin)) (t : ℕ) → t < length scripts
     → length (get_or scripts t []) ≤ fold (λ a (script : List Begin). max a (length script)) most scripts
 no_longer most [] t less = absurd (omega (arith, less))
-no_longer most (script ∷ scripts) zero less = let more = at_least (max most (length script)) scripts in omega (arith, more)
+no_longer most (script ∷ scripts) zero less = let more = at_least (max most (length script)) scripts in
+    omega (arith, more)
 no_longer most (script ∷ scripts) (suc t) less = no_longer (max most (length script)) scripts t (omega (arith, less))
 
-pub may_run : (shape : Shape) (scripts : List (List Begin)) (q : OpenQueue) (ps : List Logged) → IsOpenFor shape scripts q ps
+pub may_run : (shape : Shape) (scripts : List (List Begin)) (q : OpenQueue) (ps : List Logged)
+    → IsOpenFor shape scripts q ps
     → AreScripts shape scripts → longest scripts ≤ 1024
     → (t : ℕ) (d : Logged) → t < length ps → MayRun q scripts (get_or ps t d)
 may_run shape scripts q ps opened calls few t d less =
-    let same : length ps ≡ length scripts = ap (λ (ps : List Logged). length ps) opened.passes_are ∙ long q 0 (length scripts) in
+    let same : length ps ≡ length scripts = ap (λ (ps : List Logged). length ps) opened.passes_are
+    ∙ long q 0 (length scripts) in
     let within : t < length scripts = omega (arith, less, same) in
     let is : get_or ps t d ≡ get_or (new_logs (new_passes q 0 (length scripts))) t d =
     ap (λ (ps : List Logged). get_or ps t d) opened.passes_are in
@@ -125,22 +136,26 @@ may_run shape scripts q ps opened calls few t d less =
           (logs_of_new q 0 (length scripts) t d (omega (arith, within, long q 0 (length scripts))));
       fresh = ap (λ (p : Logged). p.log) is ∙ no_log q 0 (length scripts) t d within;
       has_script = subst (λ (n : ℕ). n < length scripts) (sym thread) within;
-      calls = subst (λ (x : Shape × ℕ). All (IsCall x.0) (script_of scripts x.1)) (λ i. (sym sized i, sym thread i)) (calls t [] within);
+      calls = subst (λ (x : Shape × ℕ). All (IsCall x.0) (script_of scripts x.1)) (λ i. (sym sized i, sym thread i))
+          (calls t [] within);
       room = subst (λ (n : ℕ). length (script_of scripts n) ≤ q.opened.calls) (sym thread) (omega (arith, room, short));
       few = omega (arith, room, few);
     }
   where
-    no_log : (q : OpenQueue) (first count t : ℕ) (d : Logged) → t < count → (get_or (new_logs (new_passes q first count)) t d).log ≡ []
+    no_log : (q : OpenQueue) (first count t : ℕ) (d : Logged) → t < count
+        → (get_or (new_logs (new_passes q first count)) t d).log ≡ []
     no_log q first zero t d less = absurd (omega (arith, less))
     no_log q first (suc count) zero d less = refl
     no_log q first (suc count) (suc t) d less = no_log q (suc first) count t d (omega (arith, less))
 
 -- ---- what the passes then have
 
-ran_by : (passed : ℕ → ℕ → Type 0) (shape : Shape) (scripts : List (List Begin)) (q : OpenQueue) (olds news : List Logged) → IsOpenFor shape scripts q olds
+ran_by : (passed : ℕ → ℕ → Type 0) (shape : Shape) (scripts : List (List Begin)) (q : OpenQueue)
+    (olds news : List Logged) → IsOpenFor shape scripts q olds
     → EachMakes passed scripts olds news → EachRan q 0 scripts news
 ran_by passed shape scripts q olds news opened made =
-    each_ran passed q 0 scripts news (subst (λ (ps : List Logged). EachMakes passed scripts ps news) opened.passes_are made)
+    each_ran passed q 0 scripts news (subst (λ (ps : List Logged). EachMakes passed scripts ps news) opened.passes_are
+    made)
 
 -- ---- the passes
 
@@ -149,11 +164,14 @@ all_of : (q : OpenQueue) (first : ℕ) (scripts : List (List Begin)) (ps : List 
 all_of q first [] [] ran = All-nil (λ p. IsPassOf q p.pass)
 all_of q first [] (p ∷ ps) ran = absurd ran
 all_of q first (script ∷ scripts) [] ran = All-nil (λ p. IsPassOf q p.pass)
-all_of q first (script ∷ scripts) (p ∷ ps) ran = All-cons (λ p. IsPassOf q p.pass) p ps ran.0.of (all_of q (suc first) scripts ps ran.1)
+all_of q first (script ∷ scripts) (p ∷ ps) ran =
+    All-cons (λ p. IsPassOf q p.pass) p ps ran.0.of (all_of q (suc first) scripts ps ran.1)
 
-pub all_of_queue : (passed : ℕ → ℕ → Type 0) (shape : Shape) (scripts : List (List Begin)) (q : OpenQueue) (olds news : List Logged) → IsOpenFor shape scripts q olds
+pub all_of_queue : (passed : ℕ → ℕ → Type 0) (shape : Shape) (scripts : List (List Begin)) (q : OpenQueue)
+    (olds news : List Logged) → IsOpenFor shape scripts q olds
     → EachMakes passed scripts olds news → All (λ p. IsPassOf q p.pass) news
-all_of_queue passed shape scripts q olds news opened made = all_of q 0 scripts news (ran_by passed shape scripts q olds news opened made)
+all_of_queue passed shape scripts q olds news opened made =
+    all_of q 0 scripts news (ran_by passed shape scripts q olds news opened made)
 
 counted : (q : OpenQueue) (first : ℕ) (scripts : List (List Begin)) (ps : List Logged) → EachRan q first scripts ps
     → length (passes_of ps) ≡ length scripts
@@ -166,7 +184,8 @@ any_more : (a b : Bool) → b ≡ true → (a || b) ≡ true
 any_more true b is = refl
 any_more false b is = is
 
-there : (q : OpenQueue) (first : ℕ) (scripts : List (List Begin)) (ps : List Logged) → EachRan q first scripts ps → (i : ℕ)
+there : (q : OpenQueue) (first : ℕ) (scripts : List (List Begin)) (ps : List Logged) → EachRan q first scripts ps
+    → (i : ℕ)
     → i < length scripts → list_any (λ p. p.thread == first + i) (passes_of ps) ≡ true
 there q first [] ps ran i less = absurd (omega (arith, less))
 there q first (script ∷ scripts) [] ran i less = absurd ran
@@ -187,7 +206,8 @@ complete q scripts ps ran = record {
       (there q 0 scripts ps ran thread less);
 }
 
-pub complete_for : (passed : ℕ → ℕ → Type 0) (shape : Shape) (scripts : List (List Begin)) (q : OpenQueue) (olds news : List Logged) → IsOpenFor shape scripts q olds
+pub complete_for : (passed : ℕ → ℕ → Type 0) (shape : Shape) (scripts : List (List Begin)) (q : OpenQueue)
+    (olds news : List Logged) → IsOpenFor shape scripts q olds
     → EachMakes passed scripts olds news → IsComplete q.opened.threads (passes_of news)
 complete_for passed shape scripts q olds news opened made =
     subst (λ (n : ℕ). IsComplete n (passes_of news)) (sym (ap (λ (o : Opening). o.threads) opened.opened))
@@ -202,9 +222,11 @@ below q first [] (p ∷ ps) ran = absurd ran
 below q first (script ∷ scripts) [] ran = absurd ran
 below q first (script ∷ scripts) (p ∷ ps) ran =
     AllByRecursion-append (λ (c : Call). c.thread < first + length (script ∷ scripts)) p.log (all_logs ps)
-    (AllByRecursion-weaker (λ (c : Call). c.thread ≡ first) (λ c. c.thread < first + length (script ∷ scripts)) (λ c is. omega (arith, is))
+    (AllByRecursion-weaker (λ (c : Call). c.thread ≡ first) (λ c. c.thread < first + length (script ∷ scripts))
+    (λ c is. omega (arith, is))
     p.log ran.0.mine)
-    (AllByRecursion-weaker (λ (c : Call). c.thread < suc first + length scripts) (λ c. c.thread < first + length (script ∷ scripts))
+    (AllByRecursion-weaker (λ (c : Call). c.thread < suc first + length scripts)
+    (λ c. c.thread < first + length (script ∷ scripts))
     (λ c less. omega (arith, less)) (all_logs ps) (below q (suc first) scripts ps ran.1))
 
 all_ended : (q : OpenQueue) (first : ℕ) (scripts : List (List Begin)) (ps : List Logged) → EachRan q first scripts ps
@@ -213,7 +235,8 @@ all_ended q first [] [] ran = tt
 all_ended q first [] (p ∷ ps) ran = absurd ran
 all_ended q first (script ∷ scripts) [] ran = absurd ran
 all_ended q first (script ∷ scripts) (p ∷ ps) ran =
-    AllByRecursion-append (λ (c : Call). IsSome c.end) p.log (all_logs ps) ran.0.ended (all_ended q (suc first) scripts ps ran.1)
+    AllByRecursion-append (λ (c : Call). IsSome c.end) p.log (all_logs ps) ran.0.ended
+    (all_ended q (suc first) scripts ps ran.1)
 
 -- so it is of the calls in any other order
 shuffled : (P : Call → Type 0) (xs ys : List Call) → IsPermutation xs ys → AllByRecursion P xs → AllByRecursion P ys
@@ -221,43 +244,51 @@ shuffled P xs ys same each = recursion_from_All P ys (All-permutation P xs ys sa
 
 -- ---- the calls of a thread
 
-calls_of_none : (thread : ℕ) (calls : List Call) → AllByRecursion (λ c. c.thread < thread) calls → calls_by thread calls ≡ []
+calls_of_none : (thread : ℕ) (calls : List Call) → AllByRecursion (λ c. c.thread < thread) calls
+    → calls_by thread calls ≡ []
 calls_of_none thread [] all = refl
 calls_of_none thread (c ∷ calls) all =
     ap (λ b. cond b (c ∷ calls_by thread calls) (calls_by thread calls))
     (ne_eqb c.thread thread (λ same. let less = all.0 in absurd (omega (arith, same, less))))
     ∙ calls_of_none thread calls all.1
 
-ops_of : (q : OpenQueue) (first : ℕ) (scripts : List (List Begin)) (ps : List Logged) (h : List Call) → EachRan q first scripts ps
+ops_of : (q : OpenQueue) (first : ℕ) (scripts : List (List Begin)) (ps : List Logged) (h : List Call)
+    → EachRan q first scripts ps
     → AllByRecursion (λ p. calls_by p.pass.thread h ≡ p.log) ps
-    → (i : ℕ) → i < length scripts → map (λ (c : Call). c.op) (calls_by (first + i) h) ≡ map op_asked (get_or scripts i [])
+    → (i : ℕ) → i < length scripts → map (λ (c : Call). c.op) (calls_by (first + i) h)
+    ≡ map op_asked (get_or scripts i [])
 ops_of q first [] ps h ran logs i less = absurd (omega (arith, less))
 ops_of q first (script ∷ scripts) [] h ran logs i less = absurd ran
 ops_of q first (script ∷ scripts) (p ∷ ps) h ran logs zero less =
     let e : first + zero ≡ first = omega arith in
-    ap (λ t. map (λ (c : Call). c.op) (calls_by t h)) (e ∙ sym ran.0.thread_is) ∙ ap (λ calls. map (λ (c : Call). c.op) calls) logs.0
+    ap (λ t. map (λ (c : Call). c.op) (calls_by t h)) (e ∙ sym ran.0.thread_is)
+    ∙ ap (λ calls. map (λ (c : Call). c.op) calls) logs.0
     ∙ ran.0.ops
 ops_of q first (script ∷ scripts) (p ∷ ps) h ran logs (suc i) less =
     let e : first + suc i ≡ suc first + i = omega arith in
-    ap (λ t. map (λ (c : Call). c.op) (calls_by t h)) e ∙ ops_of q (suc first) scripts ps h ran.1 logs.1 i (omega (arith, less))
+    ap (λ t. map (λ (c : Call). c.op) (calls_by t h)) e
+    ∙ ops_of q (suc first) scripts ps h ran.1 logs.1 i (omega (arith, less))
 
 own_ops : (q : OpenQueue) (scripts : List (List Begin)) (ps : List Logged) (h : List Call) → EachRan q 0 scripts ps
     → AllByRecursion (λ p. calls_by p.pass.thread h ≡ p.log) ps → IsPermutation (all_logs ps) h
     → (thread : ℕ) → (thread < length scripts) ⊎ (length scripts ≤ thread)
     → map (λ (c : Call). c.op) (calls_by thread h) ≡ map op_asked (script_of scripts thread)
 own_ops q scripts ps h ran logs same thread (inl less) =
-    ap (λ t. map (λ (c : Call). c.op) (calls_by t h)) (sym (zero-add thread)) ∙ ops_of q 0 scripts ps h ran logs thread less
+    ap (λ t. map (λ (c : Call). c.op) (calls_by t h)) (sym (zero-add thread))
+    ∙ ops_of q 0 scripts ps h ran logs thread less
 own_ops q scripts ps h ran logs same thread (inr past) =
     ap (λ calls. map (λ (c : Call). c.op) calls)
     (calls_of_none thread h (AllByRecursion-weaker (λ (c : Call). c.thread < length scripts) (λ c. c.thread < thread)
     (λ c less. omega (arith, less, past)) h
     (shuffled (λ c. c.thread < length scripts) (all_logs ps) h same
-    (subst (λ (n : ℕ). AllByRecursion (λ c. c.thread < n) (all_logs ps)) (zero-add (length scripts)) (below q 0 scripts ps ran)))))
+    (subst (λ (n : ℕ). AllByRecursion (λ c. c.thread < n) (all_logs ps)) (zero-add (length scripts))
+    (below q 0 scripts ps ran)))))
     ∙ sym (ap (map op_asked) (get_or_past scripts thread [] past))
 
 -- ---- how many they are
 
-logged : (q : OpenQueue) (first : ℕ) (scripts : List (List Begin)) (ps : List Logged) (most room : ℕ) → EachRan q first scripts ps
+logged : (q : OpenQueue) (first : ℕ) (scripts : List (List Begin)) (ps : List Logged) (most room : ℕ)
+    → EachRan q first scripts ps
     → fold (λ a (script : List Begin). max a (length script)) most scripts ≤ room
     → length (all_logs ps) ≤ length scripts * room
 logged q first [] [] most room ran few = omega arith
@@ -266,18 +297,25 @@ logged q first (script ∷ scripts) [] most room ran few = absurd ran
 logged q first (script ∷ scripts) (p ∷ ps) most room ran few =
     let rest = logged q (suc first) scripts ps (max most (length script)) room ran.1 few in
     let here : length p.log ≡ length script =
-    sym (length-map p.log (λ (c : Call). c.op)) ∙ ap (λ (ops : List Op). length ops) ran.0.ops ∙ length-map script op_asked in
-    let short : length script ≤ room = let more = at_least (max most (length script)) scripts in omega (arith, more, few) in
+    sym (length-map p.log (λ (c : Call). c.op)) ∙ ap (λ (ops : List Op). length ops) ran.0.ops
+    ∙ length-map script op_asked in
+    let short : length script ≤ room = let more = at_least (max most (length script)) scripts in
+    omega (arith, more, few) in
     let all = length-append p.log (all_logs ps) in
     let step : suc (length scripts) * room ≡ length scripts * room + room = suc-mul (length scripts) room in
     omega (arith, rest, here, short, all, step)
 
-pub few_calls : (passed : ℕ → ℕ → Type 0) (shape : Shape) (scripts : List (List Begin)) (q : OpenQueue) (olds ps : List Logged) (h : List Call)
+pub few_calls : (passed : ℕ → ℕ → Type 0) (shape : Shape) (scripts : List (List Begin)) (q : OpenQueue)
+    (olds ps : List Logged) (h : List Call)
     → IsOpenFor shape scripts q olds → EachMakes passed scripts olds ps → Gathers q.opened ps h
-    → ((length scripts ≡ 0) ⊎ (64 < length scripts) → ⊥) → ((0 < length scripts) × (length scripts ≤ 64) × (1024 < longest scripts) → ⊥)
+    → ((length scripts ≡ 0) ⊎ (64 < length scripts) → ⊥)
+    → ((0 < length scripts) × (length scripts ≤ 64) × (1024 < longest scripts) → ⊥)
     → length h ≤ 65536
 few_calls passed shape scripts q olds ps h opened made gathers no_other no_more =
-    let threads : length scripts ≤ 64 = elim (cases_lt 64 (length scripts)) [ inl more ↦ absurd (no_other (inr more)) | inr few ↦ few ] in
+    let threads : length scripts ≤ 64 = elim (cases_lt 64 (length scripts)) [
+      | inl more ↦ absurd (no_other (inr more))
+      | inr few ↦ few
+    ] in
     let some : 0 < length scripts = elim (cases_lt 0 (length scripts))
     [ inl more ↦ more | inr few ↦ absurd (no_other (inl (omega (arith, few)))) ] in
     let calls : longest scripts ≤ 1024 = elim (cases_lt 1024 (longest scripts))
@@ -288,11 +326,14 @@ few_calls passed shape scripts q olds ps h opened made gathers no_other no_more 
     omega (arith, all, same, threads)
 
 -- The record
-pub recorded : (passed : ℕ → ℕ → Type 0) (shape : Shape) (scripts : List (List Begin)) (q : OpenQueue) (fresh ps : List Logged) (h : List Call)
-    → IsOpenFor shape scripts q fresh → EachMakes passed scripts fresh ps → Gathers q.opened ps h → IsRecord passed shape scripts h
+pub recorded : (passed : ℕ → ℕ → Type 0) (shape : Shape) (scripts : List (List Begin)) (q : OpenQueue)
+    (fresh ps : List Logged) (h : List Call)
+    → IsOpenFor shape scripts q fresh → EachMakes passed scripts fresh ps → Gathers q.opened ps h
+    → IsRecord passed shape scripts h
 recorded passed shape scripts q fresh ps h opened made gathers =
     let ran = ran_by passed shape scripts q fresh ps opened made in
-    let g : Gathers (stamped_opening shape (length scripts) (room_for scripts)) ps h = subst (λ o. Gathers o ps h) opened.opened gathers in
+    let g : Gathers (stamped_opening shape (length scripts) (room_for scripts)) ps h =
+    subst (λ o. Gathers o ps h) opened.opened gathers in
     record {
       queue = q;
       fresh = fresh;

@@ -1,6 +1,6 @@
 -- Scripts made several times over stay in range.
-use Rattle.std.proofs.Common.{◌≡◌, ◌<◌, ◌≤◌, ◌+◌, ◌-◌, ◌*◌, ◌^◌, ℕ, zero, suc, List, [], ◌++◌, length, map, get_or, All, Vec, Global, sym}
-use Rattle.std.proofs.Common.{ap, ◌∙◌, subst, arith, add-one}
+use Rattle.std.proofs.Common.{◌≡◌, ◌<◌, ◌≤◌, ◌+◌, ◌-◌, ◌*◌, ◌^◌, ℕ, zero, suc, List, [], ◌++◌, length, map, get_or, All}
+use Rattle.std.proofs.Common.{Vec, Global, sym, ap, ◌∙◌, subst, arith, add-one}
 use Rattle.std.proofs.Math.Nat.{mul-le-mul_right}
 use Rattle.std.proofs.lemmas.List.{get_or-map, get_or_default, length-map}
 use Rattle.std.proofs.lemmas.List.Elements.{All-append, All-map}
@@ -16,29 +16,35 @@ use Rattle.kfifo_record.specs.Repeats.{AllFit, FitsTo, all_repeated, greatest_it
 pub script_at : (scripts : List (Vec Begin Global)) (place : ℕ) (script : Vec Begin Global) → place < length scripts
     → script ≡ get_or scripts place script → script.items ≡ script_of (scripts_in scripts) place
 script_at scripts place script less is =
-    ap (λ (s : Vec Begin Global). s.items) is ∙ sym (get_or-map (λ (s : Vec Begin Global). s.items) scripts place script [] less)
+    ap (λ (s : Vec Begin Global). s.items) is
+    ∙ sym (get_or-map (λ (s : Vec Begin Global). s.items) scripts place script [] less)
 
-pub length_in : (scripts : List (Vec Begin Global)) (place : ℕ) → place < length scripts → place < length (scripts_in scripts)
+pub length_in : (scripts : List (Vec Begin Global)) (place : ℕ) → place < length scripts
+    → place < length (scripts_in scripts)
 length_in scripts place less = omega (arith, less, length-map scripts (λ (s : Vec Begin Global). s.items))
 
 -- ---- one repetition more
 
-pub one_more : (step n : ℕ) (script made more new : List Begin) → made ≡ repeated step n script → more ≡ map (shifted (n * step)) script
+pub one_more : (step n : ℕ) (script made more new : List Begin) → made ≡ repeated step n script
+    → more ≡ map (shifted (n * step)) script
     → new ≡ made ++ more → new ≡ repeated step (n + 1) script
 one_more step n script made more new before here is =
     is ∙ (λ i. before i ++ here i) ∙ ap (λ (m : ℕ). repeated step m script) (sym (add-one n))
 
 -- ---- the calls stay in range
 
-less_shifted : (by most : ℕ) (call : Begin) → by ≤ most → item_of (shifted most call) < 2 ^ 24 → item_of (shifted by call) < 2 ^ 24
+less_shifted : (by most : ℕ) (call : Begin) → by ≤ most → item_of (shifted most call) < 2 ^ 24
+    → item_of (shifted by call) < 2 ^ 24
 less_shifted by most (B.Enqueue item start turns) le less = omega (arith, le, less)
 less_shifted by most (B.Dequeue start turns) le less = less
 less_shifted by most B.Tick le less = less
 less_shifted by most B.Seal le less = less
 
-pub fits_before : (step n count : ℕ) (script : List Begin) → n < count → FitsTo ((count - 1) * step) script → FitsTo (n * step) script
+pub fits_before : (step n count : ℕ) (script : List Begin) → n < count → FitsTo ((count - 1) * step) script
+    → FitsTo (n * step) script
 fits_before step n count script less fits =
-    λ i d lt. less_shifted (n * step) ((count - 1) * step) (get_or script i d) (smaller step n (count - 1) (omega (arith, less)))
+    λ i d lt. less_shifted (n * step) ((count - 1) * step) (get_or script i d)
+    (smaller step n (count - 1) (omega (arith, less)))
     (fits i d lt)
   where
     smaller : (step n m : ℕ) → n ≤ m → n * step ≤ m * step

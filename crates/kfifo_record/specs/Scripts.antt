@@ -45,7 +45,8 @@ room_for scripts = max 1 (longest scripts)
 abbrev pub MakesOne : Begin → Logged → Logged → Type 0
 MakesOne begin old new = IsSamePass old.pass new.pass × ((answer : Answer) × MakesStamped begin answer old new)
 
--- a pass makes the calls of a script in turn, and the gate says of each that it was passed with its number, from this one
+-- a pass makes the calls of a script in turn, and the gate says of each that it was passed with its number, from this
+-- one
 -- on
 abbrev pub MakesInTurn : (ℕ → Type 0) → ℕ → List Begin → Logged → Logged → Type 0
 MakesInTurn Passed number [] old new = new ≡ old

@@ -23,7 +23,8 @@ module _ {T : Type 0} where
   released false answer old new is releases = inr (is, releases)
 
   -- a try by a handle that had left what is gone before it
-  pub reserves-after : (answer : Option ℕ) (old mid new : Generations T) → Follows old mid → TriesToReserve answer mid new
+  pub reserves-after : (answer : Option ℕ) (old mid new : Generations T) → Follows old mid
+      → TriesToReserve answer mid new
       → TriesToReserve answer old new
   reserves-after answer old mid new before (here, follows, inl reserves) = (
     here,

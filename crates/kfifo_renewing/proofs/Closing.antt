@@ -16,7 +16,8 @@ module _ {T : Type 0} where
     closes-more done rest h left each here,
   )
 
-  pub leaves-more : (done : List (HeldIn T)) (before : List (List ℕ)) (h : HeldIn T) (left : List ℕ) → LeavesCells done before
+  pub leaves-more : (done : List (HeldIn T)) (before : List (List ℕ)) (h : HeldIn T) (left : List ℕ)
+      → LeavesCells done before
       → CellsWereLeft h.handle left → LeavesCells (done ++ h ∷ []) (before ++ left ∷ [])
   leaves-more [] before h left none here = (left, [], ap (λ b. b ++ left ∷ []) none, here, refl)
   leaves-more (x ∷ done) before h left (first, rest, e, were, each) here = (

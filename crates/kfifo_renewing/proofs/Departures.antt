@@ -1,5 +1,6 @@
 -- Of some generations those are left that have left their places, and the others are kept.
-use Rattle.std.proofs.Common.{◌≡◌, ◌≤◌, ⊎_elim, ℕ, zero, suc, List, [], ◌∷◌, ◌++◌, All, map, refl, sym, ap, ◌∙◌, subst, arith, inl, inr}
+use Rattle.std.proofs.Common.{◌≡◌, ◌≤◌, ⊎_elim, ℕ, zero, suc, List, [], ◌∷◌, ◌++◌, All, map, refl, sym, ap, ◌∙◌, subst}
+use Rattle.std.proofs.Common.{arith, inl, inr}
 use Rattle.std.proofs.lemmas.List.Elements.{All-cons, All-nil}
 use mathlib.Core.List.{IsPrefix}
 use Rattle.kfifo_live.specs.Pass.{OpenQueue}
@@ -15,12 +16,15 @@ module _ {T : Type 0} where
   leaves-refl log [] = refl
   leaves-refl log (h ∷ hs) = inl (hs, refl, leaves-refl log hs)
 
-  pub leaves-later : (xs ys : List Change) (hs kept : List (HeldIn T)) → IsPrefix xs ys → LeavesGone xs hs kept → LeavesGone ys hs kept
+  pub leaves-later : (xs ys : List Change) (hs kept : List (HeldIn T)) → IsPrefix xs ys → LeavesGone xs hs kept
+      → LeavesGone ys hs kept
   leaves-later xs ys [] kept p none = none
   leaves-later xs ys (h ∷ hs) kept p (inl (rest, is, l)) = inl (rest, is, leaves-later xs ys hs rest p l)
-  leaves-later xs ys (h ∷ hs) kept p (inr (left, free, l)) = inr (left-later xs ys h.number p left, free, leaves-later xs ys hs kept p l)
+  leaves-later xs ys (h ∷ hs) kept p (inr (left, free, l)) =
+      inr (left-later xs ys h.number p left, free, leaves-later xs ys hs kept p l)
 
-  pub leaves-trans : (log : List Change) (a b c : List (HeldIn T)) → LeavesGone log a b → LeavesGone log b c → LeavesGone log a c
+  pub leaves-trans : (log : List Change) (a b c : List (HeldIn T)) → LeavesGone log a b → LeavesGone log b c
+      → LeavesGone log a c
   leaves-trans log [] b c p q = subst (λ l. LeavesGone log l c) p q
   leaves-trans log (h ∷ a) b c (inl (rest, is, p)) q = ⊎_elim
       (λ keeps. inl (keeps.0, keeps.1, leaves-trans log a rest keeps.0 p keeps.2))
@@ -42,20 +46,27 @@ module _ {T : Type 0} where
   pub leaves-append : (log : List Change) (a b x y : List (HeldIn T)) → LeavesGone log a b → LeavesGone log x y
       → LeavesGone log (a ++ x) (b ++ y)
   leaves-append log [] b x y p q = subst (λ l. LeavesGone log x (l ++ y)) (sym p) q
-  leaves-append log (h ∷ a) b x y (inl (rest, is, p)) q = inl (rest ++ y, ap (λ l. l ++ y) is, leaves-append log a rest x y p q)
+  leaves-append log (h ∷ a) b x y (inl (rest, is, p)) q =
+      inl (rest ++ y, ap (λ l. l ++ y) is, leaves-append log a rest x y p q)
   leaves-append log (h ∷ a) b x y (inr (left, free, p)) q = inr (left, free, leaves-append log a b x y p q)
 
-  pub all-kept : (P : HeldIn T → Type 0) (log : List Change) (hs kept : List (HeldIn T)) → LeavesGone log hs kept → All P hs → All P kept
+  pub all-kept : (P : HeldIn T → Type 0) (log : List Change) (hs kept : List (HeldIn T)) → LeavesGone log hs kept
+      → All P hs → All P kept
   all-kept P log [] kept none all = subst (All P) (sym none) (All-nil P)
   all-kept P log (h ∷ hs) kept (inl (rest, is, l)) all =
       let next = all-next P h hs (h ∷ hs) refl all in
       subst (All P) (sym is) (All-cons P h rest next.0 (all-kept P log hs rest l next.1))
-  all-kept P log (h ∷ hs) kept (inr (left, free, l)) all = all-kept P log hs kept l (all-next P h hs (h ∷ hs) refl all).1
+  all-kept P log (h ∷ hs) kept (inr (left, free, l)) all =
+      all-kept P log hs kept l (all-next P h hs (h ∷ hs) refl all).1
 
   -- a new generation is new after an earlier one too, and as more of the history is seen
-  pub new-later : (t n m : ℕ) (xs ys : List Change) (h : HeldIn T) → n ≤ m → IsPrefix xs ys → IsNew t m xs h → IsNew t n ys h
-  new-later t n m xs ys h up p new =
-      (let above = new.0 in omega (arith, up, above), made-later xs ys h.number h.handle.held.pass.pass.table p new.1, new.2)
+  pub new-later : (t n m : ℕ) (xs ys : List Change) (h : HeldIn T) → n ≤ m → IsPrefix xs ys → IsNew t m xs h
+      → IsNew t n ys h
+  new-later t n m xs ys h up p new = (
+    let above = new.0 in omega (arith, up, above),
+    made-later xs ys h.number h.handle.held.pass.pass.table p new.1,
+    new.2,
+  )
 
   -- the handles of an opening are untouched
   unused_from : (q : OpenQueue) (first count : ℕ)

@@ -13,7 +13,8 @@ use Rattle.std.proofs.Common.{◌≢◌, ◌⊎◌, true, false}
 module _ {T : Type 0} where
   -- a give after a look that found no later generation
   pub gave-here : (payload : T) (answer : Given T) (g : Generations T) (found : ℕ) (log : List Change) (h : Pooled T)
-      → Looked found log g → found ≡ 0 → IsSamePass g.newest.held.pass.pass h.held.pass.pass → GivesOne payload answer g.newest h
+      → Looked found log g → found ≡ 0 → IsSamePass g.newest.held.pass.pass h.held.pass.pass
+      → GivesOne payload answer g.newest h
       → TriesToGive payload answer g (with_newest (with_seen g log) h)
   gave-here payload answer g found log h looked none same gives = (
     with_seen g log,
@@ -22,7 +23,8 @@ module _ {T : Type 0} where
   )
 
   -- a try by a handle that had looked before it
-  pub tries-after : (payload : T) (answer : Given T) (old mid new : Generations T) → Follows old mid → TriesToGive payload answer mid new
+  pub tries-after : (payload : T) (answer : Given T) (old mid new : Generations T) → Follows old mid
+      → TriesToGive payload answer mid new
       → TriesToGive payload answer old new
   tries-after payload answer old mid new before (here, follows, inl gives) = (
     here,
@@ -36,7 +38,8 @@ module _ {T : Type 0} where
   )
 
   -- a second try by a handle that had left what is gone before it
-  pub again-after : (payload : T) (answer : Given T) (old mid new : Generations T) → Follows old mid → mid.number ≡ old.number
+  pub again-after : (payload : T) (answer : Given T) (old mid new : Generations T) → Follows old mid
+      → mid.number ≡ old.number
       → TriesAgain payload answer mid new → TriesAgain payload answer old new
   again-after payload answer old mid new before same again = record {
     tried = again.tried;
@@ -47,7 +50,8 @@ module _ {T : Type 0} where
         same again.then;
   }
 
-  pub gives-after : (payload : T) (answer : Given T) (old mid new : Generations T) → Follows old mid → GivesToNewest payload answer mid new
+  pub gives-after : (payload : T) (answer : Given T) (old mid new : Generations T) → Follows old mid
+      → GivesToNewest payload answer mid new
       → GivesToNewest payload answer old new
   gives-after payload answer old mid new before (first, here, tries, goes) =
       (first, here, tries-after payload first old mid here before tries, goes)

@@ -8,12 +8,14 @@ use Rattle.atomic_table.specs.Seated.{TableId}
 use mathlib.Core.List.{IsPrefix}
 use Rattle.kfifo_renewing.specs.declared.change.Change.{Change}
 use Rattle.kfifo_renewing.specs.declared.change.Change.TheVariants as C
-use Rattle.kfifo_renewing.specs.History.{HasLeft, HasRisen, IsGone, IsMade, WasNewest, made, making_of, newest_after, newest_of}
+use Rattle.kfifo_renewing.specs.History.{HasLeft, HasRisen, IsGone, IsMade, WasNewest, made, making_of, newest_after}
+use Rattle.kfifo_renewing.specs.History.{newest_of}
 
 pub prefix-trans : {A : Type 0} (xs ys zs : List A) → IsPrefix xs ys → IsPrefix ys zs → IsPrefix xs zs
 prefix-trans xs ys zs p q = (p.0 ++ q.0, sym (append_assoc xs p.0 q.0) ∙ (ap (λ w. w ++ q.0) p.1 ∙ q.1))
 
-pub get-first : {A : Type 0} (xs ys : List A) (k : ℕ) (x : A) → slice_get xs k ≡ Some x → slice_get (xs ++ ys) k ≡ Some x
+pub get-first : {A : Type 0} (xs ys : List A) (k : ℕ) (x : A) → slice_get xs k ≡ Some x
+    → slice_get (xs ++ ys) k ≡ Some x
 get-first [] ys k x h = absurd cc
 get-first (y ∷ xs) ys zero x h = h
 get-first (y ∷ xs) ys (suc k) x h = get-first xs ys k x h
@@ -79,13 +81,15 @@ was-later xs ys n p (before, after, is, newest) =
     (before, after ++ p.0, sym p.1 ∙ ap (λ l. l ++ p.0) is ∙ append_assoc before after p.0, newest)
 
 -- with one entry more
-pub was-more : (log : List Change) (e : Change) (n : ℕ) → WasNewest (log ++ e ∷ []) n → WasNewest log n ⊎ (n ≡ newest_of (log ++ e ∷ []))
+pub was-more : (log : List Change) (e : Change) (n : ℕ) → WasNewest (log ++ e ∷ []) n → WasNewest log n
+    ⊎ (n ≡ newest_of (log ++ e ∷ []))
 was-more log e n (before, after, is, newest) = ⊎_elim
     (λ all. inr (sym newest ∙ ap newest_of all))
     (λ less. inl (before, less.0, less.1, newest))
     (prefix-last before after log e is)
 
-pub was-less : (log : List Change) (e : Change) (n : ℕ) → newest_of (log ++ e ∷ []) ≡ newest_of log → WasNewest (log ++ e ∷ []) n
+pub was-less : (log : List Change) (e : Change) (n : ℕ) → newest_of (log ++ e ∷ []) ≡ newest_of log
+    → WasNewest (log ++ e ∷ []) n
     → WasNewest log n
 was-less log e n same was = ⊎_elim
     (λ before. before)
@@ -117,7 +121,8 @@ risen-none [] more after is = omega arith
 risen-none (e ∷ before) more after is = absurd cc
 
 -- an entry more, with which the number does not fall
-pub risen-more : (log : List Change) (e : Change) → newest_of log ≤ newest_of (log ++ e ∷ []) → HasRisen log → HasRisen (log ++ e ∷ [])
+pub risen-more : (log : List Change) (e : Change) → newest_of log ≤ newest_of (log ++ e ∷ []) → HasRisen log
+    → HasRisen (log ++ e ∷ [])
 risen-more log e up risen before more after is = ⊎_elim
     (λ all. ⊎_elim
     (λ whole. let same = ap newest_of (whole ∙ sym all) in omega (arith, same))
@@ -145,7 +150,8 @@ pub was-below : (xs ys : List Change) (n m : ℕ) → IsPrefix xs ys → HasRise
 was-below xs ys n m p risen (first, rest, is, newest) below (before, after, is', newest') = ⊎_elim
     (λ q. (before, q.0, sym q.1, newest'))
     (λ q.
-    let more : first ++ (rest ++ q.0) ≡ before = sym (append_assoc first rest q.0) ∙ ap (λ l. l ++ q.0) (sym is) ∙ q.1 in
+    let more : first ++ (rest ++ q.0) ≡ before = sym (append_assoc first rest q.0) ∙ ap (λ l. l ++ q.0) (sym is)
+    ∙ q.1 in
     let up = risen first (rest ++ q.0) after (is' ∙ ap (λ l. l ++ after) (sym more)) in
     let end = ap newest_of more in
     absurd (omega (arith, up, end, newest, newest', below)))

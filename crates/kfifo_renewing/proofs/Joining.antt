@@ -1,11 +1,13 @@
 -- What a handle has joined stays so as it sees more of the history, makes calls, leaves generations and joins others.
-use Rattle.std.proofs.Common.{◌≡◌, ◌<◌, ◌≤◌, ◌+◌, ◌⊎◌, ⊎_elim, ℕ, zero, suc, List, [], ◌∷◌, ◌++◌, All, map, take, drop, length, slice_get, slice_index_or}
-use Rattle.std.proofs.Common.{◌≢◌, ◌==◌, Bool, true, false, MatchBool, None, Option, Some, arith, inl, inr, refl, sym, ap, ◌∙◌, subst}
+use Rattle.std.proofs.Common.{◌≡◌, ◌<◌, ◌≤◌, ◌+◌, ◌⊎◌, ⊎_elim, ℕ, zero, suc, List, [], ◌∷◌, ◌++◌, All, map, take, drop}
+use Rattle.std.proofs.Common.{length, slice_get, slice_index_or, ◌≢◌, ◌==◌, Bool, true, false, MatchBool, None, Option}
+use Rattle.std.proofs.Common.{Some, arith, inl, inr, refl, sym, ap, ◌∙◌, subst}
 use Rattle.std.specs.List.{Contains}
 use Rattle.std.specs.Prelude.{if◌then◌else◌}
 use Rattle.std.specs.Result.{IsOk, is_ok}
 use Rattle.core.specs.declared.result.Result.{Result}
-use Rattle.std.proofs.lemmas.List.Elements.{All-append, All-cons, All-nil, All-push, Contains-append_left, Contains-append_right, Contains-push}
+use Rattle.std.proofs.lemmas.List.Elements.{All-append, All-cons, All-nil, All-push, Contains-append_left}
+use Rattle.std.proofs.lemmas.List.Elements.{Contains-append_right, Contains-push}
 use Rattle.std.proofs.Math.Nat.{eq-or-lt_of_le}
 use Rattle.std.proofs.lemmas.Bool.{cases_lt}
 use Rattle.std.proofs.lemmas.Bool.Decides.{nat_tests}
@@ -16,10 +18,13 @@ use Rattle.kfifo_live.specs.Pass.{IsPassOf}
 use Rattle.kfifo_live.specs.declared.view.Opening.{Opening}
 use Rattle.kfifo_renewing.specs.declared.change.Change.{Change}
 use Rattle.kfifo_renewing.specs.declared.change.Change.TheVariants as C
-use Rattle.kfifo_renewing.specs.History.{FindsThere, HasLeft, HasRisen, IsGone, IsKept, IsMade, IsPlaced, WasNewest, place_count}
-use Rattle.kfifo_renewing.specs.Joining.{AreAmong, AreSameParts, HasJoined, HasNumber, HasOlder, IsPart, IsSamePart, PartView, held_by, held_in}
+use Rattle.kfifo_renewing.specs.History.{FindsThere, HasLeft, HasRisen, IsGone, IsKept, IsMade, IsPlaced, WasNewest}
+use Rattle.kfifo_renewing.specs.History.{place_count}
+use Rattle.kfifo_renewing.specs.Joining.{AreAmong, AreSameParts, HasJoined, HasNumber, HasOlder, IsPart, IsSamePart}
+use Rattle.kfifo_renewing.specs.Joining.{PartView, held_by, held_in}
 use Rattle.kfifo_renewing.specs.Renewing.{Generations, HasAll, HeldIn, IsOpenedAs, LeavesGone, Numbered}
-use Rattle.kfifo_renewing.proofs.Histories.{contains-later, gone-later, left-later, made-later, was-below, was-later, was_first}
+use Rattle.kfifo_renewing.proofs.Histories.{contains-later, gone-later, left-later, made-later, was-below, was-later}
+use Rattle.kfifo_renewing.proofs.Histories.{was_first}
 use Rattle.kfifo_renewing.proofs.Keeping.{kept-gone, kept-placed}
 use Rattle.kfifo_renewing.proofs.Departures.{leaves-refl}
 use Rattle.kfifo_renewing.proofs.Parts.{all-next, all-without}
@@ -37,23 +42,28 @@ contains-without [] i x (k, inside, is) = absurd (omega (arith, inside))
 contains-without (y ∷ xs) zero x (zero, inside, is) = inr (ap Some is)
 contains-without (y ∷ xs) zero x (suc k, inside, is) = inl (k, omega (arith, inside), is)
 contains-without (y ∷ xs) (suc i) x (zero, inside, is) =
-    inl (subst (λ z. Contains (y ∷ (take i xs ++ drop (suc i + 1) (y ∷ xs))) z) is (contains-head y (take i xs ++ drop (suc i + 1) (y ∷ xs))))
+    inl (subst (λ z. Contains (y ∷ (take i xs ++ drop (suc i + 1) (y ∷ xs))) z) is
+    (contains-head y (take i xs ++ drop (suc i + 1) (y ∷ xs))))
 contains-without (y ∷ xs) (suc i) x (suc k, inside, is) = ⊎_elim
-    (λ rest. inl (subst (λ n. Contains (y ∷ (take i xs ++ drop n (y ∷ xs))) x) (let e : suc (i + 1) ≡ suc i + 1 = omega arith in e)
+    (λ rest. inl (subst (λ n. Contains (y ∷ (take i xs ++ drop n (y ∷ xs))) x) (let e : suc (i + 1) ≡ suc i + 1 =
+    omega arith in e)
     (contains-cons y x (take i xs ++ drop (i + 1) xs) rest)))
     inr
     (contains-without xs i x (k, omega (arith, inside), is))
 
 -- the element at an index
-pub get-at : {A : Type 0} (xs : List A) (i : ℕ) (x d : A) → i < length xs → x ≡ slice_index_or xs i d → slice_get xs i ≡ Some x
+pub get-at : {A : Type 0} (xs : List A) (i : ℕ) (x d : A) → i < length xs → x ≡ slice_index_or xs i d
+    → slice_get xs i ≡ Some x
 get-at [] i x d inside is = absurd (omega (arith, inside))
 get-at (y ∷ xs) zero x d inside is = ap Some (sym is)
 get-at (y ∷ xs) (suc i) x d inside is = get-at xs i x d (omega (arith, inside)) is
 
 contains-map : {A B : Type 0} (f : A → B) (xs : List A) (x : A) → Contains xs x → Contains (map f xs) (f x)
 contains-map f [] x (k, inside, is) = absurd (omega (arith, inside))
-contains-map f (y ∷ xs) x (zero, inside, is) = subst (λ z. Contains (map f (y ∷ xs)) (f z)) is (contains-head (f y) (map f xs))
-contains-map f (y ∷ xs) x (suc k, inside, is) = contains-cons (f y) (f x) (map f xs) (contains-map f xs x (k, omega (arith, inside), is))
+contains-map f (y ∷ xs) x (zero, inside, is) =
+    subst (λ z. Contains (map f (y ∷ xs)) (f z)) is (contains-head (f y) (map f xs))
+contains-map f (y ∷ xs) x (suc k, inside, is) =
+    contains-cons (f y) (f x) (map f xs) (contains-map f xs x (k, omega (arith, inside), is))
 
 module _ {T : Type 0} where
   pub part-later : (xs ys : List Change) (p : PartView T) → IsPrefix xs ys → IsPart xs p → IsPart ys p
@@ -63,7 +73,8 @@ module _ {T : Type 0} where
     placed = contains-later xs ys (C.Placed p.number p.place) more is.placed;
   }
 
-  pub parts-later : (xs ys : List Change) (ps : List (PartView T)) → IsPrefix xs ys → All (IsPart xs) ps → All (IsPart ys) ps
+  pub parts-later : (xs ys : List Change) (ps : List (PartView T)) → IsPrefix xs ys → All (IsPart xs) ps
+      → All (IsPart ys) ps
   parts-later xs ys [] more all = All-nil (IsPart ys)
   parts-later xs ys (p ∷ ps) more all =
       let next = all-next (IsPart xs) p ps (p ∷ ps) refl all in
@@ -77,7 +88,8 @@ module _ {T : Type 0} where
     placed = subst (λ n. IsPlaced log n q.place) (sym same.0) (subst (IsPlaced log p.number) (sym same.1) is.placed);
   }
 
-  pub older-later : (xs ys : List Change) (ps : List (PartView T)) (number : ℕ) → IsPrefix xs ys → HasRisen ys → WasNewest xs number
+  pub older-later : (xs ys : List Change) (ps : List (PartView T)) (number : ℕ) → IsPrefix xs ys → HasRisen ys
+      → WasNewest xs number
       → HasOlder xs ps number → HasOlder ys ps number
   older-later xs ys ps number more risen newest older n was below = ⊎_elim
       (λ gone. inl (gone-later xs ys n more gone))
@@ -85,8 +97,10 @@ module _ {T : Type 0} where
       (older n (was-below xs ys n number more risen newest below was) below)
 
   -- a handle that has joined the first generation alone
-  pub joined-first : (o : Opening) (shared book : Book) (log : List Change) (g : Numbered) (h : PartView T) → IsOpenedAs o h.handle
-      → book ≡ shared → g.book ≡ book → IsPassOf g.queue h.handle.held.pass.pass → g.number ≡ 0 → h.number ≡ 0 → IsPart log h → HasRisen log
+  pub joined-first : (o : Opening) (shared book : Book) (log : List Change) (g : Numbered) (h : PartView T)
+      → IsOpenedAs o h.handle
+      → book ≡ shared → g.book ≡ book → IsPassOf g.queue h.handle.held.pass.pass → g.number ≡ 0 → h.number ≡ 0
+      → IsPart log h → HasRisen log
       → HasJoined o shared book log g h []
   joined-first o shared book log g h opened same books of first number part risen = record {
     newest_opened = opened;
@@ -104,8 +118,10 @@ module _ {T : Type 0} where
   }
 
   -- a handle that has seen more of the history
-  pub joined-later : (o : Opening) (shared book mine : Book) (xs ys : List Change) (g : Numbered) (h : PartView T) (ps : List (PartView T))
-      → HasJoined o shared book xs g h ps → mine ≡ book → IsPrefix xs ys → HasRisen ys → HasJoined o shared mine ys g h ps
+  pub joined-later : (o : Opening) (shared book mine : Book) (xs ys : List Change) (g : Numbered) (h : PartView T)
+      (ps : List (PartView T))
+      → HasJoined o shared book xs g h ps → mine ≡ book → IsPrefix xs ys → HasRisen ys
+      → HasJoined o shared mine ys g h ps
   joined-later o shared book mine xs ys g h ps j same more risen = record {
     newest_opened = j.newest_opened;
     older_opened = j.older_opened;
@@ -122,7 +138,8 @@ module _ {T : Type 0} where
   }
 
   -- a handle that has made a call in its newest generation
-  pub joined-newest : (o : Opening) (shared book : Book) (log : List Change) (g : Numbered) (h k : PartView T) (ps : List (PartView T))
+  pub joined-newest : (o : Opening) (shared book : Book) (log : List Change) (g : Numbered) (h k : PartView T)
+      (ps : List (PartView T))
       → HasJoined o shared book log g h ps → IsSamePart h k → HasJoined o shared book log g k ps
   joined-newest o shared book log g h k ps j same = record {
     newest_opened = same.2.1 ∙ j.newest_opened;
@@ -160,11 +177,13 @@ module _ {T : Type 0} where
       subst (All P) (sym e) (All-cons P q rest (keeps p q s next.0) (all-same P keeps ps rest same next.1))
 
   -- a handle that has made calls in its older generations
-  pub joined-same : (o : Opening) (shared book : Book) (log : List Change) (g : Numbered) (h : PartView T) (ps qs : List (PartView T))
+  pub joined-same : (o : Opening) (shared book : Book) (log : List Change) (g : Numbered) (h : PartView T)
+      (ps qs : List (PartView T))
       → HasJoined o shared book log g h ps → AreSameParts ps qs → HasJoined o shared book log g h qs
   joined-same o shared book log g h ps qs j same = record {
     newest_opened = j.newest_opened;
-    older_opened = all-same (λ (p : PartView T). IsOpenedAs o p.handle) (λ p q s is. s.2.1 ∙ is) ps qs same j.older_opened;
+    older_opened = all-same (λ (p : PartView T). IsOpenedAs o p.handle) (λ p q s is. s.2.1 ∙ is) ps qs same
+        j.older_opened;
     same_book = j.same_book;
     books = j.books;
     of = j.of;
@@ -173,13 +192,16 @@ module _ {T : Type 0} where
     risen = j.risen;
     newest_part = j.newest_part;
     older_parts = all-same (IsPart log) (part-same log) ps qs same j.older_parts;
-    below = all-same (λ (p : PartView T). p.number < g.number) (λ p q s low. let at = s.0 in omega (arith, low, at)) ps qs same j.below;
+    below = all-same (λ (p : PartView T). p.number < g.number) (λ p q s low. let at = s.0 in omega (arith, low, at)) ps
+        qs same j.below;
     all = λ n was below. ⊎_elim inl (λ has. inr (number-same ps qs n same has)) (j.all n was below);
   }
 
   -- a handle that leaves an older generation that has gone
-  pub joined-less : (o : Opening) (shared book : Book) (log : List Change) (cells : List Cell) (g : Numbered) (h : PartView T)
-      (ps qs : List (PartView T)) (i : ℕ) (p : PartView T) → HasJoined o shared book log g h ps → qs ≡ take i ps ++ drop (i + 1) ps
+  pub joined-less : (o : Opening) (shared book : Book) (log : List Change) (cells : List Cell) (g : Numbered)
+      (h : PartView T)
+      (ps qs : List (PartView T)) (i : ℕ) (p : PartView T) → HasJoined o shared book log g h ps
+      → qs ≡ take i ps ++ drop (i + 1) ps
       → slice_get ps i ≡ Some p → IsKept cells log → HasLeft log p.number → HasJoined o shared book log g h qs
   joined-less o shared book log cells g h ps qs i p j without at kept left = record {
     newest_opened = j.newest_opened;
@@ -199,12 +221,14 @@ module _ {T : Type 0} where
         (λ is.
         let same : p ≡ has.0 = cc (at, is) in
         inl (subst (IsGone log) (ap (λ (q : PartView T). q.number) same ∙ has.2)
-        (kept-gone cells log p.number kept (subst (WasNewest log) (sym (ap (λ (q : PartView T). q.number) same ∙ has.2)) was) left)))
+        (kept-gone cells log p.number kept (subst (WasNewest log) (sym (ap (λ (q : PartView T). q.number) same ∙ has.2))
+        was) left)))
         (contains-without ps i has.0 has.1))
         (j.all n was below);
   }
 
-  below-more : (ps : List (PartView T)) (n m : ℕ) → n < m → All (λ (p : PartView T). p.number < n) ps → All (λ (p : PartView T). p.number < m) ps
+  below-more : (ps : List (PartView T)) (n m : ℕ) → n < m → All (λ (p : PartView T). p.number < n) ps
+      → All (λ (p : PartView T). p.number < m) ps
   below-more ps n m less all = λ k d inside. let low = all k d inside in omega (arith, low, less)
 
   pub below-newest : (ps : List (PartView T)) (n m : ℕ) → n ≤ m → All (λ (p : PartView T). p.number < n) ps
@@ -214,27 +238,35 @@ module _ {T : Type 0} where
   -- a part in a list of parts
   made-of : (log : List Change) (ps : List (PartView T)) (p : PartView T) → All (IsPart log) ps → Contains ps p
       → IsMade log p.number p.handle.held.pass.pass.table
-  made-of log ps p all (k, inside, is) = subst (λ (q : PartView T). IsMade log q.number q.handle.held.pass.pass.table) is (all k p inside).made
+  made-of log ps p all (k, inside, is) = subst (λ (q : PartView T). IsMade log q.number q.handle.held.pass.pass.table)
+      is (all k p inside).made
 
-  number-in : (ps qs : List (PartView T)) (n : ℕ) → ((p : PartView T) → Contains ps p → Contains qs p) → HasNumber ps n → HasNumber qs n
+  number-in : (ps qs : List (PartView T)) (n : ℕ) → ((p : PartView T) → Contains ps p → Contains qs p) → HasNumber ps n
+      → HasNumber qs n
   number-in ps qs n all has = (has.0, all has.0 has.1, has.2)
 
-  pub among-later : (first end : ℕ) (ps : List (PartView T)) (old xs ys : List Change) → IsPrefix xs ys → AreAmong first end ps old xs
+  pub among-later : (first end : ℕ) (ps : List (PartView T)) (old xs ys : List Change) → IsPrefix xs ys
+      → AreAmong first end ps old xs
       → AreAmong first end ps old ys
   among-later first end ps old xs ys more among n above below was =
       ⊎_elim (λ left. inl (left-later xs ys n more left)) (λ has. inr has) (among n above below was)
 
   -- a handle that joins a later generation, and those between
-  pub joined-more : (o : Opening) (shared book mine : Book) (xs ys : List Change) (cells : List Cell) (g next : Numbered) (h k : PartView T)
-      (ps between qs : List (PartView T)) → HasJoined o shared book xs g h ps → mine ≡ book → IsPrefix xs ys → IsKept cells ys → HasRisen ys
-      → (next.book ≡ book) → IsOpenedAs o k.handle → IsPassOf next.queue k.handle.held.pass.pass → k.number ≡ next.number → IsPart ys k
-      → g.number < next.number → WasNewest xs next.number → All (λ (p : PartView T). IsOpenedAs o p.handle) between → All (IsPart ys) between
+  pub joined-more : (o : Opening) (shared book mine : Book) (xs ys : List Change) (cells : List Cell)
+      (g next : Numbered) (h k : PartView T)
+      (ps between qs : List (PartView T)) → HasJoined o shared book xs g h ps → mine ≡ book → IsPrefix xs ys
+      → IsKept cells ys → HasRisen ys
+      → (next.book ≡ book) → IsOpenedAs o k.handle → IsPassOf next.queue k.handle.held.pass.pass
+      → k.number ≡ next.number → IsPart ys k
+      → g.number < next.number → WasNewest xs next.number → All (λ (p : PartView T). IsOpenedAs o p.handle) between
+      → All (IsPart ys) between
       → All (λ (p : PartView T). p.number < next.number) between → AreAmong g.number next.number between xs ys
       → qs ≡ (ps ++ h ∷ []) ++ between → HasJoined o shared mine ys next k qs
-  joined-more o shared book mine xs ys cells g next h k ps between qs j same more kept risen books opened of number part later was
-      all-opened parts below among is =
+  joined-more o shared book mine xs ys cells g next h k ps between qs j same more kept risen books opened of number part
+      later was all-opened parts below among is =
       let both : (P : PartView T → Type 0) → All P ps → P h → All P between → All P qs =
-      λ P first mid last. subst (All P) (sym is) (All-append P (ps ++ h ∷ []) between (All-push P ps h first mid) last) in
+      λ P first mid last. subst (All P) (sym is) (All-append P (ps ++ h ∷ []) between (All-push P ps h first mid)
+      last) in
       record {
         newest_opened = opened;
         older_opened = both (λ (p : PartView T). IsOpenedAs o p.handle) j.older_opened j.newest_opened all-opened;
@@ -245,7 +277,8 @@ module _ {T : Type 0} where
         was = was-later xs ys next.number more was;
         risen = risen;
         newest_part = part;
-        older_parts = both (IsPart ys) (parts-later xs ys ps more j.older_parts) (part-later xs ys h more j.newest_part) parts;
+        older_parts = both (IsPart ys) (parts-later xs ys ps more j.older_parts) (part-later xs ys h more j.newest_part)
+            parts;
         below = both (λ (p : PartView T). p.number < next.number) (below-more ps g.number next.number later j.below)
             (let at = j.number in omega (arith, at, later)) below;
         all = λ n newest low.
@@ -272,13 +305,17 @@ module _ {T : Type 0} where
       }
 
   -- the number of the newest generation in the history
-  pub numbered-by : (o : Opening) (shared book : Book) (log : List Change) (g : Numbered) (h : PartView T) (ps : List (PartView T))
+  pub numbered-by : (o : Opening) (shared book : Book) (log : List Change) (g : Numbered) (h : PartView T)
+      (ps : List (PartView T))
       → HasJoined o shared book log g h ps → IsMade log g.number h.handle.held.pass.pass.table
-  numbered-by o shared book log g h ps j = subst (λ n. IsMade log n h.handle.held.pass.pass.table) j.number j.newest_part.made
+  numbered-by o shared book log g h ps j = subst (λ n. IsMade log n h.handle.held.pass.pass.table) j.number
+      j.newest_part.made
 
   -- the handle is in each generation that has not gone
-  pub has-all : (o : Opening) (shared book : Book) (g : Numbered) (h : PartView T) (ps : List (PartView T)) (v : Generations T)
-      → HasJoined o shared book v.seen g h ps → held_by ps ≡ v.older → h.handle ≡ v.newest → g.number ≡ v.number → HasAll v
+  pub has-all : (o : Opening) (shared book : Book) (g : Numbered) (h : PartView T) (ps : List (PartView T))
+      (v : Generations T)
+      → HasJoined o shared book v.seen g h ps → held_by ps ≡ v.older → h.handle ≡ v.newest → g.number ≡ v.number
+      → HasAll v
   has-all o shared book g h ps v j older newest number n was up =
       let last : HeldIn T = record { handle = v.newest; number = v.number } in
       ⊎_elim
@@ -287,9 +324,11 @@ module _ {T : Type 0} where
       (λ has. inr (
         held_in has.0,
         subst (λ l. Contains (l ++ last ∷ []) (held_in has.0)) older
-            (Contains-append_left (held_by ps) (last ∷ []) (held_in has.0) (contains-map (λ (p : PartView T). held_in p) ps has.0 has.1)),
+            (Contains-append_left (held_by ps) (last ∷ []) (held_in has.0)
+            (contains-map (λ (p : PartView T). held_in p) ps has.0 has.1)),
         has.2,
-        subst (λ k. IsMade v.seen k has.0.handle.held.pass.pass.table) has.2 (made-of v.seen ps has.0 j.older_parts has.1),
+        subst (λ k. IsMade v.seen k has.0.handle.held.pass.pass.table) has.2
+            (made-of v.seen ps has.0 j.older_parts has.1),
       ))
       (j.all n was (let at = number in omega (arith, less, at))))
       (λ no-less.
@@ -299,19 +338,23 @@ module _ {T : Type 0} where
         Contains-push v.older last,
         sym same,
         subst (λ k. IsMade v.seen k v.newest.held.pass.pass.table) (number ∙ sym same)
-            (subst (λ (x : Pooled T). IsMade v.seen g.number x.held.pass.pass.table) newest (numbered-by o shared book v.seen g h ps j)),
+            (subst (λ (x : Pooled T). IsMade v.seen g.number x.held.pass.pass.table) newest
+            (numbered-by o shared book v.seen g h ps j)),
       ))
       (cases_lt n v.number)
 
   -- what an append with room for all leaves
-  pub all-moved : {X E : Type 0} (r : Result X E) (appended pushed reserved ps between : List (PartView T)) (h before : PartView T)
-      → appended ≡ (if is_ok r then pushed ++ between else pushed) → IsOk r → pushed ≡ reserved ++ before ∷ [] → before ≡ h → reserved ≡ ps
+  pub all-moved : {X E : Type 0} (r : Result X E) (appended pushed reserved ps between : List (PartView T))
+      (h before : PartView T)
+      → appended ≡ (if is_ok r then pushed ++ between else pushed) → IsOk r → pushed ≡ reserved ++ before ∷ []
+      → before ≡ h → reserved ≡ ps
       → appended ≡ (ps ++ h ∷ []) ++ between
   all-moved r appended pushed reserved ps between h before is ok pushed-is same reserved-is =
       is ∙ ap (λ b. if b then pushed ++ between else pushed) ok
       ∙ ap (λ l. l ++ between) (pushed-is ∙ ap (λ l. l ++ before ∷ []) reserved-is ∙ ap (λ x. ps ++ x ∷ []) same)
 
-  pub number-here : (ps rest : List (PartView T)) (p : PartView T) (n : ℕ) → ps ≡ p ∷ rest → p.number ≡ n → HasNumber ps n
+  pub number-here : (ps rest : List (PartView T)) (p : PartView T) (n : ℕ) → ps ≡ p ∷ rest → p.number ≡ n
+      → HasNumber ps n
   number-here ps rest p n is same = subst (λ l. HasNumber l n) (sym is) (p, contains-head p rest, same)
 
   not-behind : (rest : List (PartView T)) (p : PartView T) (n : ℕ) → (p.number ≡ n → ⊥) → (HasNumber rest n → ⊥)
@@ -319,11 +362,13 @@ module _ {T : Type 0} where
   not-behind rest p n other none (q, (zero, inside, is), same) = other (ap (λ (x : PartView T). x.number) is ∙ same)
   not-behind rest p n other none (q, (suc k, inside, is), same) = none (q, (k, omega (arith, inside), is), same)
 
-  pub number-behind : (ps rest : List (PartView T)) (p : PartView T) (n : ℕ) (b : Bool) → ps ≡ p ∷ rest → (p.number ≡ n → ⊥)
+  pub number-behind : (ps rest : List (PartView T)) (p : PartView T) (n : ℕ) (b : Bool) → ps ≡ p ∷ rest
+      → (p.number ≡ n → ⊥)
       → MatchBool b (HasNumber rest n) (HasNumber rest n → ⊥) → MatchBool b (HasNumber ps n) (HasNumber ps n → ⊥)
   number-behind ps rest p n true is other has =
       subst (λ l. HasNumber l n) (sym is) (has.0, contains-cons p has.0 rest has.1, has.2)
-  number-behind ps rest p n false is other none = subst (λ l. HasNumber l n → ⊥) (sym is) (not-behind rest p n other none)
+  number-behind ps rest p n false is other none =
+      subst (λ l. HasNumber l n → ⊥) (sym is) (not-behind rest p n other none)
 
   -- what looks at the places below an index have told
   abbrev pub LookedAt : ℕ → ℕ → ℕ → List (PartView T) → List Change → List Change → Type 0
@@ -343,16 +388,20 @@ module _ {T : Type 0} where
   found-here : (first end index : ℕ) (parts : List (PartView T)) (found : Option ℕ) (old new : List Change) (n : ℕ)
       → FindsThere index found old new → ((m : ℕ) → found ≡ Some m → first < m → m < end → HasNumber parts m)
       → first < n → n < end → IsPlaced old n index → HasLeft new n ⊎ HasNumber parts n
-  found-here first end index parts None old new n finds known above below there = inl (finds.left n there (λ same. absurd cc))
+  found-here first end index parts None old new n finds known above below there =
+      inl (finds.left n there (λ same. absurd cc))
   found-here first end index parts (Some m) old new n finds known above below there =
       found-by first end index parts m old new n finds known above below there (m == n) refl
 
   -- one look more
   pub looked-more : (first end index : ℕ) (parts : List (PartView T)) (found : Option ℕ) (base old new : List Change)
       → LookedAt first end index parts base old → IsPrefix base old → IsPrefix old new → FindsThere index found old new
-      → ((m : ℕ) → found ≡ Some m → first < m → m < end → HasNumber parts m) → LookedAt first end (index + 1) parts base new
-  looked-more first end index parts found base old new looked before more finds known n i above below inside there = ⊎_elim
-      (λ less. ⊎_elim (λ left. inl (left-later old new n more left)) (λ has. inr has) (looked n i above below less there))
+      → ((m : ℕ) → found ≡ Some m → first < m → m < end → HasNumber parts m)
+      → LookedAt first end (index + 1) parts base new
+  looked-more first end index parts found base old new looked before more finds known n i above below inside there =
+      ⊎_elim
+      (λ less. ⊎_elim (λ left. inl (left-later old new n more left)) (λ has. inr has)
+      (looked n i above below less there))
       (λ no-less.
       let same : i ≡ index = omega (arith, no-less, inside) in
       found-here first end index parts found old new n finds known above below
@@ -361,12 +410,14 @@ module _ {T : Type 0} where
 
   -- looks at all places tell of each generation that was the newest
   pub looked-all : (first end : ℕ) (parts : List (PartView T)) (cells : List Cell) (seen base log : List Change)
-      → IsKept cells base → IsPrefix seen base → LookedAt first end place_count parts base log → AreAmong first end parts seen log
+      → IsKept cells base → IsPrefix seen base → LookedAt first end place_count parts base log
+      → AreAmong first end parts seen log
   looked-all first end parts cells seen base log kept before looked n above below was =
       let there = kept-placed cells base n kept (omega (arith, above)) (was-later seen base n before was) in
       looked n there.0 above below there.1 there.2
 
-  pub part-at : (log : List Change) (ps : List (PartView T)) (i : ℕ) (p : PartView T) → All (IsPart log) ps → slice_get ps i ≡ Some p
+  pub part-at : (log : List Change) (ps : List (PartView T)) (i : ℕ) (p : PartView T) → All (IsPart log) ps
+      → slice_get ps i ≡ Some p
       → IsPart log p
   part-at log [] i p all at = absurd cc
   part-at log (q ∷ ps) zero p all at =
@@ -374,12 +425,18 @@ module _ {T : Type 0} where
       subst (IsPart log) same (all-next (IsPart log) q ps (q ∷ ps) refl all).0
   part-at log (q ∷ ps) (suc i) p all at = part-at log ps i p (all-next (IsPart log) q ps (q ∷ ps) refl all).1 at
 
-  less-at : (log : List Change) (ps : List (PartView T)) (i : ℕ) (p : PartView T) → slice_get ps i ≡ Some p → HasLeft log p.number
+  less-at : (log : List Change) (ps : List (PartView T)) (i : ℕ) (p : PartView T) → slice_get ps i ≡ Some p
+      → HasLeft log p.number
       → p.handle.cells ≡ no_cells → LeavesGone log (held_by ps) (held_by (take i ps ++ drop (i + 1) ps))
   less-at log [] i p at left none = absurd cc
   less-at log (q ∷ ps) zero p at left none =
       let same : q ≡ p = cc in
-      inr (subst (λ (x : PartView T). HasLeft log x.number) (sym same) left, ap (λ (x : PartView T). x.handle.cells) same ∙ none, leaves-refl log (held_by ps))
+      inr (
+        subst (λ (x : PartView T). HasLeft log x.number) (sym same) left,
+        ap (λ (x : PartView T). x.handle.cells)
+            same ∙ none,
+        leaves-refl log (held_by ps),
+      )
   less-at log (q ∷ ps) (suc i) p at left none = inl (
     held_by (take i ps ++ drop (i + 1) ps),
     ap (λ n. held_by (q ∷ (take i ps ++ drop n (q ∷ ps)))) (let e : suc i + 1 ≡ suc (i + 1) = omega arith in e),
@@ -387,13 +444,16 @@ module _ {T : Type 0} where
   )
 
   -- the handles of parts but one, whose generation has left its place
-  pub held-less : (log : List Change) (ps qs : List (PartView T)) (i : ℕ) (p : PartView T) → qs ≡ take i ps ++ drop (i + 1) ps
-      → slice_get ps i ≡ Some p → HasLeft log p.number → p.handle.cells ≡ no_cells → LeavesGone log (held_by ps) (held_by qs)
+  pub held-less : (log : List Change) (ps qs : List (PartView T)) (i : ℕ) (p : PartView T)
+      → qs ≡ take i ps ++ drop (i + 1) ps
+      → slice_get ps i ≡ Some p → HasLeft log p.number → p.handle.cells ≡ no_cells
+      → LeavesGone log (held_by ps) (held_by qs)
   held-less log ps qs i p is at left none =
       subst (λ l. LeavesGone log (held_by ps) (held_by l)) (sym is) (less-at log ps i p at left none)
 
   -- a generation that is not among these, though it comes before this one, has gone if it was the newest
-  pub others-gone : (xs ys : List Change) (ps : List (PartView T)) (number n : ℕ) → IsPrefix xs ys → HasRisen ys → WasNewest xs number
+  pub others-gone : (xs ys : List Change) (ps : List (PartView T)) (number n : ℕ) → IsPrefix xs ys → HasRisen ys
+      → WasNewest xs number
       → HasOlder xs ps number → n < number → (HasNumber ps n → ⊥) → WasNewest ys n → IsGone ys n
   others-gone xs ys ps number n more risen newest older below not was = ⊎_elim
       (λ gone. gone-later xs ys n more gone)

@@ -1,8 +1,10 @@
 -- Steps of the history keep its rule.
-use Rattle.std.proofs.Common.{◌≡◌, ◌≢◌, ◌+◌, ◌-◌, ◌<◌, ◌≤◌, ◌^◌, ◌==◌, ⊎_elim, ℕ, zero, suc, Bool, true, false, List, [], ◌∷◌, ◌++◌, length}
-use Rattle.std.proofs.Common.{MatchBool, None, Option, Some, replicate, slice_set, refl, sym, ap, ◌∙◌, subst, arith, inl, inr, length-append}
+use Rattle.std.proofs.Common.{◌≡◌, ◌≢◌, ◌+◌, ◌-◌, ◌<◌, ◌≤◌, ◌^◌, ◌==◌, ⊎_elim, ℕ, zero, suc, Bool, true, false, List}
+use Rattle.std.proofs.Common.{[], ◌∷◌, ◌++◌, length, MatchBool, None, Option, Some, replicate, slice_set, refl, sym, ap}
+use Rattle.std.proofs.Common.{◌∙◌, subst, arith, inl, inr, length-append}
 use Rattle.std.proofs.lemmas.Bool.Decides.{nat_tests}
-use Rattle.std.proofs.lemmas.List.{append-nil, get_or_append_left, get_or-append-add, get_or-replicate, get_or-set_other, get_or-set_same, length-replicate, length-set}
+use Rattle.std.proofs.lemmas.List.{append-nil, get_or_append_left, get_or-append-add, get_or-replicate}
+use Rattle.std.proofs.lemmas.List.{get_or-set_other, get_or-set_same, length-replicate, length-set}
 use Rattle.std.proofs.lemmas.List.{replicate-append-replicate, set-append_left, set-append_right, set-get_or}
 use Rattle.std.proofs.lemmas.List.Elements.{Contains-push}
 use Rattle.std.proofs.Math.Nat.{eq-zero-or-pos}
@@ -10,17 +12,19 @@ use Rattle.std.specs.List.{Contains}
 use Rattle.atomic_table.specs.Seated.{TableId}
 use mathlib.Core.List.{IsPrefix}
 use prog.Atomic.{either}
-use Rattle.logbook.specs.Pages.{Act, Cell, Goes, Moves, Nib, Valid, View, cell, cells_after, keeps, nib_after, no_nib, step}
+use Rattle.logbook.specs.Pages.{Act, Cell, Goes, Moves, Nib, Valid, View, cell, cells_after, keeps, nib_after, no_nib}
+use Rattle.logbook.specs.Pages.{step}
 use Rattle.kfifo_renewing.specs.declared.change.Change.{Change}
 use Rattle.kfifo_renewing.specs.declared.change.Change.TheVariants as C
 use Rattle.kfifo_renewing.specs.declared.change.Made.{Made}
 use Rattle.kfifo_renewing.specs.declared.change.Sealed.{Sealed}
 use Rattle.kfifo_renewing.specs.declared.change.Sight.{Sight}
-use Rattle.kfifo_renewing.specs.History.{Finds, FindsThere, HasLeft, HasRisen, Holds, IsGone, IsKept, IsPlaced, IsUndone}
-use Rattle.kfifo_renewing.specs.History.{Looks, LooksThere, Fills, TellsNext, TellsPlace, WasNewest, WillNotBeNewest, key_of, made, making_of}
-use Rattle.kfifo_renewing.specs.History.{newest_of, place_count, label_of}
-use Rattle.kfifo_renewing.proofs.Histories.{contains-later, contains-more, gone-later, left-later, made-append, newest-append}
-use Rattle.kfifo_renewing.proofs.Histories.{risen-more, risen-none, risen-was, was-later, was-less, was-made}
+use Rattle.kfifo_renewing.specs.History.{Finds, FindsThere, HasLeft, HasRisen, Holds, IsGone, IsKept, IsPlaced}
+use Rattle.kfifo_renewing.specs.History.{IsUndone, Looks, LooksThere, Fills, TellsNext, TellsPlace, WasNewest}
+use Rattle.kfifo_renewing.specs.History.{WillNotBeNewest, key_of, made, making_of, newest_of, place_count, label_of}
+use Rattle.kfifo_renewing.proofs.Histories.{contains-later, contains-more, gone-later, left-later, made-append}
+use Rattle.kfifo_renewing.proofs.Histories.{newest-append, risen-more, risen-none, risen-was, was-later, was-less}
+use Rattle.kfifo_renewing.proofs.Histories.{was-made}
 
 abbrev pub shown : List Change → List Change
 shown log = []
@@ -32,16 +36,26 @@ moved xs ys n = Unit {0}
 abbrev pub words-of : ℕ → List Cell → List Cell → List Cell
 words-of g labels nexts = (g, true) ∷ (labels ++ nexts)
 
-pub kept-of : (g : ℕ) (labels nexts : List Cell) (log : List Change) → length labels ≡ place_count → Holds log g labels nexts
+pub kept-of : (g : ℕ) (labels nexts : List Cell) (log : List Change) → length labels ≡ place_count
+    → Holds log g labels nexts
     → IsKept (words-of g labels nexts) log
-kept-of g labels nexts log all h = record { greatest = g; labels = labels; nexts = nexts; words = refl; all = all; holds = h }
+kept-of g labels nexts log all h = record {
+  greatest = g;
+  labels = labels;
+  nexts = nexts;
+  words = refl;
+  all = all;
+  holds = h;
+}
 
 -- the word of a place, and that of a generation, among all
 
-pub label-at : (g : ℕ) (labels nexts : List Cell) (i : ℕ) → i < length labels → cell (words-of g labels nexts) (label_of i) ≡ cell labels i
+pub label-at : (g : ℕ) (labels nexts : List Cell) (i : ℕ) → i < length labels
+    → cell (words-of g labels nexts) (label_of i) ≡ cell labels i
 label-at g labels nexts i inside = get_or_append_left labels nexts (0, false) i inside
 
-pub next-at : (g : ℕ) (labels nexts : List Cell) (n : ℕ) → length labels ≡ place_count → cell (words-of g labels nexts) (key_of n) ≡ cell nexts n
+pub next-at : (g : ℕ) (labels nexts : List Cell) (n : ℕ) → length labels ≡ place_count
+    → cell (words-of g labels nexts) (key_of n) ≡ cell nexts n
 next-at g labels nexts n all =
     subst (λ k. cell (labels ++ nexts) (k + n) ≡ cell nexts n) all (get_or-append-add labels nexts n (0, false))
 
@@ -74,7 +88,8 @@ within-home (c ∷ l) zero home = omega arith
 within-home (c ∷ l) (suc k) home = let below = within-home l k home in omega (arith, below)
 
 -- a word that is written stays at home
-pub home-set : (l : List Cell) (i x k : ℕ) → (cell l k).1 ≡ true → (b : Bool) → (k == i) ≡ b → (cell (slice_set l i (x, true)) k).1 ≡ true
+pub home-set : (l : List Cell) (i x k : ℕ) → (cell l k).1 ≡ true → (b : Bool) → (k == i) ≡ b
+    → (cell (slice_set l i (x, true)) k).1 ≡ true
 home-set l i x k home true e =
     let same : k ≡ i = grind (arith, nat_tests) in
     let below = within-home l k home in
@@ -85,12 +100,15 @@ home-set l i x k home false e =
     ap (λ c. c.1) (get_or-set_other l i k (x, true) (0, false) apart) ∙ home
 
 -- a load leaves the words as they are
-pub load-same : (cells : List Cell) (k : ℕ) → (cell cells k).1 ≡ true → slice_set cells k ((cell cells k).0, true) ≡ cells
+pub load-same : (cells : List Cell) (k : ℕ) → (cell cells k).1 ≡ true → slice_set cells k ((cell cells k).0, true)
+    ≡ cells
 load-same cells k home = ap (λ b. slice_set cells k ((cell cells k).0, b)) (sym home) ∙ set-get_or cells k (0, false)
 
 -- a step at a word that is this one, with what becomes of the words
-pub goes-by : (k : ℕ) (v : List Change) (p : Nib) (f : ℕ → ℕ) (then : ℕ → View Change ℕ → Type 0) (cs after : List Cell) (log more : List Change)
-    (c : Cell) (a : Act) → cell cs k ≡ c → slice_set cs k (f c.0, true) ≡ after → Valid a p → IsKept (cells_after a p after) (log ++ more)
+pub goes-by : (k : ℕ) (v : List Change) (p : Nib) (f : ℕ → ℕ) (then : ℕ → View Change ℕ → Type 0) (cs after : List Cell)
+    (log more : List Change)
+    (c : Cell) (a : Act) → cell cs k ≡ c → slice_set cs k (f c.0, true) ≡ after → Valid a p
+    → IsKept (cells_after a p after) (log ++ more)
     → then c.0 (log ++ more, (nib_after a p cs, None)) → Goes IsKept shown moved k (v, (p, None)) f then cs log
 goes-by k v p f then cs after log more c a at set valid kept told = (
   a,
@@ -139,13 +157,15 @@ kept_first t =
     ∙ sym (replicate-append-replicate 1 (place_count + 1) (0, true))
     ∙ ap (λ l. (0, true) ∷ l) (sym (replicate-append-replicate place_count 1 (0, true))) in
     subst (λ l. IsKept l (making_of t ∷ [])) (sym words)
-    (kept-of 0 (replicate place_count (0, true)) ((0, true) ∷ []) (making_of t ∷ []) (length-replicate {A = Cell} place_count (0, true)) (first-holds t))
+    (kept-of 0 (replicate place_count (0, true)) ((0, true) ∷ []) (making_of t ∷ [])
+    (length-replicate {A = Cell} place_count (0, true)) (first-holds t))
 
 pub kept-risen : (cells : List Cell) (log : List Change) → IsKept cells log → HasRisen log
 kept-risen cells log kept = kept.holds.risen
 
 -- a generation that was the newest and has left is gone
-pub kept-gone : (cells : List Cell) (log : List Change) (n : ℕ) → IsKept cells log → WasNewest log n → HasLeft log n → IsGone log n
+pub kept-gone : (cells : List Cell) (log : List Change) (n : ℕ) → IsKept cells log → WasNewest log n → HasLeft log n
+    → IsGone log n
 kept-gone cells log n kept was (inl gone) = gone
 kept-gone cells log n kept was (inr undone) = (kept.holds.undone n undone).1 was
 
@@ -158,10 +178,12 @@ pub kept-below : (cells : List Cell) (log : List Change) (n : ℕ) → IsKept ce
 kept-below cells log n kept gone =
     subst (λ k. k < newest_of log) gone.number (kept.holds.gone gone.sealed gone.told)
 
-pub was-newest : (g : ℕ) (labels nexts : List Cell) (log : List Change) (n : ℕ) → Holds log g labels nexts → WasNewest log n → n ≤ newest_of log
+pub was-newest : (g : ℕ) (labels nexts : List Cell) (log : List Change) (n : ℕ) → Holds log g labels nexts
+    → WasNewest log n → n ≤ newest_of log
 was-newest g labels nexts log n h was = risen-was log n h.risen was
 
-pub within : (g : ℕ) (labels nexts : List Cell) (log : List Change) (n : ℕ) → Holds log g labels nexts → WasNewest log n → n < length nexts
+pub within : (g : ℕ) (labels nexts : List Cell) (log : List Change) (n : ℕ) → Holds log g labels nexts → WasNewest log n
+    → n < length nexts
 within g labels nexts log n h was =
     let below = risen-was log n h.risen was in
     let newest = h.newest in
@@ -169,7 +191,8 @@ within g labels nexts log n h was =
     omega (arith, below, newest, each)
 
 -- what a word says stays so while an entry more leaves the newest generation as it is
-pub tells-same : (log : List Change) (e : Change) (n w : ℕ) → newest_of (log ++ e ∷ []) ≡ newest_of log → TellsNext log n w
+pub tells-same : (log : List Change) (e : Change) (n w : ℕ) → newest_of (log ++ e ∷ []) ≡ newest_of log
+    → TellsNext log n w
     → TellsNext (log ++ e ∷ []) n w
 tells-same log e n w same t = record {
   newest = λ none. same ∙ t.newest none;
@@ -177,7 +200,8 @@ tells-same log e n w same t = record {
 }
 
 -- what the word of a place says stays so while an entry more puts nothing there
-place-same : (log : List Change) (e : Change) (i w : ℕ) → ((n : ℕ) → e ≢ C.Placed n i) → TellsPlace log i w → TellsPlace (log ++ e ∷ []) i w
+place-same : (log : List Change) (e : Change) (i w : ℕ) → ((n : ℕ) → e ≢ C.Placed n i) → TellsPlace log i w
+    → TellsPlace (log ++ e ∷ []) i w
 place-same log e i w other t =
     let more : IsPrefix log (log ++ e ∷ []) = (e ∷ [], refl) in
     record {
@@ -191,12 +215,14 @@ place-same log e i w other t =
 
 -- An entry more that makes no generation and leaves the newest one as it is. The words of generations that were the
 -- newest stay, and the others do what is said of them
-pub holds-entry : (g : ℕ) (labels nexts labels' nexts' : List Cell) (log : List Change) (e : Change) → made (e ∷ []) ≡ []
+pub holds-entry : (g : ℕ) (labels nexts labels' nexts' : List Cell) (log : List Change) (e : Change)
+    → made (e ∷ []) ≡ []
     → newest_of (log ++ e ∷ []) ≡ newest_of log → Holds log g labels nexts → length nexts' ≡ length nexts
     → ((n : ℕ) → WasNewest log n → cell nexts' n ≡ cell nexts n)
     → ((i : ℕ) → i < place_count → ((cell labels' i).1 ≡ true) × TellsPlace (log ++ e ∷ []) i (cell labels' i).0)
     → ((s : Sealed) → Contains (log ++ e ∷ []) (C.Gone s) → s.number < newest_of log)
-    → ((n : ℕ) → IsUndone (log ++ e ∷ []) n → WillNotBeNewest log g nexts' n × (WasNewest log n → IsGone (log ++ e ∷ []) n))
+    → ((n : ℕ) → IsUndone (log ++ e ∷ []) n → WillNotBeNewest log g nexts' n
+    × (WasNewest log n → IsGone (log ++ e ∷ []) n))
     → Holds (log ++ e ∷ []) g labels' nexts'
 holds-entry g labels nexts labels' nexts' log e none same h long words labelled gone undone = record {
   count = ap length (made-append log (e ∷ []) ∙ ap (λ l. made log ++ l) none ∙ append-nil (made log)) ∙ h.count;
@@ -221,7 +247,8 @@ holds-entry g labels nexts labels' nexts' log e none same h long words labelled 
 }
 
 -- what was said of generations that have left is still said, where the entry more is of none
-pub gone-same : (g : ℕ) (labels nexts : List Cell) (log : List Change) (e : Change) → ((s : Sealed) → e ≢ C.Gone s) → Holds log g labels nexts
+pub gone-same : (g : ℕ) (labels nexts : List Cell) (log : List Change) (e : Change) → ((s : Sealed) → e ≢ C.Gone s)
+    → Holds log g labels nexts
     → (s : Sealed) → Contains (log ++ e ∷ []) (C.Gone s) → s.number < newest_of log
 gone-same g labels nexts log e other h s is =
     ⊎_elim (λ before. h.gone s before) (λ last. absurd (other s (sym last))) (contains-more log e (C.Gone s) is)
@@ -231,12 +258,16 @@ pub undone-more : (log : List Change) (e : Change) (g : ℕ) (nexts : List Cell)
     → WillNotBeNewest log g nexts n × (WasNewest log n → IsGone (log ++ e ∷ []) n)
 undone-more log e g nexts n u = (u.0, λ was. gone-later log (log ++ e ∷ []) n (e ∷ [], refl) (u.1 was))
 
-pub undone-same : (g : ℕ) (labels nexts : List Cell) (log : List Change) (e : Change) → ((n : ℕ) → e ≢ C.Undone n) → Holds log g labels nexts
-    → (n : ℕ) → IsUndone (log ++ e ∷ []) n → WillNotBeNewest log g nexts n × (WasNewest log n → IsGone (log ++ e ∷ []) n)
+pub undone-same : (g : ℕ) (labels nexts : List Cell) (log : List Change) (e : Change) → ((n : ℕ) → e ≢ C.Undone n)
+    → Holds log g labels nexts
+    → (n : ℕ) → IsUndone (log ++ e ∷ []) n → WillNotBeNewest log g nexts n
+    × (WasNewest log n → IsGone (log ++ e ∷ []) n)
 undone-same g labels nexts log e other h n is =
-    ⊎_elim (λ before. undone-more log e g nexts n (h.undone n before)) (λ last. absurd (other n (sym last))) (contains-more log e (C.Undone n) is)
+    ⊎_elim (λ before. undone-more log e g nexts n (h.undone n before)) (λ last. absurd (other n (sym last)))
+    (contains-more log e (C.Undone n) is)
 
-pub labelled-same : (g : ℕ) (labels nexts : List Cell) (log : List Change) (e : Change) → ((n i : ℕ) → e ≢ C.Placed n i) → Holds log g labels nexts
+pub labelled-same : (g : ℕ) (labels nexts : List Cell) (log : List Change) (e : Change) → ((n i : ℕ) → e ≢ C.Placed n i)
+    → Holds log g labels nexts
     → (i : ℕ) → i < place_count → ((cell labels i).1 ≡ true) × TellsPlace (log ++ e ∷ []) i (cell labels i).0
 labelled-same g labels nexts log e other h i inside =
     ((h.labelled i inside).0, place-same log e i (cell labels i).0 (λ n. other n i) (h.labelled i inside).1)
@@ -279,7 +310,8 @@ look-holds g labels nexts log sight h =
     (gone-same g labels nexts log e (λ n is. absurd cc) h)
     (undone-same g labels nexts log e (λ n is. absurd cc) h)
 
-looks-goes : (v log : List Change) (sight : Sight) (n g : ℕ) (labels nexts : List Cell) → length labels ≡ place_count → IsPrefix v log → WasNewest log n
+looks-goes : (v log : List Change) (sight : Sight) (n g : ℕ) (labels nexts : List Cell) → length labels ≡ place_count
+    → IsPrefix v log → WasNewest log n
     → Holds log g labels nexts → Goes IsKept shown moved (key_of n) (v, (no_nib, None)) (λ n. n)
     (Looks (step (key_of n) 0 0 (C.Look sight)) (v, (no_nib, None))) (words-of g labels nexts) log
 looks-goes v log sight n g labels nexts all pre was h =
@@ -303,7 +335,8 @@ pub looks-moves : (v : List Change) (sight : Sight) (n : ℕ) → WasNewest v n
 looks-moves v sight n was cs log kept pre away =
     let g = kept.greatest in
     let P : List Cell → Type 0 = λ c. (key_of n < length c) × ((cell c (key_of n)).1 ≡ true)
-    × Goes IsKept shown moved (key_of n) (v, (no_nib, None)) (λ n. n) (Looks (step (key_of n) 0 0 (C.Look sight)) (v, (no_nib, None))) c log in
+    × Goes IsKept shown moved (key_of n) (v, (no_nib, None)) (λ n. n)
+    (Looks (step (key_of n) 0 0 (C.Look sight)) (v, (no_nib, None))) c log in
     let then : WasNewest log n = was-later v log n pre was in
     subst P (sym kept.words) (
       next-within g kept.labels kept.nexts n kept.all (within g kept.labels kept.nexts log n kept.holds then),
@@ -311,63 +344,79 @@ looks-moves v sight n was cs log kept pre away =
       looks-goes v log sight n g kept.labels kept.nexts kept.all pre then kept.holds,
     )
 
-there-goes : (v log : List Change) (i g : ℕ) (e : Change) (labels nexts : List Cell) → length labels ≡ place_count → i < place_count → IsPrefix v log
+there-goes : (v log : List Change) (i g : ℕ) (e : Change) (labels nexts : List Cell) → length labels ≡ place_count
+    → i < place_count → IsPrefix v log
     → Holds log g labels nexts → Goes IsKept shown moved (label_of i) (v, (no_nib, None)) (λ n. n)
     (LooksThere (step (label_of i) 0 0 e) (v, (no_nib, None))) (words-of g labels nexts) log
 there-goes v log i g e labels nexts all inside pre h =
     let none : log ++ [] ≡ log = append-nil log in
     let told = h.labelled i inside in
     let below : i < length labels = omega (arith, inside, all) in
-    goes-by (label_of i) v no_nib (λ n. n) (LooksThere (step (label_of i) 0 0 e) (v, (no_nib, None))) (words-of g labels nexts)
+    goes-by (label_of i) v no_nib (λ n. n) (LooksThere (step (label_of i) 0 0 e) (v, (no_nib, None)))
+    (words-of g labels nexts)
     (words-of g labels nexts) log [] (cell labels i) keeps (label-at g labels nexts i below)
-    (set-label g labels nexts i ((cell labels i).0, true) below ∙ ap (λ l. words-of g l nexts) (load-same labels i told.0)) tt
+    (set-label g labels nexts i ((cell labels i).0, true) below ∙ ap (λ l. words-of g l nexts)
+    (load-same labels i told.0)) tt
     (subst (IsKept (words-of g labels nexts)) (sym none) (kept-of g labels nexts log all h))
     (λ place at.
     let same : i ≡ place = omega (arith, at) in (
-      subst (λ k. TellsPlace (log ++ []) k (cell labels i).0) same (subst (λ l. TellsPlace l i (cell labels i).0) (sym none) told.1),
+      subst (λ k. TellsPlace (log ++ []) k (cell labels i).0) same
+          (subst (λ l. TellsPlace l i (cell labels i).0) (sym none) told.1),
       subst (IsPrefix v) (sym none) pre,
       (words-of g labels nexts, subst (IsKept (words-of g labels nexts)) (sym none) (kept-of g labels nexts log all h)),
     ))
 
 -- a look at the word of a place
 pub there-moves : (v : List Change) (i : ℕ) (e : Change) → i < place_count
-    → Moves IsKept shown moved (label_of i) (v, (no_nib, None)) (λ n. n) (LooksThere (step (label_of i) 0 0 e) (v, (no_nib, None)))
+    → Moves IsKept shown moved (label_of i) (v, (no_nib, None)) (λ n. n)
+    (LooksThere (step (label_of i) 0 0 e) (v, (no_nib, None)))
 there-moves v i e inside cs log kept pre away =
     let g = kept.greatest in
     let P : List Cell → Type 0 = λ c. (label_of i < length c) × ((cell c (label_of i)).1 ≡ true)
-    × Goes IsKept shown moved (label_of i) (v, (no_nib, None)) (λ n. n) (LooksThere (step (label_of i) 0 0 e) (v, (no_nib, None))) c log in
+    × Goes IsKept shown moved (label_of i) (v, (no_nib, None)) (λ n. n)
+    (LooksThere (step (label_of i) 0 0 e) (v, (no_nib, None))) c log in
     subst P (sym kept.words) (
       label-within g kept.labels kept.nexts i kept.all inside,
-      ap (λ c. c.1) (label-at g kept.labels kept.nexts i (let all = kept.all in omega (arith, inside, all))) ∙ (kept.holds.labelled i inside).0,
+      ap (λ c. c.1) (label-at g kept.labels kept.nexts i (let all = kept.all in omega (arith, inside, all)))
+          ∙ (kept.holds.labelled i inside).0,
       there-goes v log i g e kept.labels kept.nexts kept.all inside pre kept.holds,
     )
 
 -- what became of the word of a place that was written, and those of the others
-pub label-written : (g : ℕ) (labels nexts : List Cell) (log : List Change) (e : Change) (i w : ℕ) → length labels ≡ place_count
-    → ((n j : ℕ) → j ≢ i → e ≢ C.Placed n j) → Holds log g labels nexts → TellsPlace (log ++ e ∷ []) i w → (j : ℕ) → j < place_count
+pub label-written : (g : ℕ) (labels nexts : List Cell) (log : List Change) (e : Change) (i w : ℕ)
+    → length labels ≡ place_count
+    → ((n j : ℕ) → j ≢ i → e ≢ C.Placed n j) → Holds log g labels nexts → TellsPlace (log ++ e ∷ []) i w → (j : ℕ)
+    → j < place_count
     → (b : Bool) → (j == i) ≡ b
-    → ((cell (slice_set labels i (w, true)) j).1 ≡ true) × TellsPlace (log ++ e ∷ []) j (cell (slice_set labels i (w, true)) j).0
+    → ((cell (slice_set labels i (w, true)) j).1 ≡ true)
+    × TellsPlace (log ++ e ∷ []) j (cell (slice_set labels i (w, true)) j).0
 label-written g labels nexts log e i w all other h here j inside true is =
     let same : j ≡ i = grind (arith, nat_tests) in
-    subst (λ k. ((cell (slice_set labels i (w, true)) k).1 ≡ true) × TellsPlace (log ++ e ∷ []) k (cell (slice_set labels i (w, true)) k).0)
+    subst (λ k. ((cell (slice_set labels i (w, true)) k).1 ≡ true) × TellsPlace (log ++ e ∷ []) k
+    (cell (slice_set labels i (w, true)) k).0)
     (sym same) (subst (λ c. (c.1 ≡ true) × TellsPlace (log ++ e ∷ []) i c.0)
     (sym (get_or-set_same labels i (w, true) (0, false) (omega (arith, same, inside, all)))) (refl, here))
 label-written g labels nexts log e i w all other h here j inside false is =
     let apart : j ≢ i = λ same. grind (arith, nat_tests) in
-    subst (λ c. (c.1 ≡ true) × TellsPlace (log ++ e ∷ []) j c.0) (sym (get_or-set_other labels i j (w, true) (0, false) apart))
+    subst (λ c. (c.1 ≡ true) × TellsPlace (log ++ e ∷ []) j c.0)
+    (sym (get_or-set_other labels i j (w, true) (0, false) apart))
     ((h.labelled j inside).0, place-same log e j (cell labels j).0 (λ n. other n j apart) (h.labelled j inside).1)
 
 -- a step at the word of a place that changes nothing
-pub place-stays : (v log : List Change) (p : Nib) (i old new g : ℕ) (labels nexts : List Cell) (then : ℕ → View Change ℕ → Type 0)
+pub place-stays : (v log : List Change) (p : Nib) (i old new g : ℕ) (labels nexts : List Cell)
+    (then : ℕ → View Change ℕ → Type 0)
     → length labels ≡ place_count → i < place_count → Holds log g labels nexts → ((cell labels i).0 == old) ≡ false
     → then (cell labels i).0 (log ++ [], (p, None))
-    → Goes IsKept shown moved (label_of i) (v, (p, None)) (λ k. either (k == old) new k) then (words-of g labels nexts) log
+    → Goes IsKept shown moved (label_of i) (v, (p, None)) (λ k. either (k == old) new k) then
+    (words-of g labels nexts) log
 place-stays v log p i old new g labels nexts then all inside h found told =
     let none : log ++ [] ≡ log = append-nil log in
     let below : i < length labels = omega (arith, inside, all) in
-    goes-by (label_of i) v p (λ k. either (k == old) new k) then (words-of g labels nexts) (words-of g labels nexts) log []
+    goes-by (label_of i) v p (λ k. either (k == old) new k) then (words-of g labels nexts) (words-of g labels nexts)
+    log []
     (cell labels i) keeps (label-at g labels nexts i below)
-    (rw found (set-label g labels nexts i ((cell labels i).0, true) below ∙ ap (λ l. words-of g l nexts) (load-same labels i (h.labelled i inside).0)))
+    (rw found (set-label g labels nexts i ((cell labels i).0, true) below ∙ ap (λ l. words-of g l nexts)
+    (load-same labels i (h.labelled i inside).0)))
     tt (subst (IsKept (words-of g labels nexts)) (sym none) (kept-of g labels nexts log all h)) told
 
 placed-same : (n m i j : ℕ) → C.Placed n i ≡ C.Placed m j → (n ≡ m) × (i ≡ j)
@@ -379,7 +428,8 @@ gone-number s t e = cc
 pub undone-number : (n m : ℕ) → C.Undone n ≡ C.Undone m → n ≡ m
 undone-number n m e = cc
 
-puts-goes : (v log : List Change) (p : Nib) (n i g : ℕ) (a : Change) (labels nexts : List Cell) → length labels ≡ place_count → i < place_count
+puts-goes : (v log : List Change) (p : Nib) (n i g : ℕ) (a : Change) (labels nexts : List Cell)
+    → length labels ≡ place_count → i < place_count
     → n < 2 ^ 32 → Holds log g labels nexts → (b : Bool) → ((cell labels i).0 == 0) ≡ b
     → Goes IsKept shown moved (label_of i) (v, (p, None)) (λ k. either (k == 0) (suc n) k)
     (Fills (step (label_of i) 0 (suc n) a) (v, (p, None))) (words-of g labels nexts) log
@@ -406,15 +456,18 @@ puts-goes v log p n i g a labels nexts all inside few h true found =
     (label-at g labels nexts i below) (rw found (set-label g labels nexts i (suc n, true) below)) tt
     (kept-of g (slice_set labels i (suc n, true)) nexts (log ++ e ∷ []) (length-set labels i (suc n, true) ∙ all)
     (holds-entry g labels nexts (slice_set labels i (suc n, true)) nexts log e refl same h refl (λ m was. refl)
-    (λ j in-it. label-written g labels nexts log e i (suc n) all (λ m k apart at. absurd (apart (sym (placed-same n m i k at).1))) h here j in-it (j == i) refl)
+    (λ j in-it. label-written g labels nexts log e i (suc n) all
+    (λ m k apart at. absurd (apart (sym (placed-same n m i k at).1))) h here j in-it (j == i) refl)
     (gone-same g labels nexts log e (λ t is. absurd cc) h)
     (undone-same g labels nexts log e (λ m is. absurd cc) h)))
     (λ m j number at is.
     let number-is : n ≡ m = omega (arith, number) in
     let place-is : i ≡ j = omega (arith, at) in
-    subst (λ k. IsPlaced (log ++ e ∷ []) m k) place-is (subst (λ k. IsPlaced (log ++ e ∷ []) k i) number-is (Contains-push log e)))
+    subst (λ k. IsPlaced (log ++ e ∷ []) m k) place-is
+    (subst (λ k. IsPlaced (log ++ e ∷ []) k i) number-is (Contains-push log e)))
 puts-goes v log p n i g a labels nexts all inside few h false found =
-    place-stays v log p i 0 (suc n) g labels nexts (Fills (step (label_of i) 0 (suc n) a) (v, (p, None))) all inside h found
+    place-stays v log p i 0 (suc n) g labels nexts (Fills (step (label_of i) 0 (suc n) a) (v, (p, None))) all inside h
+    found
     (λ m j number at is. absurd (let other : (cell labels i).0 ≡ 0 → ⊥ = λ same. grind (arith, nat_tests) in other is))
 
 -- a generation is put into a place, or nothing happens
@@ -428,13 +481,17 @@ puts-moves v p n i a inside few cs log kept pre away =
     (Fills (step (label_of i) 0 (suc n) a) (v, (p, None))) c log in
     subst P (sym kept.words) (
       label-within g kept.labels kept.nexts i kept.all inside,
-      ap (λ c. c.1) (label-at g kept.labels kept.nexts i (let all = kept.all in omega (arith, inside, all))) ∙ (kept.holds.labelled i inside).0,
-      puts-goes v log p n i g a kept.labels kept.nexts kept.all inside few kept.holds ((cell kept.labels i).0 == 0) refl,
+      ap (λ c. c.1) (label-at g kept.labels kept.nexts i (let all = kept.all in omega (arith, inside, all)))
+          ∙ (kept.holds.labelled i inside).0,
+      puts-goes v log p n i g a kept.labels kept.nexts kept.all inside few kept.holds ((cell kept.labels i).0 == 0)
+          refl,
     )
 
 -- what the word of a place says is what a look finds
-pub found-there : (place found : ℕ) (answer : Option ℕ) (old new : List Change) → TellsPlace new place found → IsPrefix old new
-    → ((n : ℕ) → answer ≡ Some n → found ≡ suc n) → ((n : ℕ) → found ≡ suc n → answer ≡ Some n) → FindsThere place answer old new
+pub found-there : (place found : ℕ) (answer : Option ℕ) (old new : List Change) → TellsPlace new place found
+    → IsPrefix old new
+    → ((n : ℕ) → answer ≡ Some n → found ≡ suc n) → ((n : ℕ) → found ≡ suc n → answer ≡ Some n)
+    → FindsThere place answer old new
 found-there place found answer old new t more same back = record {
   there = λ n is. t.there n (same n is);
   left = λ n is other. ⊎_elim (λ here. absurd (other (back n here))) (λ left. left)
@@ -442,7 +499,8 @@ found-there place found answer old new t more same back = record {
 }
 
 -- whether a look at a place found the generation with this number
-pub has-found : (i n found : ℕ) (old new : List Change) → FindsThere i (Some found) old new → (b : Bool) → (found == n) ≡ b
+pub has-found : (i n found : ℕ) (old new : List Change) → FindsThere i (Some found) old new → (b : Bool)
+    → (found == n) ≡ b
     → MatchBool b (IsPlaced new n i) (IsPlaced old n i → HasLeft new n)
 has-found i n found old new finds true is =
     let same : found ≡ n = grind (arith, nat_tests) in

@@ -5,11 +5,13 @@ use Rattle.kfifo_pool.specs.Pooled.{Pooled}
 use Rattle.kfifo_live.specs.declared.payload.Taken.TheVariants as K
 use Rattle.kfifo_live.specs.declared.payload.sealing.TakenOrSealed.{TakenOrSealed}
 use Rattle.kfifo_renewing.specs.declared.change.Change.{Change}
-use Rattle.kfifo_renewing.specs.Renewing.{Follows, Generations, HasAll, IsLater, LooksAgain, TakesBy, TakesFirst, TakesNewest, TakesThere}
-use Rattle.kfifo_renewing.specs.Renewing.{with_newest, with_seen}
-use Rattle.kfifo_renewing.proofs.Following.{Looked, both-before, follows-trans, later-newest, later-refl, later-trans, looked-follows, looked-newest}
+use Rattle.kfifo_renewing.specs.Renewing.{Follows, Generations, HasAll, IsLater, LooksAgain, TakesBy, TakesFirst}
+use Rattle.kfifo_renewing.specs.Renewing.{TakesNewest, TakesThere, with_newest, with_seen}
+use Rattle.kfifo_renewing.proofs.Following.{Looked, both-before, follows-trans, later-newest, later-refl, later-trans}
+use Rattle.kfifo_renewing.proofs.Following.{looked-follows, looked-newest}
 
-module _ {T G : Type 0} (R : Taken G → Pooled T → Pooled T → Type 0) (S : TakenOrSealed G → Pooled T → Pooled T → Type 0) where
+module _ {T G : Type 0} (R : Taken G → Pooled T → Pooled T → Type 0) (S : TakenOrSealed G → Pooled T → Pooled T
+    → Type 0) where
   -- a call by a handle that had looked before it
   pub takes-from-after : (answer : Taken G) (old mid new : Generations T) → Follows old mid → TakesBy R S answer mid new
       → TakesBy R S answer old new
@@ -25,7 +27,8 @@ module _ {T G : Type 0} (R : Taken G → Pooled T → Pooled T → Type 0) (S : 
   )
 
   -- a take by a handle with one generation, after a look that found no later one
-  pub took-here : (answer : Taken G) (g new : Generations T) (found : ℕ) (log : List Change) → Looked found log g → found ≡ 0
+  pub took-here : (answer : Taken G) (g new : Generations T) (found : ℕ) (log : List Change) → Looked found log g
+      → found ≡ 0
       → HasAll (with_seen g log) → g.older ≡ [] → IsLater (with_seen g log) new → new.number ≡ g.number → new.older ≡ []
       → TakesNewest R answer (with_seen g log) new → TakesBy R S answer g new
   took-here answer g new found log looked none all alone later number older takes = (
@@ -47,8 +50,10 @@ module _ {T G : Type 0} (R : Taken G → Pooled T → Pooled T → Type 0) (S : 
   )
 
   -- it found something, or lost each round
-  pub took-some : (answer : Taken G) (g : Generations T) (found : ℕ) (log : List Change) (h : Pooled T) → Looked found log g → found ≡ 0
-      → HasAll (with_seen g log) → g.older ≡ [] → TakesThere R answer g.newest h → answer ≢ K.Empty → TakesBy R S answer g (with_newest (with_seen g log) h)
+  pub took-some : (answer : Taken G) (g : Generations T) (found : ℕ) (log : List Change) (h : Pooled T)
+      → Looked found log g → found ≡ 0
+      → HasAll (with_seen g log) → g.older ≡ [] → TakesThere R answer g.newest h → answer ≢ K.Empty
+      → TakesBy R S answer g (with_newest (with_seen g log) h)
   took-some answer g found log h looked none all alone takes some =
       took-here answer g (with_newest (with_seen g log) h) found log looked none all alone
       (later-newest (with_seen g log) (with_newest (with_seen g log) h) h refl) refl alone
@@ -66,6 +71,7 @@ module _ {T G : Type 0} (R : Taken G → Pooled T → Pooled T → Type 0) (S : 
       (ap (λ (v : Generations T). v.number) same) (ap (λ (v : Generations T). v.older) same ∙ alone)
       (record {
         taken = taken;
-        did = subst (λ (x : Pooled T). TakesThere R taken g.newest x) (sym (ap (λ (v : Generations T). v.newest) same)) takes;
+        did = subst (λ (x : Pooled T). TakesThere R taken g.newest x) (sym (ap (λ (v : Generations T). v.newest) same))
+            takes;
         then = again;
       })

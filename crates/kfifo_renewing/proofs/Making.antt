@@ -1,6 +1,7 @@
 -- Steps that make a generation, or make one the newest, keep the rule of the history.
-use Rattle.std.proofs.Common.{◌≡◌, ◌≢◌, ◌+◌, ◌<◌, ◌^◌, ◌==◌, ⊎_elim, ℕ, suc, Bool, true, false, List, [], ◌∷◌, ◌++◌, length}
-use Rattle.std.proofs.Common.{None, Some, slice_get, slice_set, refl, sym, ap, ◌∙◌, subst, arith, inl, inr, append_assoc, length-append}
+use Rattle.std.proofs.Common.{◌≡◌, ◌≢◌, ◌+◌, ◌<◌, ◌^◌, ◌==◌, ⊎_elim, ℕ, suc, Bool, true, false, List, [], ◌∷◌, ◌++◌}
+use Rattle.std.proofs.Common.{length, None, Some, slice_get, slice_set, refl, sym, ap, ◌∙◌, subst, arith, inl, inr}
+use Rattle.std.proofs.Common.{append_assoc, length-append}
 use Rattle.std.proofs.lemmas.Bool.Decides.{nat_tests}
 use Rattle.std.proofs.lemmas.List.{append-nil, get_or_append_left, get_or-set_other, get_or-set_same, length-set}
 use Rattle.atomic_table.specs.Seated.{TableId}
@@ -21,7 +22,8 @@ use Rattle.kfifo_renewing.proofs.Keeping.{within, words-of}
 use Rattle.kfifo_renewing.proofs.Emptying.{away-next}
 
 -- a word more, of a generation that was never the newest
-holds-made : (g : ℕ) (labels nexts : List Cell) (log : List Change) (t : TableId) → g + 1 < 2 ^ 32 → Holds log g labels nexts
+holds-made : (g : ℕ) (labels nexts : List Cell) (log : List Change) (t : TableId) → g + 1 < 2 ^ 32
+    → Holds log g labels nexts
     → Holds (log ++ making_of t ∷ []) (g + 1) labels (nexts ++ (0, false) ∷ [])
 holds-made g labels nexts log t room h =
     let e = making_of t in
@@ -37,7 +39,8 @@ holds-made g labels nexts log t room h =
       told = λ n was.
           let before = was-less log e n same was in
           let t = h.told n before in
-          subst (λ c. (c.1 ≡ true) × TellsNext (log ++ e ∷ []) n c.0) (sym (first n (within g labels nexts log n h before)))
+          subst (λ c. (c.1 ≡ true) × TellsNext (log ++ e ∷ []) n c.0)
+          (sym (first n (within g labels nexts log n h before)))
           (t.0, tells-same log e n (cell nexts n).0 same t.1);
       placed = λ n some was.
           let p = h.placed n some (was-less log e n same was) in
@@ -57,7 +60,8 @@ holds-made g labels nexts log t room h =
           );
     }
 
-numbers-goes : (v log : List Change) (p : Nib) (t : TableId) (old g : ℕ) (labels nexts : List Cell) → length labels ≡ place_count
+numbers-goes : (v log : List Change) (p : Nib) (t : TableId) (old g : ℕ) (labels nexts : List Cell)
+    → length labels ≡ place_count
     → Holds log g labels nexts → old + 1 < 2 ^ 32 → (b : Bool) → (g == old) ≡ b
     → Goes IsKept shown moved 0 (v, (p, None)) (λ n. either (n == old) (old + 1) n)
     (GivesNumber (step 0 old (old + 1) (making_of t)) (v, (p, None))) (words-of g labels nexts) log
@@ -67,14 +71,17 @@ numbers-goes v log p t old g labels nexts all h room true found =
     let made-is : made (log ++ e ∷ []) ≡ made log ++ t ∷ [] = made-append log (e ∷ []) in
     let at : old + 1 ≡ length (made log) = let count = h.count in omega (arith, here, count) in
     let long = length-append labels nexts in
-    let key : suc (length (labels ++ nexts)) ≡ key_of (old + 1) = let each = h.each in omega (arith, each, here, long, all) in
+    let key : suc (length (labels ++ nexts)) ≡ key_of (old + 1) = let each = h.each in
+    omega (arith, each, here, long, all) in
     let behind : words-of (g + 1) labels nexts ++ (0, false) ∷ [] ≡ words-of (g + 1) labels (nexts ++ (0, false) ∷ []) =
     ap (λ l. (g + 1, true) ∷ l) (append_assoc labels nexts ((0, false) ∷ [])) in
-    goes-by 0 v p (λ n. either (n == old) (old + 1) n) (GivesNumber (step 0 old (old + 1) e) (v, (p, None))) (words-of g labels nexts)
+    goes-by 0 v p (λ n. either (n == old) (old + 1) n) (GivesNumber (step 0 old (old + 1) e) (v, (p, None)))
+    (words-of g labels nexts)
     (words-of (g + 1) labels nexts) log (e ∷ []) (g, true) adds refl
     (rw found (ap (λ n. words-of n labels nexts) (let up : old + 1 ≡ g + 1 = omega (arith, here) in up))) tt
     (subst (λ l. IsKept l (log ++ e ∷ [])) (sym behind)
-    (kept-of (g + 1) labels (nexts ++ (0, false) ∷ []) (log ++ e ∷ []) all (holds-made g labels nexts log t (omega (arith, room, here)) h)))
+    (kept-of (g + 1) labels (nexts ++ (0, false) ∷ []) (log ++ e ∷ []) all
+    (holds-made g labels nexts log t (omega (arith, room, here)) h)))
     (λ is. (
       ap (λ k. nib may_make k 0) key,
       λ q asked. subst (λ l. slice_get l (old + 1) ≡ Some q.table) (sym made-is)
@@ -99,14 +106,16 @@ numbers-moves v p t old room cs log kept pre away =
     subst P (sym kept.words) (
       omega arith,
       refl,
-      numbers-goes v log p t old kept.greatest kept.labels kept.nexts kept.all kept.holds room (kept.greatest == old) refl,
+      numbers-goes v log p t old kept.greatest kept.labels kept.nexts kept.all kept.holds room (kept.greatest == old)
+          refl,
     )
 
 -- the words once generation m has become the newest after n
 abbrev renewed : List Cell → ℕ → ℕ → List Cell
 renewed nexts n m = slice_set (slice_set nexts n (m, true)) m (0, true)
 
-tells-before : (g : ℕ) (labels nexts : List Cell) (log : List Change) (n m x : ℕ) → Holds log g labels nexts → newest_of log ≡ n → n < m
+tells-before : (g : ℕ) (labels nexts : List Cell) (log : List Change) (n m x : ℕ) → Holds log g labels nexts
+    → newest_of log ≡ n → n < m
     → WasNewest (log ++ C.Newest m ∷ []) m → m < 2 ^ 32 → x < length nexts → WasNewest log x → (b : Bool) → (x == n) ≡ b
     → ((cell (slice_set nexts n (m, true)) x).1 ≡ true)
     × TellsNext (log ++ C.Newest m ∷ []) x (cell (slice_set nexts n (m, true)) x).0
@@ -120,7 +129,8 @@ tells-before g labels nexts log n m x h is above later small inside was true e =
     (refl, record { newest = λ none. absurd (omega (arith, none, above)); next = λ some. (above, small, later) }))
 tells-before g labels nexts log n m x h is above later small inside was false e =
     let apart : x ≢ n = λ same. grind (arith, nat_tests) in
-    let at : cell (slice_set nexts n (m, true)) x ≡ cell nexts x = get_or-set_other nexts n x (m, true) (0, false) apart in
+    let at : cell (slice_set nexts n (m, true)) x ≡ cell nexts x =
+    get_or-set_other nexts n x (m, true) (0, false) apart in
     let t = h.told x was in
     subst (λ c. (c.1 ≡ true) × TellsNext (log ++ C.Newest m ∷ []) x c.0) (sym at) (
       t.0,
@@ -134,14 +144,16 @@ tells-before g labels nexts log n m x h is above later small inside was false e 
       },
     )
 
-tells-renewed : (g : ℕ) (labels nexts : List Cell) (log : List Change) (n m x : ℕ) → Holds log g labels nexts → newest_of log ≡ n → n < m
+tells-renewed : (g : ℕ) (labels nexts : List Cell) (log : List Change) (n m x : ℕ) → Holds log g labels nexts
+    → newest_of log ≡ n → n < m
     → m < length nexts → newest_of (log ++ C.Newest m ∷ []) ≡ m → WasNewest (log ++ C.Newest m ∷ []) x
     → ((cell (renewed nexts n m) x).1 ≡ true) × TellsNext (log ++ C.Newest m ∷ []) x (cell (renewed nexts n m) x).0
 tells-renewed g labels nexts log n m x h is above made-it now was =
     let P : Cell → Type 0 = λ c. (c.1 ≡ true) × TellsNext (log ++ C.Newest m ∷ []) x c.0 in
     let each = h.each in
     let small = h.small in
-    let later : WasNewest (log ++ C.Newest m ∷ []) m = subst (WasNewest (log ++ C.Newest m ∷ [])) now (was-now (log ++ C.Newest m ∷ [])) in
+    let later : WasNewest (log ++ C.Newest m ∷ []) m =
+    subst (WasNewest (log ++ C.Newest m ∷ [])) now (was-now (log ++ C.Newest m ∷ [])) in
     let long : length (slice_set nexts n (m, true)) ≡ length nexts = length-set nexts n (m, true) in
     ⊎_elim
     (λ before.
@@ -155,13 +167,15 @@ tells-renewed g labels nexts log n m x h is above made-it now was =
     let at : x ≡ m = last ∙ now in
     let here : cell (renewed nexts n m) m ≡ (0, true) =
     get_or-set_same (slice_set nexts n (m, true)) m (0, true) (0, false) (omega (arith, long, made-it)) in
-    subst (λ k. ((cell (renewed nexts n m) k).1 ≡ true) × TellsNext (log ++ C.Newest m ∷ []) k (cell (renewed nexts n m) k).0) (sym at)
+    subst (λ k. ((cell (renewed nexts n m) k).1 ≡ true) × TellsNext (log ++ C.Newest m ∷ []) k
+    (cell (renewed nexts n m) k).0) (sym at)
     (subst (λ c. (c.1 ≡ true) × TellsNext (log ++ C.Newest m ∷ []) m c.0) (sym here)
     (refl, record { newest = λ none. now; next = λ some. absurd (omega (arith, some)) })))
     (was-more log (C.Newest m) x was)
 
 -- the rule once generation m, which is in a place, has become the newest after n
-renewed-holds : (g : ℕ) (labels nexts : List Cell) (log : List Change) (n m i : ℕ) → Holds log g labels nexts → newest_of log ≡ n → n < m
+renewed-holds : (g : ℕ) (labels nexts : List Cell) (log : List Change) (n m i : ℕ) → Holds log g labels nexts
+    → newest_of log ≡ n → n < m
     → m < length nexts → (cell nexts m).1 ≡ false → i < place_count → IsPlaced log m i
     → Holds (log ++ C.Newest m ∷ []) g labels (renewed nexts n m)
 renewed-holds g labels nexts log n m i h is above made-it away inside there =
@@ -177,7 +191,8 @@ renewed-holds g labels nexts log n m i h is above made-it away inside there =
       small = h.small;
       told = λ x was. tells-renewed g labels nexts log n m x h is above made-it now was;
       placed = λ x some was. ⊎_elim
-          (λ before. let p = h.placed x some before in (p.0, p.1, contains-later log (log ++ e ∷ []) (C.Placed x p.0) more p.2))
+          (λ before. let p =
+          h.placed x some before in (p.0, p.1, contains-later log (log ++ e ∷ []) (C.Placed x p.0) more p.2))
           (λ last. subst (λ k. (j : ℕ) × (j < place_count) × IsPlaced (log ++ e ∷ []) k j) (sym (last ∙ now))
           (i, inside, contains-later log (log ++ e ∷ []) (C.Placed m i) more there))
           (was-more log e x was);
@@ -189,7 +204,11 @@ renewed-holds g labels nexts log n m i h is above made-it away inside there =
           let u = undone-same g labels nexts log e (λ k is. absurd cc) h x undone in (
             ⊎_elim
                 (λ low. inl (omega (arith, low, is, above, now)))
-                (λ out. inr (out.0, home-set (slice_set nexts n (m, true)) m 0 x (home-set nexts n m x out.1 (x == n) refl) (x == m) refl))
+                (λ out. inr (
+                  out.0,
+                  home-set (slice_set nexts n (m, true)) m 0 x
+                      (home-set nexts n m x out.1 (x == n) refl) (x == m) refl,
+                ))
                 u.0,
             λ was. ⊎_elim u.1
                 (λ last. absurd (⊎_elim
@@ -200,8 +219,10 @@ renewed-holds g labels nexts log n m i h is above made-it away inside there =
           );
     }
 
-renews-goes : (v log : List Change) (n m i g : ℕ) (a : Change) (labels nexts : List Cell) → length labels ≡ place_count → WasNewest log n → n < m
-    → i < place_count → IsPlaced log m i → m < length nexts → (cell nexts m).1 ≡ false → Holds log g labels nexts → (b : Bool)
+renews-goes : (v log : List Change) (n m i g : ℕ) (a : Change) (labels nexts : List Cell) → length labels ≡ place_count
+    → WasNewest log n → n < m
+    → i < place_count → IsPlaced log m i → m < length nexts → (cell nexts m).1 ≡ false → Holds log g labels nexts
+    → (b : Bool)
     → ((cell nexts n).0 == 0) ≡ b
     → Goes IsKept shown moved (key_of n) (v, (nib may_write (key_of m) 0, None)) (λ k. either (k == 0) m k)
     (Renews (step (key_of n) 0 m a) (v, (nib may_write (key_of m) 0, None))) (words-of g labels nexts) log
@@ -211,21 +232,27 @@ renews-goes v log n m i g a labels nexts all was above inside there made-it away
     let newest : newest_of log ≡ n = told.1.newest (grind (arith, nat_tests)) in
     let e = C.Newest m in
     let now : newest_of (log ++ e ∷ []) ≡ m = newest-append 0 log (e ∷ []) in
-    goes-by (key_of n) v p (λ k. either (k == 0) m k) (Renews (step (key_of n) 0 m a) (v, (p, None))) (words-of g labels nexts)
+    goes-by (key_of n) v p (λ k. either (k == 0) m k) (Renews (step (key_of n) 0 m a) (v, (p, None)))
+    (words-of g labels nexts)
     (words-of g labels (slice_set nexts n (m, true))) log (e ∷ []) (cell nexts n) gives (next-at g labels nexts n all)
     (rw found (set-next g labels nexts n (m, true) all)) refl
     (subst (λ l. IsKept l (log ++ e ∷ [])) (sym (set-next g labels (slice_set nexts n (m, true)) m (0, true) all))
     (kept-of g labels (renewed nexts n m) (log ++ e ∷ []) all
-    (renewed-holds g labels nexts log n m i h newest above made-it away inside there)))
-    (λ same. subst (WasNewest (log ++ e ∷ [])) now (was-now (log ++ e ∷ [])), λ other. absurd (other (grind (arith, nat_tests))))
+    (renewed-holds g labels nexts log n m i h newest above made-it away inside there))) (
+      λ same. subst (WasNewest (log ++ e ∷ [])) now (was-now (log ++ e ∷ [])),
+      λ other.
+          absurd (other (grind (arith, nat_tests))),
+    )
 renews-goes v log n m i g a labels nexts all was above inside there made-it away h false found =
     let p = nib may_write (key_of m) 0 in
     let none : log ++ [] ≡ log = append-nil log in
     let other : (cell nexts n).0 ≡ 0 → ⊥ = λ same. grind (arith, nat_tests) in
     let told = h.told n was in
-    goes-by (key_of n) v p (λ k. either (k == 0) m k) (Renews (step (key_of n) 0 m a) (v, (p, None))) (words-of g labels nexts)
+    goes-by (key_of n) v p (λ k. either (k == 0) m k) (Renews (step (key_of n) 0 m a) (v, (p, None)))
+    (words-of g labels nexts)
     (words-of g labels nexts) log [] (cell nexts n) keeps (next-at g labels nexts n all)
-    (rw found (set-next g labels nexts n ((cell nexts n).0, true) all ∙ ap (words-of g labels) (load-same nexts n told.0))) tt
+    (rw found (set-next g labels nexts n ((cell nexts n).0, true) all ∙ ap (words-of g labels)
+    (load-same nexts n told.0))) tt
     (subst (IsKept (words-of g labels nexts)) (sym none) (kept-of g labels nexts log all h))
     (λ same. absurd (other same), λ apart. refl)
 

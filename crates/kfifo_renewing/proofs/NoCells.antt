@@ -1,5 +1,6 @@
 -- Generations in which a handle has no cell: what a call with one finds there, and which are so after a change.
-use Rattle.std.proofs.Common.{◌≡◌, ◌<◌, ◌+◌, ◌-◌, ℕ, zero, suc, None, List, [], ◌∷◌, ◌++◌, All, take, drop, length, refl, sym, ap, ◌∙◌, subst, arith, inl, inr, slice_index_or}
+use Rattle.std.proofs.Common.{◌≡◌, ◌<◌, ◌+◌, ◌-◌, ℕ, zero, suc, None, List, [], ◌∷◌, ◌++◌, All, take, drop, length}
+use Rattle.std.proofs.Common.{refl, sym, ap, ◌∙◌, subst, arith, inl, inr, slice_index_or}
 use Rattle.std.proofs.lemmas.List.Elements.{All-append, All-cons, All-drop, All-nil}
 use Rattle.std.specs.Option.{option_or}
 use Rattle.kfifo_live.specs.declared.payload.Given.TheVariants as G
@@ -34,7 +35,8 @@ module _ {A : Type 0} where
   nothing-out n (suc i) = ap (λ k. drop {A = A} n (drop k [])) (one-more i) ∙ drop-nothing n
 
   -- where one is taken out
-  pub all-from-without : (P : A → Type 0) (xs : List A) (n i : ℕ) → All P (drop n xs) → All P (drop n (take i xs ++ drop (i + 1) xs))
+  pub all-from-without : (P : A → Type 0) (xs : List A) (n i : ℕ) → All P (drop n xs)
+      → All P (drop n (take i xs ++ drop (i + 1) xs))
   all-from-without P [] n i all = subst (All P) (sym (nothing-out n i)) (All-nil P)
   all-from-without P (x ∷ xs) zero i all = all-without P (x ∷ xs) (take i (x ∷ xs) ++ drop (i + 1) (x ∷ xs)) i refl all
   all-from-without P (x ∷ xs) (suc n) zero all = all-from-next P xs n all
@@ -42,7 +44,8 @@ module _ {A : Type 0} where
       subst (λ k. All P (drop n (take i xs ++ drop k (x ∷ xs)))) (sym (one-more i)) (all-from-without P xs n i all)
 
   -- where others come behind, of which it is so
-  pub all-from-append : (P : A → Type 0) (xs ys : List A) (n : ℕ) → All P (drop n xs) → All P ys → All P (drop n (xs ++ ys))
+  pub all-from-append : (P : A → Type 0) (xs ys : List A) (n : ℕ) → All P (drop n xs) → All P ys
+      → All P (drop n (xs ++ ys))
   all-from-append P [] ys n none all = All-drop P n ys all
   all-from-append P (x ∷ xs) ys zero each all = All-append P (x ∷ xs) ys each all
   all-from-append P (x ∷ xs) ys (suc n) each all = all-from-append P xs ys n each all
@@ -56,11 +59,14 @@ module _ {A : Type 0} where
   same-from (x ∷ xs) (y ∷ ys) (suc n) some same = ap (drop n) same
 
   -- the same index among those behind the first, and one more with another one before these
-  pub all-from-behind : (P : A → Type 0) (x : A) (xs ys : List A) (n : ℕ) → ys ≡ x ∷ xs → (n ≡ 0 → ⊥) → All P (drop n ys) → All P (drop (n - 1) xs)
+  pub all-from-behind : (P : A → Type 0) (x : A) (xs ys : List A) (n : ℕ) → ys ≡ x ∷ xs → (n ≡ 0 → ⊥)
+      → All P (drop n ys) → All P (drop (n - 1) xs)
   all-from-behind P x xs ys zero is some all = absurd (some refl)
-  all-from-behind P x xs ys (suc n) is some all = subst (λ k. All P (drop k xs)) (sym (one-less n)) (subst (λ l. All P (drop (suc n) l)) is all)
+  all-from-behind P x xs ys (suc n) is some all =
+      subst (λ k. All P (drop k xs)) (sym (one-less n)) (subst (λ l. All P (drop (suc n) l)) is all)
 
-  pub all-from-ahead : (P : A → Type 0) (x : A) (xs : List A) (n : ℕ) → (n ≡ 0 → ⊥) → All P (drop (n - 1) xs) → All P (drop n (x ∷ xs))
+  pub all-from-ahead : (P : A → Type 0) (x : A) (xs : List A) (n : ℕ) → (n ≡ 0 → ⊥) → All P (drop (n - 1) xs)
+      → All P (drop n (x ∷ xs))
   all-from-ahead P x xs zero some all = absurd (some refl)
   all-from-ahead P x xs (suc n) some all = subst (λ k. All P (drop k xs)) (one-less n) all
 
@@ -71,7 +77,8 @@ module _ {A : Type 0} where
   from-next P (y ∷ xs) zero x d inside is here all = All-cons P y xs (subst P is here) all
   from-next P (y ∷ xs) (suc i) x d inside is here all = from-next P xs i x d (omega (arith, inside)) is here all
 
-  pub all-from-at : (P : A → Type 0) (xs : List A) (n : ℕ) (x d : A) → 0 < n → n - 1 < length xs → x ≡ slice_index_or xs (n - 1) d → P x
+  pub all-from-at : (P : A → Type 0) (xs : List A) (n : ℕ) (x d : A) → 0 < n → n - 1 < length xs
+      → x ≡ slice_index_or xs (n - 1) d → P x
       → All P (drop n xs) → All P (drop (n - 1) xs)
   all-from-at P xs zero x d some inside is here all = absurd (omega (arith, some))
   all-from-at P xs (suc n) x d some inside is here all = subst (λ k. All P (drop k xs)) (sym (one-less n))
@@ -87,7 +94,8 @@ module _ {T : Type 0} where
   none-called C.Release h none = inr (refl, (ap (λ (c : CellsInHand). c.received) none, refl))
 
   -- a call finds no cell, and changes nothing
-  pub finds-none : (call : CellCall) (ps : List (PartView T)) → All HasNoCell ps → CallsFirst call (G.NoToken tt) (held_by ps) (held_by ps)
+  pub finds-none : (call : CellCall) (ps : List (PartView T)) → All HasNoCell ps
+      → CallsFirst call (G.NoToken tt) (held_by ps) (held_by ps)
   finds-none call [] all = (refl, refl)
   finds-none call (p ∷ ps) all =
       let each = all-next HasNoCell p ps (p ∷ ps) refl all in
@@ -97,4 +105,5 @@ module _ {T : Type 0} where
   reserved-none [] all = refl
   reserved-none (p ∷ ps) all =
       let each = all-next HasNoCell p ps (p ∷ ps) refl all in
-      ap (λ (c : CellsInHand). option_or (cell_in c.reserved) (reserved_in (held_by ps))) each.0 ∙ reserved-none ps each.1
+      ap (λ (c : CellsInHand). option_or (cell_in c.reserved) (reserved_in (held_by ps))) each.0
+      ∙ reserved-none ps each.1

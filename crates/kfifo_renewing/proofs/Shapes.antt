@@ -7,7 +7,8 @@ use Rattle.kfifo_renewing.specs.Renewing.{holding_again}
 -- whatever shows that the sizes are in their ranges
 abbrev IsOfSizes : Shape → ℕ → ℕ → ℕ → ℕ → Bool → Type 0
 IsOfSizes s k n last probes holds_again =
-    (a : 1 ≤ k) (b : k ≤ 64) (c : 2 ≤ n) (d : n ≤ 1024) (e : 2 ≤ last) (f : last < 2 ^ 40) (g : 1 ≤ probes) (h : probes ≤ k)
+    (a : 1 ≤ k) (b : k ≤ 64) (c : 2 ≤ n) (d : n ≤ 1024) (e : 2 ≤ last) (f : last < 2 ^ 40) (g : 1 ≤ probes)
+    (h : probes ≤ k)
     → record {
       k = k;
       n = n;
@@ -44,6 +45,8 @@ own_sizes s a b c d e f g h = λ i. record {
 pub holds : (s again : Shape) → again.k ≡ s.k → again.n ≡ s.n → again.last ≡ s.last → again.probes ≡ s.probes
     → again.holds_again ≡ true → again ≡ holding_again s
 holds s again k n last probes hold =
-    let all : IsOfSizes s again.k again.n again.last again.probes again.holds_again = rw (k, n, last, probes, hold) (own_sizes s) in
-    all again.some_slot again.few_slots again.some_segments again.few_segments again.some_versions again.few_versions again.some_probe
+    let all : IsOfSizes s again.k again.n again.last again.probes again.holds_again =
+    rw (k, n, last, probes, hold) (own_sizes s) in
+    all again.some_slot again.few_slots again.some_segments again.few_segments again.some_versions again.few_versions
+    again.some_probe
     again.few_probes

@@ -1,4 +1,5 @@
--- What the calls of a handle of a queue of cells do. A cell is that of a token of its generation: token x has cell x - 1.
+-- What the calls of a handle of a queue of cells do. A cell is that of a token of its generation: token x has cell x -
+-- 1.
 use Rattle.std.specs.Prelude.{◌≡◌, ◌≢◌, ◌⊎◌, ◌++◌, ℕ, false, true, List, [], ◌∷◌, map, Option, Some, None}
 use Rattle.std.specs.Option.{option_or}
 use Rattle.kfifo_live.specs.declared.payload.Given.{Given}
@@ -50,7 +51,8 @@ module _ {T : Type 0} where
     pub others : new ≡ with_newest old new.newest
     pub reserves : ReservesCell answer old.newest new.newest
 
-  -- A try: the handle follows others, and reserves a cell of its newest generation, which was the newest of the queue at
+  -- A try: the handle follows others, and reserves a cell of its newest generation, which was the newest of the queue
+  -- at
   -- a look just before. None: no cell was free there, or at a look another generation was the newest
   abbrev pub TriesToReserve : Option ℕ → Generations T → Generations T → Type 0
   TriesToReserve answer old new = (here : Generations T) × Follows old here

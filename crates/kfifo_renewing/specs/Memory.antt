@@ -1,4 +1,5 @@
--- What the calls with cells say of where a cell lies: its number in its generation. What a pointer reaches is in no clause.
+-- What the calls with cells say of where a cell lies: its number in its generation. What a pointer reaches is in no
+-- clause.
 use Rattle.std.specs.Prelude.{◌-◌, ℕ, List, map, Option, Some, None}
 use Rattle.kfifo_live.specs.declared.payload.Taken.{Taken}
 use Rattle.kfifo_live.specs.declared.payload.Taken.TheVariants as K

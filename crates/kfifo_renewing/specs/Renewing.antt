@@ -272,7 +272,8 @@ module _ {T : Type 0} where
   HaveOne o handles = (q : OpenQueue) × (book : Book) × (q.opened ≡ o) × All (HasOne q book) handles
       × (map (λ g. g.thread) handles ≡ count_up 0 o.threads)
 
-  -- a queue was opened with room for so many values, bare or with payloads, with the sizes for that capacity and versions
+  -- a queue was opened with room for so many values, bare or with payloads, with the sizes for that capacity and
+  -- versions
   -- up to `last`: these are its handles
   pub record OpensFor (bare : Bool) (k capacity last threads : ℕ) (handles : List (Generations T)) : Type 0 where
     pub sizes : Sizes

@@ -205,8 +205,8 @@ impl RenewingHandle<(), Cells> {
         self.call(CellCall::Release)
     }
 
-    /// Releases the cell that was received before, and takes one of the k oldest cells of the oldest generation that has
-    /// one. The cell is then this handle's alone, until it receives another one or releases it.
+    /// Releases the cell that was received before, and takes one of the k oldest cells of the oldest generation that
+    /// has one. The cell is then this handle's alone, until it receives another one or releases it.
     ///
     /// Returns Got with the cell, Empty, Busy or Worn, as `take` does for payloads.
     #[inline(always)]

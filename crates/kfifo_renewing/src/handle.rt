@@ -469,8 +469,8 @@ impl<T: Drop, K: Kind<T>> RenewingHandle<T, K> {
 
     /// Follows others that have opened a newer generation, and returns in how many generations the handle then is.
     ///
-    /// That is 1, but for the time of a change: an older one stays until it is found empty and is sealed, which it is not
-    /// while a handle counts among those that give to it. Returns None where others opened new ones all the time.
+    /// That is 1, but for the time of a change: an older one stays until it is found empty and is sealed, which it is
+    /// not while a handle counts among those that give to it. Returns None where others opened new ones all the time.
     pub fn generations(&mut self) -> Option<usize>
         ensures follows { Follows self.old self.new }
         ensures count { MatchOption result (IsBehind self.old self.new)

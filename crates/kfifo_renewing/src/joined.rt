@@ -217,8 +217,8 @@ impl<T: Drop> Leaving<Joined<T>> {
         )
     }
 
-    /// Takes from the generation, which is the newest no more. Where that is empty, and nobody gave to it before, it takes
-    /// again and seals it. Returns None where it was empty, and says whether it is sealed.
+    /// Takes from the generation, which is the newest no more. Where that is empty, and nobody gave to it before, it
+    /// takes again and seals it. Returns None where it was empty, and says whether it is sealed.
     #[inline(always)]
     pub(crate) fn take_older<K: Kind<T>>(&mut self, is_sealed: &mut bool) -> Option<Taken<K::Got>>
         requires { self.old.handle.held.pass.pass.opened.bare ≡ K.bare }

@@ -88,8 +88,8 @@ impl Label {
         found == 0
     }
 
-    /// Takes the generation of this part out of the place, if no other handle has. It is the newest no more, and the part
-    /// has seen it sealed empty.
+    /// Takes the generation of this part out of the place, if no other handle has. It is the newest no more, and the
+    /// part has seen it sealed empty.
     pub(crate) fn leave<T: Drop>(&self, part: &Leaving<Joined<T>>, history: &mut History)
         requires book { history.old.book ≡ self.now.book }
         requires part { IsPart history.old.log part.now }
@@ -114,8 +114,8 @@ impl Label {
         );
     }
 
-    /// Takes the generation with this number out of the place, if no other handle has. It is the newest no more, and has
-    /// gone, or was never the newest.
+    /// Takes the generation with this number out of the place, if no other handle has. It is the newest no more, and
+    /// has gone, or was never the newest.
     pub(crate) fn leave_other(&self, number: u32, history: &mut History)
         requires book { history.old.book ≡ self.now.book }
         requires over { number < newest_of history.old.log }

@@ -1,5 +1,6 @@
 //! The older generations of a handle: those before the newest one that it has joined.
-ghost use Rattle.std.specs.Prelude.{◌≡◌, ◌≤◌, ◌<◌, ◌+◌, ◌*◌, ◌^◌, ◌++◌, ◌∷◌, [], All, IfOk, drop, false, length, take, true};
+ghost use Rattle.std.specs.Prelude.{◌≡◌, ◌≤◌, ◌<◌, ◌+◌, ◌*◌, ◌^◌, ◌++◌, ◌∷◌, [], All, IfOk, drop, false, length, take};
+ghost use Rattle.std.specs.Prelude.{true};
 ghost use Rattle.std.specs.Prelude.{vec_capacity};
 ghost use mathlib.Core.List.{IsPrefix};
 ghost use Rattle.kfifo_live.specs.declared.view.Opening.{Opening};
@@ -110,8 +111,8 @@ impl<T: Drop> Older<T> {
         drop(gone);
     }
 
-    /// Takes from the first that is not found empty. Says whether it found one empty. Such a one goes from its place once
-    /// it is sealed.
+    /// Takes from the first that is not found empty. Says whether it found one empty. Such a one goes from its place
+    /// once it is sealed.
     #[inline(always)]
     pub(crate) fn take_first<K: Kind<T>>(
         &mut self,
@@ -263,8 +264,8 @@ fn take_first<T: Drop, K: Kind<T>>(
     }
 }
 
-/// Makes this call in the first of these generations in which the handle has such a cell. It has none in those from this
-/// index on.
+/// Makes this call in the first of these generations in which the handle has such a cell. It has none in those from
+/// this index on.
 fn call_first(parts: &mut [Leaving<Joined<()>>], with_cells: usize, call: CellCall) -> Given<()>
     requires bare { All (λ p. p.handle.held.pass.pass.opened.bare ≡ true) parts.old }
     requires none { All HasNoCell (drop with_cells parts.old) }

@@ -41,11 +41,11 @@ pub struct Lineage {
 
 /// A generation that the place shares with those that found it there.
 #[derive(Drop)]
-pub(crate) struct Held<T: Drop> {
+pub(crate) struct Occupant<T: Drop> {
     generation: Arc<Generation<T>, Global>,
 }
 
-impl<T: Drop> Fits for Held<T> {
+impl<T: Drop> Fits for Occupant<T> {
     type Tag = Lineage;
 
     ghost fits = { λ lineage held. IsOfLineage lineage held.generation.value };
@@ -54,7 +54,7 @@ impl<T: Drop> Fits for Held<T> {
 /// The places of a queue's generations. Each has a label, which says which generation is there.
 #[derive(Drop)]
 pub(crate) struct Places<T: Drop> {
-    places: Vec<Counted<Option<Held<T>>>>,
+    places: Vec<Counted<Option<Occupant<T>>>>,
     labels: Vec<Label>,
     pub(crate) lineage: Lineage,
 }
@@ -138,7 +138,7 @@ impl<T: Drop> Places<T> {
             let (found, claim) = self.places[index].turn(FREE, TAKEN);
             if found == FREE {
                 let _ = claim.put(
-                    Some(Held { generation }),
+                    Some(Occupant { generation }),
                     (u64::from(number) << 32) + PRESENT,
                 );
                 if self.labels[index].put(number, history) {
@@ -370,7 +370,7 @@ impl<T: Drop> Places<T> {
 }
 
 /// Empties a place whose word is this one, unless another thread changed it. The generation may go with it.
-fn clear<T: Drop>(place: &Counted<Option<Held<T>>>, word: u64) -> bool
+fn clear<T: Drop>(place: &Counted<Option<Occupant<T>>>, word: u64) -> bool
     requires { (word % 4 < 3) × (readers word ≡ 0) }
 {
     let (found, claim) = place.turn(word, word - state_in(word) + TAKEN);
@@ -383,7 +383,7 @@ fn clear<T: Drop>(place: &Counted<Option<Held<T>>>, word: u64) -> bool
 }
 
 /// Ends a look at a place. The last reader of a place that was to be emptied empties it.
-fn leave<T: Drop>(place: &Counted<Option<Held<T>>>, claim: Claim<'_, Option<Held<T>>>)
+fn leave<T: Drop>(place: &Counted<Option<Occupant<T>>>, claim: Claim<'_, Option<Occupant<T>>>)
     requires { claim.right ≡ 1 }
 {
     let word = claim.leave();

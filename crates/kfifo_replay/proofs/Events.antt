@@ -1,6 +1,6 @@
 -- The events that picks make, pick by pick.
-use Rattle.std.proofs.Common.{◌≡◌, ◌≢◌, ◌⊎◌, ℕ, ◌+◌, List, [], ◌∷◌, ◌++◌, length, Option, Some, None, Bool, true, false, cond, refl, sym}
-use Rattle.std.proofs.Common.{◌∙◌, ap, inl, inr, zero-add, eq-eqb, arith}
+use Rattle.std.proofs.Common.{◌≡◌, ◌≢◌, ◌⊎◌, ℕ, ◌+◌, List, [], ◌∷◌, ◌++◌, length, Option, Some, None, Bool, true, false}
+use Rattle.std.proofs.Common.{cond, refl, sym, ◌∙◌, ap, inl, inr, zero-add, eq-eqb, arith}
 use Rattle.std.specs.Prelude.{◌==◌, ◌&&◌, is_some}
 use Rattle.std.proofs.lemmas.Bool.{ne_eqb}
 use Rattle.std.proofs.lemmas.List.Sums.{sum_by-append}
@@ -10,7 +10,8 @@ use Rattle.kfifo_machine.specs.Runs.{event}
 use Rattle.kfifo_machine.proofs.Schedules.{Some-injective}
 use Rattle.kfifo_replay.specs.Picks.{begun_by, next_call, event_at, event_in, picked, and_then, events_from, events_of}
 
-pub events_from-none : (shape : Shape) (scripts : List (List Begin)) (picks : List ℕ) → events_from shape scripts None picks ≡ None
+pub events_from-none : (shape : Shape) (scripts : List (List Begin)) (picks : List ℕ)
+    → events_from shape scripts None picks ≡ None
 events_from-none shape scripts [] = refl
 events_from-none shape scripts (pick ∷ picks) = refl
 
@@ -48,10 +49,20 @@ pub record BeginsNext (place : Option Running) (next : Option Begin) (thread : �
   pub next_is : next ≡ Some call
   pub is : e ≡ event thread (Some call)
 
-pub how_made : (thread : ℕ) (place : Option Running) (next : Option Begin) (e : Event) → event_at thread place next ≡ Some e
+pub how_made : (thread : ℕ) (place : Option Running) (next : Option Begin) (e : Event)
+    → event_at thread place next ≡ Some e
     → GoesOn place thread e ⊎ BeginsNext place next thread e
-how_made thread (Some running) next e is = inl (record { running = running; there = refl; is = sym (Some-injective _ e is) })
-how_made thread None (Some call) e is = inr (record { call = call; idle = refl; next_is = refl; is = sym (Some-injective _ e is) })
+how_made thread (Some running) next e is = inl (record {
+  running = running;
+  there = refl;
+  is = sym (Some-injective _ e is);
+})
+how_made thread None (Some call) e is = inr (record {
+  call = call;
+  idle = refl;
+  next_is = refl;
+  is = sym (Some-injective _ e is);
+})
 how_made thread None None e is = absurd (cc)
 
 -- how many calls a thread began, with one event more
@@ -61,7 +72,8 @@ begun_by-snoc thread events e =
     sum_by-append (λ (x : Event). cond ((x.thread == thread) && is_some x.begin) 1 0) events (e ∷ [])
     ∙ ap (λ n. begun_by thread events + n) (zero-add (cond ((e.thread == thread) && is_some e.begin) 1 0))
 
-pub begun_by-goes_on : (thread own : ℕ) (events : List Event) → begun_by thread (events ++ event own None ∷ []) ≡ begun_by thread events
+pub begun_by-goes_on : (thread own : ℕ) (events : List Event) → begun_by thread (events ++ event own None ∷ [])
+    ≡ begun_by thread events
 begun_by-goes_on thread own events =
     let z : begun_by thread events + 0 ≡ begun_by thread events = omega arith in
     begun_by-snoc thread events (event own None) ∙ ap (λ n. begun_by thread events + n) (none (own == thread)) ∙ z

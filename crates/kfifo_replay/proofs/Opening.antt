@@ -1,6 +1,6 @@
 -- A replay of no pick.
-use Rattle.std.proofs.Common.{◌≡◌, ℕ, ◌+◌, ◌*◌, ◌≤◌, List, [], length, map, get_or, replicate, take, refl, sym, ◌∙◌, ap, subst, Vec}
-use Rattle.std.proofs.Common.{Global, arith}
+use Rattle.std.proofs.Common.{◌≡◌, ℕ, ◌+◌, ◌*◌, ◌≤◌, List, [], length, map, get_or, replicate, take, refl, sym, ◌∙◌, ap}
+use Rattle.std.proofs.Common.{subst, Vec, Global, arith}
 use Rattle.std.specs.Prelude.{sum_by}
 use Rattle.std.proofs.lemmas.List.Folds.{fold-map}
 use Rattle.std.proofs.lemmas.List.Sums.{sum_by-le}
@@ -26,10 +26,12 @@ few_calls shape scripts are =
 pub calls_in-map : (scripts : List (Vec Begin Global))
     → calls_in (map (λ (script : Vec Begin Global). script.items) scripts)
     ≡ sum_by (λ (script : Vec Begin Global). length script.items) scripts
-calls_in-map scripts = fold-map (λ a (s : List Begin). a + length s) (λ (script : Vec Begin Global). script.items) 0 scripts
+calls_in-map scripts = fold-map (λ a (s : List Begin). a + length s) (λ (script : Vec Begin Global). script.items) 0
+    scripts
 
 -- what a new replay holds stands for no pick
-pub stands_none : (shape : Shape) (scripts : List (List Begin)) (p : Player) → AreScripts shape scripts → p.shape ≡ shape
+pub stands_none : (shape : Shape) (scripts : List (List Begin)) (p : Player) → AreScripts shape scripts
+    → p.shape ≡ shape
     → p.scripts ≡ scripts → p.follower.shape ≡ shape
     → Follows (length scripts) (calls_in scripts) [] p.follower → p.begun ≡ replicate (length scripts) 0
     → p.book.log ≡ blank (length scripts) → calls_in scripts ≤ p.book.room → p.rollbacks ≡ 0 → p.trace.steps ≡ []
@@ -48,7 +50,7 @@ stands_none shape scripts p are shape_is scripts_are follower_shape follows begu
       log = log;
       room = room;
       rollbacks = rollbacks;
-      traced = subst (λ (steps : List Step). AreSteps shape (opening shape (length scripts)) (take p.trace.most []) steps) (sym none)
-          (subst (λ (events : List Event). AreSteps shape (opening shape (length scripts)) events [])
+      traced = subst (λ (steps : List Step). AreSteps shape (opening shape (length scripts)) (take p.trace.most [])
+          steps) (sym none) (subst (λ (events : List Event). AreSteps shape (opening shape (length scripts)) events [])
           (sym (take_all p.trace.most [] (omega arith))) tt);
     }

@@ -27,9 +27,11 @@ number_within h order n only is =
           (each_at (λ c. CanStand (call h c).end (call h c).op) n order only is))
     ]
 
-module _ (shape : Shape) (scripts : List (List Begin)) (picks : List ℕ) (p : Player) (s : StandsFor shape scripts picks p) where
+module _ (shape : Shape) (scripts : List (List Begin)) (picks : List ℕ) (p : Player)
+    (s : StandsFor shape scripts picks p) where
   -- the order that the linearizer names
-  pub order_is : (order : List ℕ) → ((threads room : ℕ) (events : List Event) → Follows threads room events p.follower → threads ≤ 64
+  pub order_is : (order : List ℕ)
+      → ((threads room : ℕ) (events : List Event) → Follows threads room events p.follower → threads ≤ 64
       → order ≡ order_of p.follower.shape threads events)
       → order ≡ order_of shape (length scripts) s.events
   order_is order says = says (length scripts) (calls_in scripts) s.events s.follows s.are_scripts.few
@@ -37,18 +39,23 @@ module _ (shape : Shape) (scripts : List (List Begin)) (picks : List ℕ) (p : P
 
   -- it is legal
   pub is_legal : IsLegal shape.k (history_of shape (length scripts) s.events) (order_of shape (length scripts) s.events)
-  is_legal = has_legal_order shape (length scripts) s.are_scripts.few s.events p.follower.world (reached_by shape scripts picks p s)
+  is_legal = has_legal_order shape (length scripts) s.are_scripts.few s.events p.follower.world
+      (reached_by shape scripts picks p s)
 
   -- and has no more calls than the scripts
   pub few_in_order : length (order_of shape (length scripts) s.events) ≤ 4096
   few_in_order =
       let w = within_replay shape scripts picks p s in
-      let all : length (order_of shape (length scripts) s.events) ≤ length (history_of shape (length scripts) s.events) =
-      at_most (length (history_of shape (length scripts) s.events)) (order_of shape (length scripts) s.events) is_legal.is_order.distinct
+      let all : length (order_of shape (length scripts) s.events) ≤ length
+      (history_of shape (length scripts) s.events) =
+      at_most (length (history_of shape (length scripts) s.events)) (order_of shape (length scripts) s.events)
+      is_legal.is_order.distinct
       (λ n is. number_within (history_of shape (length scripts) s.events) (order_of shape (length scripts) s.events) n
       is_legal.is_order.calls is) in
       omega (arith, all, w.known, w.calls, few_calls shape scripts s.are_scripts)
 
   -- the calls of the schedule that the picks make
-  pub history_same : (h : List Call) → IsHistoryOf shape scripts picks h → h ≡ history_of shape (length scripts) s.events
-  history_same h is = is.is ∙ ap (history_of shape (length scripts)) (Some-injective is.events s.events (sym is.made ∙ s.made))
+  pub history_same : (h : List Call) → IsHistoryOf shape scripts picks h
+      → h ≡ history_of shape (length scripts) s.events
+  history_same h is = is.is
+      ∙ ap (history_of shape (length scripts)) (Some-injective is.events s.events (sym is.made ∙ s.made))

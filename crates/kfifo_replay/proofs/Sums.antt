@@ -1,6 +1,6 @@
 -- Sums over the numbers below one.
-use Rattle.std.proofs.Common.{◌≡◌, ◌≢◌, ℕ, zero, suc, ◌+◌, ◌*◌, ◌<◌, ◌≤◌, List, length, get_or, take, refl, sym, ◌∙◌, ap, subst, inl, inr}
-use Rattle.std.proofs.Common.{arith}
+use Rattle.std.proofs.Common.{◌≡◌, ◌≢◌, ℕ, zero, suc, ◌+◌, ◌*◌, ◌<◌, ◌≤◌, List, length, get_or, take, refl, sym, ◌∙◌}
+use Rattle.std.proofs.Common.{ap, subst, inl, inr, arith}
 use Rattle.std.specs.Prelude.{sum_by}
 use Rattle.std.proofs.lemmas.Bool.{cases_lt}
 use Rattle.std.proofs.lemmas.List.Sums.{sum_by_more}
@@ -61,7 +61,9 @@ pub sum_below-get_or : {X : Type 0} (f : X → ℕ) (xs : List X) (d : X) (n : �
     → sum_below (λ i. f (get_or xs i d)) n ≡ sum_by f (take n xs)
 sum_below-get_or f xs d zero within = refl
 sum_below-get_or f xs d (suc n) within =
-    let rest : sum_below (λ i. f (get_or xs i d)) n ≡ sum_by f (take n xs) = sum_below-get_or f xs d n (omega (arith, within)) in
-    let more : sum_by f (take (n + 1) xs) ≡ sum_by f (take n xs) + f (get_or xs n d) = sum_by_more f xs n d (omega (arith, within)) in
+    let rest : sum_below (λ i. f (get_or xs i d)) n ≡ sum_by f (take n xs) =
+    sum_below-get_or f xs d n (omega (arith, within)) in
+    let more : sum_by f (take (n + 1) xs) ≡ sum_by f (take n xs) + f (get_or xs n d) =
+    sum_by_more f xs n d (omega (arith, within)) in
     let next : n + 1 ≡ suc n = omega arith in
     ap (λ s. s + f (get_or xs n d)) rest ∙ sym more ∙ ap (λ k. sum_by f (take k xs)) next

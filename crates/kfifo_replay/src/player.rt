@@ -169,7 +169,8 @@ impl Replay {
     /// ```
     ///
     /// `alloc`, the runtime's allocator, makes all the room. Refuses: BadScript where there is no script, or there are
-    /// over 64, or one has over 64 calls, a tick or a seal, or a call out of range; then Memory where an allocation failed.
+    /// over 64, or one has over 64 calls, a tick or a seal, or a call out of range; then Memory where an allocation
+    /// failed.
     pub fn open(alloc: Global, shape: Shape, scripts: &[Vec<Begin>]) -> Result<Replay, ReplayFault>
         ensures opened { IfOk result (λ r. StandsFor shape (map (λ script. script.items) scripts.now) [] r) }
         ensures refused { (result ≡ Err ReplayFault.BadScript)

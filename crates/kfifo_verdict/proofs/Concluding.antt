@@ -7,11 +7,12 @@ use Rattle.kfifo_verdict.proofs.Types.{Call}
 use Rattle.kfifo_model.specs.Validity.{IsHistory}
 use Rattle.kfifo_model.specs.Searching.{HasOrder}
 use Rattle.kfifo_verdict.specs.declared.verdicts.Evidence.{Evidence}
-use Rattle.kfifo_verdict.specs.declared.verdicts.Evidence.TheVariants.{NeverPut, TakenTwice, NotEmpty, TooYoung, TakenTooSoon}
-use Rattle.kfifo_verdict.specs.declared.verdicts.Evidence.TheVariants.{ItemsLeft, OlderLeft}
+use Rattle.kfifo_verdict.specs.declared.verdicts.Evidence.TheVariants.{NeverPut, TakenTwice, NotEmpty, TooYoung}
+use Rattle.kfifo_verdict.specs.declared.verdicts.Evidence.TheVariants.{TakenTooSoon, ItemsLeft, OlderLeft}
 use Rattle.kfifo_verdict.specs.Judging.{HasNoEvidence, IsFirstEvidence, HasNoneForEachK, IsFirstForEachK, IsFirstTo3}
 use Rattle.kfifo_verdict.specs.Judging.{IsLowerBound}
-use Rattle.kfifo_verdict.proofs.Refuting.{never_put_refutes, taken_twice_refutes, not_empty_refutes, too_young_refutes, too_soon_refutes}
+use Rattle.kfifo_verdict.proofs.Refuting.{never_put_refutes, taken_twice_refutes, not_empty_refutes, too_young_refutes}
+use Rattle.kfifo_verdict.proofs.Refuting.{too_soon_refutes}
 use Rattle.kfifo_verdict.proofs.Passing.{older_left_refutes}
 use Rattle.kfifo_verdict.proofs.Remaining.{items_left_refutes}
 
@@ -24,13 +25,15 @@ first_refutes k h (TakenTooSoon get) v f = too_soon_refutes k h get f.4
 first_refutes k h (ItemsLeft empty) v f = items_left_refutes k h empty v f.5
 first_refutes k h (OlderLeft get puts) v f = older_left_refutes k h get puts.items v f.6
 
-option_refutes : (k : ℕ) (h : List Call) (o : Option Evidence) → IsHistory h → MatchOption o (HasNoEvidence k h) (IsFirstEvidence k h)
+option_refutes : (k : ℕ) (h : List Call) (o : Option Evidence) → IsHistory h
+    → MatchOption o (HasNoEvidence k h) (IsFirstEvidence k h)
     → OnSome o (HasOrder k h → ⊥)
 option_refutes k h None v m = tt
 option_refutes k h (Some found) v m = first_refutes k h found v m
 
 pub found_refutes : {E : Type 0} (k : ℕ) (h : List Call) (r : Result (Option Evidence) E) → IsHistory h
-    → IfOk r (λ found. MatchOption found (HasNoEvidence k h) (IsFirstEvidence k h)) → IfOk r (λ found. OnSome found (HasOrder k h → ⊥))
+    → IfOk r (λ found. MatchOption found (HasNoEvidence k h) (IsFirstEvidence k h))
+    → IfOk r (λ found. OnSome found (HasOrder k h → ⊥))
 found_refutes k h (Ok o) v m = option_refutes k h o v m
 found_refutes k h (Err e) v m = tt
 
@@ -64,7 +67,8 @@ each_refutes k h (TakenTooSoon get) v f = too_soon_refutes k h get f.3
 each_refutes k h (ItemsLeft empty) v f = items_left_refutes k h empty v f.4
 each_refutes k h (OlderLeft get puts) v f = absurd f
 
-option_refutes_each : (h : List Call) (o : Option Evidence) → IsHistory h → MatchOption o (HasNoneForEachK h) (IsFirstForEachK h)
+option_refutes_each : (h : List Call) (o : Option Evidence) → IsHistory h
+    → MatchOption o (HasNoneForEachK h) (IsFirstForEachK h)
     → OnSome o ((k : ℕ) → HasOrder k h → ⊥)
 option_refutes_each h None v m = tt
 option_refutes_each h (Some found) v m = λ k. each_refutes k h found v m
@@ -76,7 +80,8 @@ found_refutes_each h (Ok o) v m = option_refutes_each h o v m
 found_refutes_each h (Err e) v m = tt
 
 -- no k below the bound has a legal order
-pub bound_refutes : (h : List Call) (bound k : ℕ) → IsHistory h → IsLowerBound h bound → 1 ≤ k → k < bound → HasOrder k h → ⊥
+pub bound_refutes : (h : List Call) (bound k : ℕ) → IsHistory h → IsLowerBound h bound → 1 ≤ k → k < bound
+    → HasOrder k h → ⊥
 bound_refutes h bound k v b positive lt =
     let a = b.attained (omega (arith, positive, lt)) in
     too_young_refutes k (bound - 1) h a.0 a.1.0 v (omega (arith, lt)) a.1.1

@@ -1,19 +1,20 @@
 -- How many numbers of a list, or below a bound, pass a test.
-use Rattle.std.proofs.Common.{ℕ, zero, suc, ◌≡◌, ◌≢◌, ◌+◌, ◌<◌, ◌≤◌, Bool, true, false, cond, count_by, List, [], ◌∷◌, ◌++◌, length, refl}
-use Rattle.std.proofs.Common.{sym, ◌∙◌, ap, subst, inl, inr, arith, length-append, add-one}
+use Rattle.std.proofs.Common.{ℕ, zero, suc, ◌≡◌, ◌≢◌, ◌+◌, ◌<◌, ◌≤◌, Bool, true, false, cond, count_by, List, [], ◌∷◌}
+use Rattle.std.proofs.Common.{◌++◌, length, refl, sym, ◌∙◌, ap, subst, inl, inr, arith, length-append, add-one}
 use Rattle.std.proofs.lemmas.Bool.{cases_Bool, cases_lt}
 use Rattle.std.proofs.lemmas.List.Sums.{sum_by-cons, sum_by_push}
 use Rattle.std.specs.List.Sorted.{IsPartitionPoint}
 use Rattle.std.specs.List.{AllByRecursion}
 use Rattle.kfifo_model.specs.Lists.{IsIn, EachPair}
-use Rattle.kfifo_model.proofs.Lists.{in_append, in_less, in_more, parted, each_at, each_from, pairs_less, pairs_across, pairs_back, Differ}
-use Rattle.kfifo_model.proofs.Lists.{cases_in}
+use Rattle.kfifo_model.proofs.Lists.{in_append, in_less, in_more, parted, each_at, each_from, pairs_less, pairs_across}
+use Rattle.kfifo_model.proofs.Lists.{pairs_back, Differ, cases_in}
 use Rattle.kfifo_verdict.specs.Evidence.{count_below}
 
 pub count_cons : (t : ℕ → Bool) (x : ℕ) (l : List ℕ) → count_by t (x ∷ l) ≡ cond (t x) 1 0 + count_by t l
 count_cons t x l = sum_by-cons (λ y. cond (t y) 1 0) x l
 
-pub count_parted : (t : ℕ → Bool) (a : List ℕ) (x : ℕ) (b : List ℕ) → count_by t (a ++ x ∷ b) ≡ cond (t x) 1 0 + count_by t (a ++ b)
+pub count_parted : (t : ℕ → Bool) (a : List ℕ) (x : ℕ) (b : List ℕ)
+    → count_by t (a ++ x ∷ b) ≡ cond (t x) 1 0 + count_by t (a ++ b)
 count_parted t [] x b = count_cons t x b
 count_parted t (y ∷ a) x b =
     let on = count_parted t a x b in
@@ -22,14 +23,16 @@ count_parted t (y ∷ a) x b =
     omega (arith, on, p, q)
 
 -- each number below n that passes is in the list
-pub count_into : (t : ℕ → Bool) (n : ℕ) (l : List ℕ) → ((c : ℕ) → c < n → t c ≡ true → IsIn c l) → count_below t n ≤ count_by t l
+pub count_into : (t : ℕ → Bool) (n : ℕ) (l : List ℕ) → ((c : ℕ) → c < n → t c ≡ true → IsIn c l)
+    → count_below t n ≤ count_by t l
 count_into t zero l f = omega arith
 count_into t (suc n) l f =
     elim (cases_Bool (t n)) [
       | inl passes ↦ (
           let p = parted n l (f n (omega arith) passes) in
           let on = count_into t n (p.front ++ p.back) (λ c lt e.
-          elim (in_more c n p.front p.back (let P : List ℕ → Type 0 = λ w. IsIn c w in subst P p.is (f c (omega arith) e)))
+          elim (in_more c n p.front p.back (let P : List ℕ → Type 0 =
+          λ w. IsIn c w in subst P p.is (f c (omega arith) e)))
           [ inl same ↦ absurd (omega arith) | inr i ↦ i ]) in
           let all = ap (count_by t) p.is ∙ count_parted t p.front n p.back in
           let one : ◌≡◌ {A = ℕ} (cond (t n) 1 0) 1 = ap (λ b. cond b 1 0) passes in
@@ -58,7 +61,8 @@ count_within t zero (x ∷ l) d f =
     let on = count_within t zero l d.1 (λ c i e. f c (inr i) e) in
     elim (cases_Bool (t x)) [
       | inl passes ↦ (let lt : x < 0 = f x (inl refl) passes in absurd (omega arith))
-      | inr never ↦ (let none : ◌≡◌ {A = ℕ} (cond (t x) 1 0) 0 = ap (λ b. cond b 1 0) never in let p = count_cons t x l in
+      | inr never ↦ (let none : ◌≡◌ {A = ℕ} (cond (t x) 1 0) 0 = ap (λ b. cond b 1 0) never in let p =
+          count_cons t x l in
           omega (arith, on, none, p))
     ]
 count_within t (suc n) l d f =
@@ -81,7 +85,8 @@ count_within t (suc n) l d f =
     ]
 
 -- distinct numbers, each with an item of its own in another list, are no more than that list has
-pub as_many : (Has : ℕ → ℕ → Type 0) → ((x p q : ℕ) → Has p x → Has q x → p ≡ q) → (l items : List ℕ) → EachPair Differ l
+pub as_many : (Has : ℕ → ℕ → Type 0) → ((x p q : ℕ) → Has p x → Has q x → p ≡ q) → (l items : List ℕ)
+    → EachPair Differ l
     → AllByRecursion (λ p. (x : ℕ) × IsIn x items × Has p x) l → length l ≤ length items
 as_many Has once [] items d f = omega arith
 as_many Has once (p ∷ l) items d f =
@@ -91,10 +96,13 @@ as_many Has once (p ∷ l) items d f =
     (each_from (λ q. (y : ℕ) × IsIn y (parts.front ++ parts.back) × Has q y) l (λ q i.
     let has = each_at (λ q. (y : ℕ) × IsIn y items × Has q y) q l f.1 i in (
       has.0,
-      elim (in_more has.0 x parts.front parts.back (let P : List ℕ → Type 0 = λ w. IsIn has.0 w in subst P parts.is has.1)) [
-        | inl same ↦ absurd (each_at (Differ p) q l d.0 i (once x p q f.0.2 (let P : ℕ → Type 0 = λ w. Has q w in subst P same has.2)))
-        | inr j ↦ j
-      ],
+      elim (in_more has.0 x parts.front parts.back (let P : List ℕ → Type 0 =
+          λ w. IsIn has.0 w in subst P parts.is has.1)) [
+            | inl same ↦
+                absurd (each_at (Differ p) q l d.0 i
+                (once x p q f.0.2 (let P : ℕ → Type 0 = λ w. Has q w in subst P same has.2)))
+            | inr j ↦ j
+          ],
       has.2,
     ))) in
     let size = ap length parts.is in
@@ -102,13 +110,15 @@ as_many Has once (p ∷ l) items d f =
 
 -- ---- lists that grow, and their beginnings
 
-pub count_push : {X : Type 0} (t : X → Bool) (l : List X) (x : X) → count_by t (l ++ x ∷ []) ≡ count_by t l + cond (t x) 1 0
+pub count_push : {X : Type 0} (t : X → Bool) (l : List X) (x : X)
+    → count_by t (l ++ x ∷ []) ≡ count_by t l + cond (t x) 1 0
 count_push t l x = sum_by_push (λ y. cond (t y) 1 0) l x
 
 pub below_more : (t : ℕ → Bool) (n : ℕ) → count_below t (n + 1) ≡ count_below t n + cond (t n) 1 0
 below_more t n = ap (count_below t) (add-one n)
 
-pub count_weaker : (t u : ℕ → Bool) (l : List ℕ) → ((c : ℕ) → IsIn c l → t c ≡ true → u c ≡ true) → count_by t l ≤ count_by u l
+pub count_weaker : (t u : ℕ → Bool) (l : List ℕ) → ((c : ℕ) → IsIn c l → t c ≡ true → u c ≡ true)
+    → count_by t l ≤ count_by u l
 count_weaker t u [] f = omega arith
 count_weaker t u (x ∷ l) f =
     let on = count_weaker t u l (λ c i e. f c (inr i) e) in
@@ -120,11 +130,13 @@ count_weaker t u (x ∷ l) f =
           let too : ◌≡◌ {A = ℕ} (cond (u x) 1 0) 1 = ap (λ b. cond b 1 0) (f x (inl refl) passes) in
           omega (arith, on, p, q, one, too)
           )
-      | inr never ↦ (let none : ◌≡◌ {A = ℕ} (cond (t x) 1 0) 0 = ap (λ b. cond b 1 0) never in omega (arith, on, p, q, none))
+      | inr never ↦
+          (let none : ◌≡◌ {A = ℕ} (cond (t x) 1 0) 0 = ap (λ b. cond b 1 0) never in omega (arith, on, p, q, none))
     ]
 
 -- the last number of a list that passes, where one does
-pub last_passing : (t : ℕ → Bool) (l : List ℕ) → 0 < count_by t l → (front : List ℕ) × (x : ℕ) × (back : List ℕ) × (l ≡ front ++ x ∷ back)
+pub last_passing : (t : ℕ → Bool) (l : List ℕ) → 0 < count_by t l → (front : List ℕ) × (x : ℕ) × (back : List ℕ)
+    × (l ≡ front ++ x ∷ back)
     × (t x ≡ true) × (count_by t back ≡ 0)
 last_passing t [] some = absurd (omega (arith, some))
 last_passing t (x ∷ l) some =
@@ -141,7 +153,8 @@ last_passing t (x ∷ l) some =
     ]
 
 -- where those that pass stand first, the place at which they end is their number
-pub count_at : {X : Type 0} (t : X → Bool) (l : List X) (i : ℕ) → i ≤ length l → IsPartitionPoint (λ y. t y ≡ true) (λ y. t y ≡ false) l i
+pub count_at : {X : Type 0} (t : X → Bool) (l : List X) (i : ℕ) → i ≤ length l
+    → IsPartitionPoint (λ y. t y ≡ true) (λ y. t y ≡ false) l i
     → count_by t l ≡ i
 count_at t [] i le point = omega (arith, le)
 count_at t (x ∷ l) zero le point =

@@ -1,5 +1,6 @@
 -- A chain of items of which one is certainly there at each moment of a call.
-use Rattle.std.proofs.Common.{ℕ, ◌≡◌, ◌≢◌, ◌<◌, ◌≤◌, ◌+◌, List, [], ◌∷◌, ◌++◌, length, get_or, refl, sym, subst, inl, inr, arith}
+use Rattle.std.proofs.Common.{ℕ, ◌≡◌, ◌≢◌, ◌<◌, ◌≤◌, ◌+◌, List, [], ◌∷◌, ◌++◌, length, get_or, refl, sym, subst, inl}
+use Rattle.std.proofs.Common.{inr, arith}
 use Rattle.std.proofs.lemmas.Bool.{cases_lt}
 use Rattle.kfifo_verdict.proofs.Types.{Call, Stay}
 use Rattle.std.specs.List.{AllByRecursion}
@@ -21,28 +22,36 @@ pub record IsChain (h : List Call) (e n : ℕ) (puts : List ℕ) : Type 0 where
       × IsCertainlyThere h p moment
   pub met : AllByRecursion (λ p. (moment : ℕ) × IsMomentOf h e moment × IsCertainlyThere h p moment) puts
   pub distinct : HasNoRepeats puts
-  pub gone : AllByRecursion (λ p. n < length h → (moment : ℕ) → first_of h n ≤ moment → IsCertainlyThere h p moment → ⊥) puts
+  pub gone : AllByRecursion (λ p. n < length h → (moment : ℕ) → first_of h n ≤ moment → IsCertainlyThere h p moment
+      → ⊥) puts
 
 -- call n begins at a moment of call e
-pub moment_here : (h : List Call) (e n : ℕ) → IsHistory h → e ≤ n → n < length h → (EndsBelow (call h e).end (first_of h n) → ⊥)
+pub moment_here : (h : List Call) (e n : ℕ) → IsHistory h → e ≤ n → n < length h
+    → (EndsBelow (call h e).end (first_of h n) → ⊥)
     → IsMomentOf h e (first_of h n)
 moment_here h e n v le inside open_ = (not_falling h e n v le inside, not_ended (call h e).end (first_of h n) open_)
 
 pub chain_more : (h : List Call) (e n : ℕ) (puts more : List ℕ) (s : Stay) → IsHistory h → IsStay h n s → n < length h
-    → (EndsBelow (call h e).end (first_of h n) → ⊥) → n < s.gone → more ≡ puts ++ s.put ∷ [] → IsChain h e n puts → IsChain h e s.gone more
+    → (EndsBelow (call h e).end (first_of h n) → ⊥) → n < s.gone → more ≡ puts ++ s.put ∷ [] → IsChain h e n puts
+    → IsChain h e s.gone more
 chain_more h e n puts more s v r inside open_ lt is c =
     let moment = moment_here h e n v c.from inside open_ in
     let there = r.there lt in
-    let now : IsCertainlyThere h s.put (first_of h n) = there (first_of h n) (omega arith) (λ gone_in. rising h n s.gone v lt gone_in) in
+    let now : IsCertainlyThere h s.put (first_of h n) =
+    there (first_of h n) (omega arith) (λ gone_in. rising h n s.gone v lt gone_in) in
     let M : List ℕ → Type 0 = λ w. AllByRecursion (λ p. (m : ℕ) × IsMomentOf h e m × IsCertainlyThere h p m) w in
     let D : List ℕ → Type 0 = λ w. HasNoRepeats w in
-    let G : List ℕ → Type 0 = λ w. AllByRecursion (λ p. s.gone < length h → (m : ℕ) → first_of h s.gone ≤ m → IsCertainlyThere h p m → ⊥)
+    let G : List ℕ
+    → Type 0 = λ w. AllByRecursion (λ p. s.gone < length h → (m : ℕ) → first_of h s.gone ≤ m → IsCertainlyThere h p
+    m → ⊥)
     w in
     let I : ℕ → List ℕ → Type 0 = λ p w. IsIn p w in
-    let old_gone = each_from (λ p. s.gone < length h → (m : ℕ) → first_of h s.gone ≤ m → IsCertainlyThere h p m → ⊥) puts
+    let old_gone = each_from (λ p. s.gone < length h → (m : ℕ) → first_of h s.gone ≤ m → IsCertainlyThere h p m
+    → ⊥) puts
     (λ p i gone_in m le t.
     let up = rising h n s.gone v lt gone_in in
-    each_at (λ q. n < length h → (m : ℕ) → first_of h n ≤ m → IsCertainlyThere h q m → ⊥) p puts c.gone i inside m (omega (arith, up, le))
+    each_at (λ q. n < length h → (m : ℕ) → first_of h n ≤ m → IsCertainlyThere h q m → ⊥) p puts c.gone i inside m
+    (omega (arith, up, le))
     t) in
     let start = c.from in
     record {
@@ -53,20 +62,24 @@ chain_more h e n puts more s v r inside open_ lt is c =
             | inl early ↦ (let p = c.covered m le (λ _. early) in (p.0, in_left p.0 puts (s.put ∷ []) p.1, p.2))
             | inr late ↦ (s.put, in_right s.put puts (s.put ∷ []) (inl refl), there m late below)
           ]);
-      met = subst M (sym is) (AllByRecursion-push (λ (p : ℕ). (m : ℕ) × IsMomentOf h e m × IsCertainlyThere h p m) puts s.put c.met
-          (first_of h n, moment, now));
+      met = subst M (sym is) (AllByRecursion-push (λ (p : ℕ). (m : ℕ) × IsMomentOf h e m × IsCertainlyThere h p m) puts
+          s.put c.met (first_of h n, moment, now));
       distinct = subst D (sym is) (pairs_push (λ p q. p ≢ q) puts s.put c.distinct (λ p i same.
           let P : ℕ → Type 0 = λ w. IsCertainlyThere h w (first_of h n) in
-          each_at (λ q. n < length h → (m : ℕ) → first_of h n ≤ m → IsCertainlyThere h q m → ⊥) p puts c.gone i inside (first_of h n)
+          each_at (λ q. n < length h → (m : ℕ) → first_of h n ≤ m → IsCertainlyThere h q m → ⊥) p puts c.gone i inside
+          (first_of h n)
           (omega arith) (subst P (sym same) now)));
       gone = subst G (sym is) (AllByRecursion-push
-          (λ (p : ℕ). s.gone < length h → (m : ℕ) → first_of h s.gone ≤ m → IsCertainlyThere h p m → ⊥) puts s.put old_gone
+          (λ (p : ℕ). s.gone < length h → (m : ℕ) → first_of h s.gone ≤ m → IsCertainlyThere h p m → ⊥) puts s.put
+          old_gone
           (λ gone_in m le t. let b = r.until lt m t gone_in in absurd (omega (arith, b, le))));
     }
 
 -- at the beginning of call n no item is certainly there
-pub chain_broken : (h : List Call) (e n : ℕ) (puts : List ℕ) (stays : List Stay) → IsHistory h → AreStays h stays → n < length h
-    → (EndsBelow (call h e).end (first_of h n) → ⊥) → (get_or stays n no_stay).gone ≤ n → IsChain h e n puts → FoundNotEmpty h e → ⊥
+pub chain_broken : (h : List Call) (e n : ℕ) (puts : List ℕ) (stays : List Stay) → IsHistory h → AreStays h stays
+    → n < length h
+    → (EndsBelow (call h e).end (first_of h n) → ⊥) → (get_or stays n no_stay).gone ≤ n → IsChain h e n puts
+    → FoundNotEmpty h e → ⊥
 chain_broken h e n puts stays v are inside open_ le c f =
     let t = f.1.covered (first_of h n) (moment_here h e n v c.from inside open_) in
     let lt = are.found n t.0 inside t.2 in
@@ -92,7 +105,8 @@ gap_at h stays e n are from inside open_ le = (
 abbrev pub HasGapsBelow : List Call → ℕ → Type 0
 HasGapsBelow h n = (e : ℕ) → e < n → does h e ≡ FindsNone → HasGap h e
 
-pub gaps_more : (h : List Call) (n : ℕ) → HasGapsBelow h n → (does h n ≡ FindsNone → HasGap h n) → HasGapsBelow h (n + 1)
+pub gaps_more : (h : List Call) (n : ℕ) → HasGapsBelow h n → (does h n ≡ FindsNone → HasGap h n)
+    → HasGapsBelow h (n + 1)
 gaps_more h n below here e lt empty =
     elim (cases_lt e n) [
       | inl less ↦ below e less empty

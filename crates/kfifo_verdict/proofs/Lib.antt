@@ -4,7 +4,7 @@ pub mod Runs
 pub mod Refuting
 pub mod Moments
 pub mod Telling
-pub mod Being
+pub mod ItemPresence
 pub mod Staying
 pub mod Covering
 pub mod Younger
@@ -13,14 +13,15 @@ pub mod Bounding
 pub mod Concluding
 pub mod Serving
 pub mod Queueing
+pub mod Scenes
 pub mod Turning
 pub mod Lining
 pub mod Listing
 pub mod Stepping
 pub mod Remaining
-pub mod Leaving
+pub mod EmptyWhileLeft
 pub mod Passing
 pub mod Ageing
 pub mod AtEnd
 pub mod Sufficing
-pub mod Sinking
+pub mod InsertionSort

@@ -1,6 +1,6 @@
 -- The first steps of a history's calls rise with their numbers.
-use Rattle.std.proofs.Common.{ℕ, zero, suc, ◌≡◌, ◌+◌, ◌<◌, ◌≤◌, true, false, leb, List, length, sym, ap, subst, inl, inr, arith, Option}
-use Rattle.std.proofs.Common.{Some, None}
+use Rattle.std.proofs.Common.{ℕ, zero, suc, ◌≡◌, ◌+◌, ◌<◌, ◌≤◌, true, false, leb, List, length, sym, ap, subst, inl}
+use Rattle.std.proofs.Common.{inr, arith, Option, Some, None}
 use Rattle.std.specs.List.{AllWithin}
 use Rattle.std.specs.List.Sorted.{IsNonDecreasingBy, IsPartitionPoint}
 use Rattle.std.proofs.lemmas.Bool.{cases_lt, leb-true, leb-false}
@@ -17,7 +17,8 @@ rising h i (suc j) v lt inside =
     let step = (v (suc j) inside).rises j (let e : j + 1 ≡ suc j = omega arith in e) in
     elim (cases_lt i j) [
       | inl below ↦ (let on = rising h i j v below here in omega (arith, on, step))
-      | inr le ↦ (let same : i ≡ j = omega arith in let P : ℕ → Type 0 = λ w. first_of h w < first_of h (suc j) in subst P (sym same) step)
+      | inr le ↦ (let same : i ≡ j = omega arith in let P : ℕ → Type 0 =
+          λ w. first_of h w < first_of h (suc j) in subst P (sym same) step)
     ]
 
 pub not_falling : (h : List Call) (i j : ℕ) → IsHistory h → i ≤ j → j < length h → first_of h i ≤ first_of h j
@@ -46,7 +47,8 @@ reached None a b f l = absurd l
 
 -- a call that precedes another has the lesser number
 pub precedes_below : (h : List Call) (c d : ℕ) → IsHistory h → c < length h → Precedes h c d → c < d
-precedes_below h c d v inside p = sooner h c d v inside (reached (call h c).end (first_of h c) (first_of h d) (v c inside).ends p)
+precedes_below h c d v inside p =
+    sooner h c d v inside (reached (call h c).end (first_of h c) (first_of h d) (v c inside).ends p)
 
 pub by_first : (h : List Call) → IsHistory h → IsNonDecreasingBy (λ c. c.first) h
 by_first h v i j d le inside =
@@ -64,7 +66,8 @@ begun_to h n step v inside begun k d low lt =
     omega (arith, e, r, begun)
 
 -- the first call that begins after a step
-pub up_to_here : (h : List Call) (i step : ℕ) → IsHistory h → i < length h → AllWithin (λ (c : Call). c.first ≤ step) h 0 i
+pub up_to_here : (h : List Call) (i step : ℕ) → IsHistory h → i < length h
+    → AllWithin (λ (c : Call). c.first ≤ step) h 0 i
     → step < first_of h i → IsPartitionPoint (λ (c : Call). c.first ≤ step) (λ (c : Call). step < c.first) h i
 up_to_here h i step v inside begun after = (
   begun,
@@ -80,7 +83,8 @@ pub up_to_point : (h : List Call) (step i : ℕ)
 up_to_point h step i p = (λ k d a b. leb-true _ _ (p.0 k d a b), λ k d a b. leb-false _ _ (p.1 k d a b))
 
 pub start_found : (h : List Call) (end : End) (i : ℕ) → i ≤ length h
-    → IsPartitionPoint (λ (c : Call). c.first ≤ end.last) (λ (c : Call). end.last < c.first) h i → IsStart h (Some end) i
+    → IsPartitionPoint (λ (c : Call). c.first ≤ end.last) (λ (c : Call). end.last < c.first) h i
+    → IsStart h (Some end) i
 start_found h end i le p = record {
   bound = le;
   starts = λ d inside. (

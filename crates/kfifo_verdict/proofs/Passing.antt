@@ -1,10 +1,10 @@
 -- 7: where k older items are certainly left at a get, none of the copies that it may have taken is among the first k.
-use Rattle.std.proofs.Common.{ℕ, zero, suc, ◌≡◌, ◌+◌, ◌-◌, ◌<◌, ◌≤◌, ◌⊎◌, ◌&&◌, Bool, true, false, cond, eqb, leb, ltb, count_by}
-use Rattle.std.proofs.Common.{List, [], ◌∷◌, ◌++◌, length, length-append, append_assoc, map, refl, sym, ◌∙◌, ap, subst, inl, inr, arith}
-use Rattle.std.proofs.Common.{add-one, Option, Some, None, slice_get}
+use Rattle.std.proofs.Common.{ℕ, zero, suc, ◌≡◌, ◌+◌, ◌-◌, ◌<◌, ◌≤◌, ◌⊎◌, ◌&&◌, Bool, true, false, cond, eqb, leb, ltb}
+use Rattle.std.proofs.Common.{count_by, List, [], ◌∷◌, ◌++◌, length, length-append, append_assoc, map, refl, sym, ◌∙◌}
+use Rattle.std.proofs.Common.{ap, subst, inl, inr, arith, add-one, Option, Some, None, slice_get}
 use Rattle.std.specs.List.{remove, AllByRecursion}
-use Rattle.std.proofs.lemmas.Bool.{cases_Bool, cases_lt, cases_eq, eq-eqb, ne_eqb, ltb-true, leb-true, le-leb, and_parts}
-use Rattle.std.proofs.lemmas.Bool.{and_from, false≢true, false_from_ne_true}
+use Rattle.std.proofs.lemmas.Bool.{cases_Bool, cases_lt, cases_eq, eq-eqb, ne_eqb, ltb-true, leb-true, le-leb}
+use Rattle.std.proofs.lemmas.Bool.{and_parts, and_from, false≢true, false_from_ne_true}
 use Rattle.std.proofs.lemmas.List.{map-append}
 use Rattle.std.proofs.lemmas.List.Sums.{sum_by-append}
 use Rattle.kfifo_model.specs.declared.calls.Call.{Call}
@@ -23,8 +23,8 @@ use Rattle.kfifo_verdict.specs.Evidence.{Rise, count_below, last_step, gets_begu
 use Rattle.kfifo_verdict.specs.Evidence.{IsOlderCopy, IsOlderLeft}
 use Rattle.kfifo_verdict.proofs.Counting.{count_cons, count_parted, count_into, count_within, count_weaker}
 use Rattle.kfifo_verdict.proofs.Runs.{times, copies, copies_push, copies_remove, in_get}
-use Rattle.kfifo_verdict.proofs.Refuting.{around, not_in_front, got_ended, put_inside, ended_inside, times_map, adds_is, takes_is}
-use Rattle.kfifo_verdict.proofs.Refuting.{rising_distinct, not_ended, below_end, from_last}
+use Rattle.kfifo_verdict.proofs.Refuting.{around, not_in_front, got_ended, put_inside, ended_inside, times_map, adds_is}
+use Rattle.kfifo_verdict.proofs.Refuting.{takes_is, rising_distinct, not_ended, below_end, from_last}
 use Rattle.kfifo_verdict.proofs.Moments.{not_falling, ends_later}
 use Rattle.kfifo_verdict.proofs.Remaining.{ends_at}
 
@@ -47,7 +47,8 @@ either None = inl refl
 either (Some m) = inr (m, refl)
 
 takes_step : (l m : List ℕ) (x : ℕ) (in_k there : Bool) → ((there ≡ true) → place l x < length l)
-    → cond (in_k && there) (Some (remove l (place l x))) None ≡ Some m → (place l x < length l) × (m ≡ remove l (place l x))
+    → cond (in_k && there) (Some (remove l (place l x))) None ≡ Some m → (place l x < length l)
+    × (m ≡ remove l (place l x))
 takes_step l m x true true f e = (f refl, let q : remove l (place l x) ≡ m = cc in sym q)
 takes_step l m x true false f e = absurd (cc)
 takes_step l m x false there f e = absurd (cc)
@@ -62,7 +63,8 @@ step_of k l Refused m e = let q : l ≡ m = cc in sym q
 step_of k l Wrong m e = absurd (cc)
 
 -- a run can take first copies up to some point
-pub first_run : (k : ℕ) (l : List ℕ) (es fs : List Effect) → IsRun k l (es ++ fs) → (mid : List ℕ) × FirstRun l es mid × IsRun k mid fs
+pub first_run : (k : ℕ) (l : List ℕ) (es fs : List Effect) → IsRun k l (es ++ fs) → (mid : List ℕ) × FirstRun l es mid
+    × IsRun k mid fs
 first_run k l [] fs r = (l, refl, r)
 first_run k l (e ∷ es) fs r =
     elim (either (next k l e)) [
@@ -73,7 +75,8 @@ first_run k l (e ∷ es) fs r =
           )
     ]
 
-first_split : (l : List ℕ) (es fs : List Effect) (after : List ℕ) → FirstRun l (es ++ fs) after → (mid : List ℕ) × FirstRun l es mid
+first_split : (l : List ℕ) (es fs : List Effect) (after : List ℕ) → FirstRun l (es ++ fs) after → (mid : List ℕ)
+    × FirstRun l es mid
     × FirstRun mid fs after
 first_split l [] fs after r = (l, refl, r)
 first_split l (e ∷ es) fs after r = let on = first_split r.0 es fs after r.2 in (on.0, (r.0, r.1, on.1), on.2)
@@ -121,12 +124,13 @@ less_one x (a ∷ z) w =
             front = z;
             rest = w;
             is = ap (λ i. remove (a ∷ l) i) at;
-            left = λ y. (let e : ◌≡◌ {A = ℕ} (cond (eqb y a) 1 0) (cond (eqb y x) 1 0) = ap (λ v. cond (eqb y v) 1 0) same in omega
-                (arith, e));
+            left = λ y. (let e : ◌≡◌ {A = ℕ} (cond (eqb y a) 1 0) (cond (eqb y x) 1 0) =
+                ap (λ v. cond (eqb y v) 1 0) same in omega (arith, e));
           }
           )
       | inr ne ↦ (
-          let at : place (a ∷ l) x ≡ suc (place l x) = ap (λ b. cond b 0 (place l x + 1)) (ne_eqb a x ne) ∙ add-one (place l x) in
+          let at : place (a ∷ l) x ≡ suc (place l x) = ap (λ b. cond b 0 (place l x + 1)) (ne_eqb a x ne)
+          ∙ add-one (place l x) in
           let on = less_one x z w in
           record {
             front = a ∷ on.front;
@@ -140,7 +144,8 @@ less_one x (a ∷ z) w =
                       ap (λ b. cond b 1 0) (ne_eqb y x (λ q. ne (sym here ∙ q))) in
                       omega (arith, was, none)
                       )
-                  | inr other ↦ (let none : ◌≡◌ {A = ℕ} (cond (eqb y a) 1 0) 0 = ap (λ b. cond b 1 0) (ne_eqb y a other) in
+                  | inr other ↦
+                      (let none : ◌≡◌ {A = ℕ} (cond (eqb y a) 1 0) 0 = ap (λ b. cond b 1 0) (ne_eqb y a other) in
                       omega (arith, was, none))
                 ]
                 );
@@ -158,7 +163,8 @@ record IsRest (z after : List ℕ) (es : List Effect) : Type 0 where
 rest_along : (z w l after : List ℕ) (es : List Effect) → l ≡ z ++ w → FirstRun l es after → IsRest z after es
 rest_along z w l after [] is r = record { front = z; rest = w; is = sym r ∙ is; left = λ y. omega arith }
 rest_along z w l after (Adds v ∷ es) is r =
-    let on = rest_along z (w ++ v ∷ []) r.0 after es (r.1 ∙ (ap (λ t. t ++ v ∷ []) is ∙ append_assoc z w (v ∷ []))) r.2 in
+    let on = rest_along z (w ++ v ∷ []) r.0 after es (r.1 ∙ (ap (λ t. t ++ v ∷ []) is ∙ append_assoc z w (v ∷ [])))
+    r.2 in
     record { front = on.front; rest = on.rest; is = on.is; left = λ y. (let e = on.left y in omega (arith, e)) }
 rest_along z w l after (Takes v ∷ es) is r =
     let one = less_one v z w in
@@ -180,7 +186,8 @@ rest_along z w l after (Wrong ∷ es) is r = absurd r.1
 
 -- ---- numbers with items, and lists of items
 
-copies_parted : (x : ℕ) (a : List ℕ) (y : ℕ) (b : List ℕ) → copies x (a ++ y ∷ b) ≡ cond (eqb x y) 1 0 + copies x (a ++ b)
+copies_parted : (x : ℕ) (a : List ℕ) (y : ℕ) (b : List ℕ)
+    → copies x (a ++ y ∷ b) ≡ cond (eqb x y) 1 0 + copies x (a ++ b)
 copies_parted x [] y b = refl
 copies_parted x (z ∷ a) y b = let on = copies_parted x a y b in omega (arith, on)
 
@@ -189,17 +196,20 @@ copies_in x [] some = absurd (omega (arith, some))
 copies_in x (y ∷ l) some =
     elim (cases_eq x y) [
       | inl same ↦ inl same
-      | inr ne ↦ inr (copies_in x l (let none : ◌≡◌ {A = ℕ} (cond (eqb x y) 1 0) 0 = ap (λ b. cond b 1 0) (ne_eqb x y ne) in
+      | inr ne ↦ inr (copies_in x l (let none : ◌≡◌ {A = ℕ} (cond (eqb x y) 1 0) 0 =
+          ap (λ b. cond b 1 0) (ne_eqb x y ne) in
           omega (arith, some, none)))
     ]
 
 in_copies : (x : ℕ) (l : List ℕ) → IsIn x l → 0 < copies x l
-in_copies x (y ∷ l) (inl same) = let one : ◌≡◌ {A = ℕ} (cond (eqb x y) 1 0) 1 = ap (λ b. cond b 1 0) (eq-eqb x y same) in omega (arith, one)
+in_copies x (y ∷ l) (inl same) = let one : ◌≡◌ {A = ℕ} (cond (eqb x y) 1 0) 1 =
+    ap (λ b. cond b 1 0) (eq-eqb x y same) in omega (arith, one)
 in_copies x (y ∷ l) (inr i) = let on = in_copies x l i in omega (arith, on)
 in_copies x [] i = absurd i
 
 -- where a list has as many of each item as there are numbers with it, it is as long
-pub as_long : (item : ℕ → ℕ) (l items : List ℕ) → ((y : ℕ) → count_by (λ p. eqb y (item p)) l ≤ copies y items) → length l ≤ length items
+pub as_long : (item : ℕ → ℕ) (l items : List ℕ) → ((y : ℕ) → count_by (λ p. eqb y (item p)) l ≤ copies y items)
+    → length l ≤ length items
 as_long item [] items f = omega arith
 as_long item (p ∷ l) items f =
     let y : ℕ = item p in
@@ -217,13 +227,15 @@ as_long item (p ∷ l) items f =
 
 -- Of a list without repeats, some stand in another one; those that pass the first test are others that pass the second.
 pub apart_from : (t u : ℕ → Bool) (l F : List ℕ) → EachPair Differ l → ((c : ℕ) → IsIn c l → IsIn c F)
-    → ((c : ℕ) → IsIn c l → u c ≡ false) → ((c : ℕ) → u c ≡ true → t c ≡ true) → count_by u F + count_by t l ≤ count_by t F
+    → ((c : ℕ) → IsIn c l → u c ≡ false) → ((c : ℕ) → u c ≡ true → t c ≡ true)
+    → count_by u F + count_by t l ≤ count_by t F
 apart_from t u [] F d into none weaker = let w = count_weaker u t F (λ c i q. weaker c q) in omega (arith, w)
 apart_from t u (p ∷ l) F d into none weaker =
     let parts = parted p F (into p (inl refl)) in
     let G : List ℕ = parts.front ++ parts.back in
     let on = apart_from t u l G d.1 (λ c i.
-    elim (in_more c p parts.front parts.back (let P : List ℕ → Type 0 = λ w. IsIn c w in subst P parts.is (into c (inr i)))) [
+    elim (in_more c p parts.front parts.back (let P : List ℕ → Type 0 =
+    λ w. IsIn c w in subst P parts.is (into c (inr i)))) [
       | inl same ↦ absurd (each_at (Differ p) c l d.0 i (sym same))
       | inr j ↦ j
     ]) (λ c i. none c (inr i)) weaker in
@@ -244,7 +256,8 @@ none_in t (x ∷ l) c none (inr i) holds = let p = count_cons t x l in none_in t
 none_in t [] c none i holds = absurd i
 
 -- the first number of a list that passes, where one does
-first_passing : (t : ℕ → Bool) (l : List ℕ) → 0 < count_by t l → (front : List ℕ) × (x : ℕ) × (back : List ℕ) × (l ≡ front ++ x ∷ back)
+first_passing : (t : ℕ → Bool) (l : List ℕ) → 0 < count_by t l → (front : List ℕ) × (x : ℕ) × (back : List ℕ)
+    × (l ≡ front ++ x ∷ back)
     × (t x ≡ true) × (count_by t front ≡ 0)
 first_passing t [] some = absurd (omega (arith, some))
 first_passing t (x ∷ l) some =
@@ -264,7 +277,8 @@ first_passing t (x ∷ l) some =
 abbrev IsSoonest : (ℕ → ℕ) → (ℕ → Bool) → List ℕ → ℕ → Type 0
 IsSoonest key t l m = (c : ℕ) → IsIn c l → t c ≡ true → (key m < key c) ⊎ ((key m ≡ key c) × (m ≤ c))
 
-soonest : (key : ℕ → ℕ) (t : ℕ → Bool) (l : List ℕ) → Rise l → 0 < count_by t l → (m : ℕ) × IsIn m l × (t m ≡ true) × IsSoonest key t l m
+soonest : (key : ℕ → ℕ) (t : ℕ → Bool) (l : List ℕ) → Rise l → 0 < count_by t l → (m : ℕ) × IsIn m l × (t m ≡ true)
+    × IsSoonest key t l m
 soonest key t [] rise some = absurd (omega (arith, some))
 soonest key t (x ∷ l) rise some =
     elim (cases_Bool (t x)) [
@@ -340,7 +354,8 @@ not_before None s f b = b
 -- ---- the order
 
 -- a call that precedes another one stands before it
-stands_before : (k : ℕ) (h : List Call) (order F : List ℕ) (q : ℕ) (B : List ℕ) → IsHistory h → q < length h → IsLegal k h order
+stands_before : (k : ℕ) (h : List Call) (order F : List ℕ) (q : ℕ) (B : List ℕ) → IsHistory h → q < length h
+    → IsLegal k h order
     → order ≡ F ++ q ∷ B → (p : ℕ) → Precedes h p q → IsIn p F
 stands_before k h order F q B v inside l is p pre =
     let P : List ℕ → Type 0 = λ w. IsIn p w in
@@ -351,7 +366,8 @@ stands_before k h order F q B v inside l is p pre =
       | inr i ↦ elim i [
         | inl same ↦ absurd (not_before (call h q).end (call h q).first (v q inside).ends
             (let Q : ℕ → Type 0 = λ w. Precedes h w q in subst Q same pre))
-        | inr j ↦ absurd (each_at (λ w. Precedes h w q → ⊥) p B (pairs_back (λ d e. Precedes h e d → ⊥) F (q ∷ B) before).0 j pre)
+        | inr j ↦ absurd (each_at (λ w. Precedes h w q → ⊥) p B
+            (pairs_back (λ d e. Precedes h e d → ⊥) F (q ∷ B) before).0 j pre)
       ]
     ]
 
@@ -366,21 +382,25 @@ added Wrong = 0
 -- Of each item, the listed puts stand in front, and as many that ended sooner as have been taken.
 listed_few : (h : List Call) (get q y : ℕ) (F puts : List ℕ) → Rise puts → AllByRecursion (IsOlderCopy h get q) puts
     → ((p : ℕ) → Precedes h p q → IsIn p F) → 0 < count_by (λ p. adds y (does h p)) puts
-    → count_by (λ p. adds y (does h p)) puts + gets_begun h y (last_step (call h get).end) ≤ count_by (λ p. adds y (does h p)) F
+    → count_by (λ p. adds y (does h p)) puts + gets_begun h y (last_step (call h get).end) ≤ count_by
+    (λ p. adds y (does h p)) F
 listed_few h get q y F puts rise older stands some =
     let t : ℕ → Bool = λ p. adds y (does h p) in
     let m = soonest (λ c. last_step (call h c).end) t puts rise some in
     let last : ℕ = last_step (call h m.0).end in
     let u : ℕ → Bool = λ c. adds y (does h c) && ends_below (call h c).end last in
     let copy = each_at (IsOlderCopy h get q) m.0 puts older m.1 in
-    let item_is : copy.item ≡ y = (let e : Adds copy.item ≡ Adds y = sym copy.puts ∙ adds_is y (does h m.0) m.2 in cc) in
-    let P : ℕ → Type 0 = λ w. gets_begun h w (last_step (call h get).end) ≤ puts_ended h w (last_step (call h m.0).end) in
+    let item_is : copy.item ≡ y =
+    (let e : Adds copy.item ≡ Adds y = sym copy.puts ∙ adds_is y (does h m.0) m.2 in cc) in
+    let P : ℕ → Type 0 = λ w. gets_begun h w (last_step (call h get).end) ≤ puts_ended h w
+    (last_step (call h m.0).end) in
     let kept = subst P item_is copy.kept in
     let lt = last_below (call h m.0).end (call h q).first copy.before in
     let all : puts_ended h y last ≤ count_by u F = count_into u (length h) F (λ c in_c e.
     stands c (ends_later (call h c).end last (call h q).first (omega (arith, lt))
     (ends_at (call h c).end last (and_parts (adds y (does h c)) (ends_below (call h c).end last) e).1))) in
-    let apart = apart_from t u puts F (rising_distinct puts rise) (λ c i. stands c (each_at (IsOlderCopy h get q) c puts older i).before)
+    let apart = apart_from t u puts F (rising_distinct puts rise)
+    (λ c i. stands c (each_at (IsOlderCopy h get q) c puts older i).before)
     (λ c i. false_from_ne_true (u c) (λ e.
     let both = and_parts (adds y (does h c)) (ends_below (call h c).end last) e in
     let less = last_below (call h c).end last (ends_at (call h c).end last both.1) in
@@ -394,11 +414,14 @@ listed_few h get q y F puts rise older stands some =
 no_more_than : (a b : ℕ) → a ≡ b → a ≤ b
 no_more_than a b e = omega (arith, e)
 
-none_is_left : (left put t1 t2 one t few early took : ℕ) → 0 < left → left ≡ put - t1 - t2 → t ≡ one + (t1 + t2) → one ≡ 0
+none_is_left : (left put t1 t2 one t few early took : ℕ) → 0 < left → left ≡ put - t1 - t2 → t ≡ one + (t1 + t2)
+    → one ≡ 0
     → put ≤ few → few ≤ early → early ≤ took → took ≤ t → ⊥
-none_is_left left put t1 t2 one t few early took up e w none sooner le a b = absurd (omega (arith, up, e, w, none, sooner, le, a, b))
+none_is_left left put t1 t2 one t few early took up e w none sooner le a b =
+    absurd (omega (arith, up, e, w, none, sooner, le, a, b))
 
-enough_left : (items listed begun put left t1 t2 one t : ℕ) → items ≤ listed → listed + begun ≤ put → left ≡ put - t1 - t2
+enough_left : (items listed begun put left t1 t2 one t : ℕ) → items ≤ listed → listed + begun ≤ put
+    → left ≡ put - t1 - t2
     → t ≡ one + (t1 + t2) → t ≤ begun → items ≤ left
 enough_left items listed begun put left t1 t2 one t a b e w c = omega (arith, a, b, e, w, c)
 
@@ -408,7 +431,8 @@ not_in (a ∷ z) w x zero never e = absurd (never (inl (let q : a ≡ x = cc in 
 not_in (a ∷ z) w x (suc i) never e = let le = not_in z w x i (λ j. never (inr j)) e in omega (arith, le)
 
 -- an item that does not stand in front of a list is no nearer than that is long
-too_far : (k x i : ℕ) (mid z w puts : List ℕ) (item : ℕ → ℕ) → mid ≡ z ++ w → slice_get mid i ≡ Some x → i < k → (IsIn x z → ⊥)
+too_far : (k x i : ℕ) (mid z w puts : List ℕ) (item : ℕ → ℕ) → mid ≡ z ++ w → slice_get mid i ≡ Some x → i < k
+    → (IsIn x z → ⊥)
     → length puts ≡ k → ((y : ℕ) → count_by (λ p. eqb y (item p)) puts ≤ copies y z) → ⊥
 too_far k x i mid z w puts item is at near never size few =
     let G : List ℕ → Type 0 = λ v. slice_get v i ≡ Some x in
@@ -416,9 +440,12 @@ too_far k x i mid z w puts item is at near never size few =
     let long = as_long item puts z few in
     absurd (omega (arith, far, long, size, near))
 
--- As many gets of the item as precede the get stand before it, so of the puts that stand before it some begins no sooner than `put`.
--- Before the first of these stand the older ones. When the get comes, the copies that stood before it are taken, and the older are not.
-pub older_left_refutes : (k : ℕ) (h : List Call) (get : ℕ) (puts : List ℕ) → IsHistory h → IsOlderLeft k h get puts → HasOrder k h → ⊥
+-- As many gets of the item as precede the get stand before it, so of the puts that stand before it some begins no
+-- sooner than `put`.
+-- Before the first of these stand the older ones. When the get comes, the copies that stood before it are taken, and
+-- the older are not.
+pub older_left_refutes : (k : ℕ) (h : List Call) (get : ℕ) (puts : List ℕ) → IsHistory h → IsOlderLeft k h get puts
+    → HasOrder k h → ⊥
 older_left_refutes k h get puts v n o =
     let x : ℕ = n.item in
     let q : ℕ = n.put in
@@ -437,7 +464,8 @@ older_left_refutes k h get puts v n o =
     let distinct = pairs_front Differ F (get ∷ a.back) a.distinct in
     let took : gets_before h x get ≤ count_by early F = count_into early (length h) F (λ c lt t.
     stands_before k h order F get a.back v in_get_ o.1 a.is c
-    (ends_at (call h c).end (call h get).first (and_parts (takes x (does h c)) (ends_below (call h c).end (call h get).first) t).1)) in
+    (ends_at (call h c).end (call h get).first
+    (and_parts (takes x (does h c)) (ends_below (call h c).end (call h get).first) t).1)) in
     let taken = count_weaker early (takes_of x) F
     (λ c i t. (and_parts (takes x (does h c)) (ends_below (call h c).end (call h get).first) t).0)
     in
@@ -447,14 +475,17 @@ older_left_refutes k h get puts v n o =
     let pF = times_map h (adds x) F in
     let few = n.few in
     let late : ℕ → Bool = λ c. adds x (does h c) && leb q c in
-    let below : (l : List ℕ) → EachPair Differ l → count_by late l ≡ 0 → count_by (adds_of x) l ≤ count_below (adds_of x) q = λ l d none.
+    let below : (l : List ℕ) → EachPair Differ l → count_by late l ≡ 0
+    → count_by (adds_of x) l ≤ count_below (adds_of x) q = λ l d none.
     count_within (adds_of x) q l d (λ c i t. elim (cases_lt c q) [
       | inl lt ↦ lt
       | inr le ↦ absurd (none_in late l c none i (and_from (adds x (does h c)) (leb q c) t (le-leb q c le)))
     ]) in
     let some : 0 < count_by late F = elim (cases_lt 0 (count_by late F)) [
       | inl more ↦ more
-      | inr none ↦ (let all = below F distinct (omega (arith, none)) in absurd (omega (arith, all, few, took, taken, even, there, tF, pF)))
+      | inr none ↦
+          (let all = below F distinct (omega (arith, none)) in
+          absurd (omega (arith, all, few, took, taken, even, there, tF, pF)))
     ] in
     let f = first_passing late F some in
     let front = f.0 in
@@ -508,7 +539,8 @@ older_left_refutes k h get puts v n o =
           let begun : ℕ → Bool = λ c. takes y (does h c) && leb (call h c).first (last_step (call h get).end) in
           let all = count_weaker (takes_of y) begun F (λ c i t.
           and_from (takes y (does h c)) (leb (call h c).first (last_step (call h get).end)) t
-          (le-leb (call h c).first (last_step (call h get).end) (from_last (call h get).end (call h c).first (got_ended h x get n.gets)
+          (le-leb (call h c).first (last_step (call h get).end)
+          (from_last (call h get).end (call h c).first (got_ended h x get n.gets)
           (not_ended (call h get).end (call h c).first (λ pre. not_in_front k h order get c a pre i))))) in
           let within : count_by begun F ≤ gets_begun h y (last_step (call h get).end) =
           count_within begun (length h) F distinct (λ c i t. ended_inside h c (got_ended h y c (takes_is y (does h c)

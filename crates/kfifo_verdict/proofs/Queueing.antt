@@ -1,6 +1,6 @@
 -- Triples of numbers in order, and calls by their turns.
-use Rattle.std.proofs.Common.{◌≡◌, ◌≢◌, ℕ, zero, suc, ◌+◌, ◌-◌, ◌<◌, ◌≤◌, ◌⊎◌, inl, inr, false, eqb, refl, sym, ◌∙◌, ap, subst, arith, List}
-use Rattle.std.proofs.Common.{length, get_or, map, Ordering, Less, Equal, Greater}
+use Rattle.std.proofs.Common.{◌≡◌, ◌≢◌, ℕ, zero, suc, ◌+◌, ◌-◌, ◌<◌, ◌≤◌, ◌⊎◌, inl, inr, false, eqb, refl, sym, ◌∙◌, ap}
+use Rattle.std.proofs.Common.{subst, arith, List, length, get_or, map, Ordering, Less, Equal, Greater}
 use Rattle.std.proofs.lemmas.Bool.{cases_eq, cases_lt, eq-eqb, ne_eqb, false≢true}
 use Rattle.std.proofs.lemmas.List.{get_or-map, get_or_default, length-map}
 use Rattle.std.proofs.lemmas.List.Sorted.{All-permutation, Contains-permutation, IsPermutation-map}
@@ -19,7 +19,8 @@ abbrev pub Lex : ℕ × ℕ × ℕ → ℕ × ℕ × ℕ → Type 0
 Lex a b = (a.0 < b.0) ⊎ ((a.0 ≡ b.0) × ((a.1 < b.1) ⊎ ((a.1 ≡ b.1) × (a.2 ≤ b.2))))
 
 -- the first numbers that differ decide
-first_tells : (x y : ℕ) (o : Ordering) → is_lt (ordering_then (nat_cmp y x) o) ≡ false → (x < y) ⊎ ((x ≡ y) × (is_lt o ≡ false))
+first_tells : (x y : ℕ) (o : Ordering) → is_lt (ordering_then (nat_cmp y x) o) ≡ false
+    → (x < y) ⊎ ((x ≡ y) × (is_lt o ≡ false))
 first_tells x y o e =
     elim (cases_lt x y) [
       | inl lt ↦ inl lt
@@ -77,8 +78,10 @@ lex_trans a b c (inr p) (inr q) = inr (p.0 ∙ q.0, second p.1 q.1)
     second (inr x) (inl y) = let e = x.0 in inl (omega (arith, e, y))
     second (inr x) (inr y) = let le = x.1 in let up = y.1 in inr (x.0 ∙ y.0, omega (arith, le, up))
 
-rises_by : (line : List (ℕ × ℕ × ℕ)) → IsSortedBy lower line → (i m : ℕ) → i + m < length line → Lex (place line i) (place line (i + m))
-rises_by line up i zero less = let z : i + 0 ≡ i = omega arith in let P : ℕ → Type 0 = λ w. Lex (place line i) (place line w) in
+rises_by : (line : List (ℕ × ℕ × ℕ)) → IsSortedBy lower line → (i m : ℕ) → i + m < length line
+    → Lex (place line i) (place line (i + m))
+rises_by line up i zero less = let z : i + 0 ≡ i = omega arith in let P : ℕ
+    → Type 0 = λ w. Lex (place line i) (place line w) in
     subst P (sym z) (lex_self (place line i))
 rises_by line up i (suc m) less =
     let before : Lex (place line i) (place line (i + m)) = rises_by line up i m (omega arith) in
@@ -89,7 +92,8 @@ rises_by line up i (suc m) less =
     subst P z (lex_trans (place line i) (place line (i + m)) (place line ((i + m) + 1)) before next)
 
 -- each is not higher than those behind it
-pub line_rises : (line : List (ℕ × ℕ × ℕ)) → IsSortedBy lower line → (i j : ℕ) → i ≤ j → j < length line → Lex (place line i) (place line j)
+pub line_rises : (line : List (ℕ × ℕ × ℕ)) → IsSortedBy lower line → (i j : ℕ) → i ≤ j → j < length line
+    → Lex (place line i) (place line j)
 line_rises line up i j le less =
     let z : i + (j - i) ≡ j = omega arith in
     let P : ℕ → Type 0 = λ w. Lex (place line i) (place line w) in
@@ -111,10 +115,11 @@ abbrev IsOwn : List Turn → ℕ × ℕ × ℕ → Type 0
 IsOwn ts e = (e.2 < length ts) × (e ≡ ((turn ts e.2).moment, (turn ts e.2).rank, e.2))
 
 contains_in : (l : List ℕ) (x : ℕ) → Contains l x → IsIn x l
-contains_in l x c = subst (λ y. IsIn y l) c.2 (subst (λ y. IsIn y l) (get_or_default l c.0 0 x c.1) (in_from_place l c.0 c.1))
+contains_in l x c =
+    subst (λ y. IsIn y l) c.2 (subst (λ y. IsIn y l) (get_or_default l c.0 0 x c.1) (in_from_place l c.0 c.1))
 
-module _ (ts : List Turn) (first sorted : List (ℕ × ℕ × ℕ)) (n : AreNumbered ts (length ts) first) (moved : IsPermutation first sorted)
-    (up : IsSortedBy lower sorted) where
+module _ (ts : List Turn) (first sorted : List (ℕ × ℕ × ℕ)) (n : AreNumbered ts (length ts) first)
+    (moved : IsPermutation first sorted) (up : IsSortedBy lower sorted) where
   number_first : (i : ℕ) → i < length ts → (place first i).2 ≡ i
   number_first i lt = ap (λ (t : ℕ × ℕ × ℕ). t.2) (n.at i lt)
 
@@ -149,11 +154,13 @@ module _ (ts : List Turn) (first sorted : List (ℕ × ℕ × ℕ)) (n : AreNumb
       let b : get_or (numbers first) j d ≡ j = number_at first j d in_j ∙ number_first j (omega (arith, in_j, size)) in
       ne_eqb (get_or (numbers first) i d) (get_or (numbers first) j d) (λ e. absurd (omega (arith, a, b, e, lt)))))
 
-  apart : (i j : ℕ) → i < j → j < length (numbers sorted) → get_or (numbers sorted) i 0 ≡ get_or (numbers sorted) j 0 → ⊥
+  apart : (i j : ℕ) → i < j → j < length (numbers sorted)
+      → get_or (numbers sorted) i 0 ≡ get_or (numbers sorted) j 0 → ⊥
   apart i j lt less e = false≢true (sym (apart_from_distinct eqb (numbers sorted) i j 0 differ lt less)
       ∙ eq-eqb (get_or (numbers sorted) i 0) (get_or (numbers sorted) j 0) e)
 
-  earlier : (i j : ℕ) → i < j → j < length (numbers sorted) → IsBefore ts (get_or (numbers sorted) i 0) (get_or (numbers sorted) j 0)
+  earlier : (i j : ℕ) → i < j → j < length (numbers sorted)
+      → IsBefore ts (get_or (numbers sorted) i 0) (get_or (numbers sorted) j 0)
   earlier i j lt less =
       let all = long sorted in
       let in_j : j < length sorted = omega (arith, less, all) in

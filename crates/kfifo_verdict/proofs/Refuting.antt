@@ -1,6 +1,7 @@
 -- Each kind of evidence refutes every order.
-use Rattle.std.proofs.Common.{ℕ, ◌≡◌, ◌≢◌, ◌<◌, ◌≤◌, ◌⊎◌, ◌+◌, ◌&&◌, Bool, true, cond, leb, count_by, List, [], ◌∷◌, ◌++◌, length, map}
-use Rattle.std.proofs.Common.{refl, sym, ◌∙◌, ap, subst, inl, inr, arith, Option, Some, None, slice_get, append_assoc}
+use Rattle.std.proofs.Common.{ℕ, ◌≡◌, ◌≢◌, ◌<◌, ◌≤◌, ◌⊎◌, ◌+◌, ◌&&◌, Bool, true, cond, leb, count_by, List, [], ◌∷◌}
+use Rattle.std.proofs.Common.{◌++◌, length, map, refl, sym, ◌∙◌, ap, subst, inl, inr, arith, Option, Some, None}
+use Rattle.std.proofs.Common.{slice_get, append_assoc}
 use Rattle.std.proofs.lemmas.Bool.{cases_lt, eqb-true, leb-true, le-leb, and_parts, and_from}
 use Rattle.std.proofs.lemmas.List.{map-append}
 use Rattle.std.proofs.lemmas.List.Sums.{sum_by-append}
@@ -10,19 +11,21 @@ use Rattle.kfifo_model.specs.declared.calls.Op.TheVariants.{Enqueue, Dequeue}
 use Rattle.kfifo_model.specs.Lists.{IsIn, EachPair}
 use Rattle.kfifo_model.specs.declared.effects.Effect.TheVariants.{Adds, Takes, FindsNone, Refused, Wrong}
 use Rattle.kfifo_model.specs.Relaxed.{Leaves, IsRun}
-use Rattle.kfifo_model.specs.Histories.{HasNoRepeats, call, does, effect_at, HasEnd, CanStand, IsFinished, EndsBelow, Precedes, IsLegal}
+use Rattle.kfifo_model.specs.Histories.{HasNoRepeats, call, does, effect_at, HasEnd, CanStand, IsFinished, EndsBelow}
+use Rattle.kfifo_model.specs.Histories.{Precedes, IsLegal}
 use Rattle.kfifo_model.specs.Overtaking.{adds, takes}
 use Rattle.kfifo_model.specs.Validity.{IsHistory, EndsFrom}
 use Rattle.kfifo_model.specs.Searching.{HasOrder}
-use Rattle.kfifo_model.proofs.Lists.{in_append, in_left, in_right, parted, each_at, each_from, pairs_back, pairs_front, pairs_across}
-use Rattle.kfifo_model.proofs.Lists.{pairs_weaker, Differ}
+use Rattle.kfifo_model.proofs.Lists.{in_append, in_left, in_right, parted, each_at, each_from, pairs_back, pairs_front}
+use Rattle.kfifo_model.proofs.Lists.{pairs_across, pairs_weaker, Differ}
 use Rattle.kfifo_model.proofs.Forgetting.{Has}
 use Rattle.kfifo_model.proofs.Checking.{in_bounds}
-use Rattle.kfifo_verdict.specs.Evidence.{Puts, Gets, IsSingle, IsNeverPut, IsTakenTwice, IsNotEmpty, IsOlder, IsTooYoung, Rise, last_step}
-use Rattle.kfifo_verdict.specs.Evidence.{puts_begun, gets_ended, IsOverdrawn, IsTakenTooSoon}
+use Rattle.kfifo_verdict.specs.Evidence.{Puts, Gets, IsSingle, IsNeverPut, IsTakenTwice, IsNotEmpty, IsOlder}
+use Rattle.kfifo_verdict.specs.Evidence.{IsTooYoung, Rise, last_step, puts_begun, gets_ended, IsOverdrawn}
+use Rattle.kfifo_verdict.specs.Evidence.{IsTakenTooSoon}
 use Rattle.kfifo_verdict.proofs.Counting.{count_cons, count_into, count_within, count_weaker, last_passing, as_many}
-use Rattle.kfifo_verdict.proofs.Runs.{RunsTo, run_split, run_front, runs_split, has_map, into_map, in_get, put_along, came_along, IsBehind}
-use Rattle.kfifo_verdict.proofs.Runs.{behind_along, place_behind, times, taken_as_often}
+use Rattle.kfifo_verdict.proofs.Runs.{RunsTo, run_split, run_front, runs_split, has_map, into_map, in_get, put_along}
+use Rattle.kfifo_verdict.proofs.Runs.{came_along, IsBehind, behind_along, place_behind, times, taken_as_often}
 
 -- ---- what an effect says of its call
 
@@ -96,7 +99,8 @@ around k h order c l i =
     }
 
 -- a call that precedes one of the front or this one stands in the front
-pub in_front : (k : ℕ) (h : List Call) (order : List ℕ) (c d e : ℕ) (l : IsLegal k h order) (a : IsAround k h order c) → Precedes h d e
+pub in_front : (k : ℕ) (h : List Call) (order : List ℕ) (c d e : ℕ) (l : IsLegal k h order) (a : IsAround k h order c)
+    → Precedes h d e
     → (e ≡ c) ⊎ IsIn e a.front → d ≢ c → IsIn d a.front
 in_front k h order c d e l a pre where_e ne =
     let P : List ℕ → Type 0 = λ w. IsIn d w in
@@ -115,8 +119,10 @@ in_front k h order c d e l a pre where_e ne =
     ]
 
 -- a call that this one precedes does not stand in the front
-pub not_in_front : (k : ℕ) (h : List Call) (order : List ℕ) (c d : ℕ) (a : IsAround k h order c) → Precedes h c d → IsIn d a.front → ⊥
-not_in_front k h order c d a pre i = pairs_across (λ u v. Precedes h v u → ⊥) a.front (c ∷ a.back) a.before d c i (inl refl) pre
+pub not_in_front : (k : ℕ) (h : List Call) (order : List ℕ) (c d : ℕ) (a : IsAround k h order c) → Precedes h c d
+    → IsIn d a.front → ⊥
+not_in_front k h order c d a pre i = pairs_across (λ u v. Precedes h v u → ⊥) a.front (c ∷ a.back) a.before d c i
+    (inl refl) pre
 
 itself_not_in_front : (k : ℕ) (h : List Call) (order : List ℕ) (c : ℕ) (a : IsAround k h order c) → IsIn c a.front → ⊥
 itself_not_in_front k h order c a i = pairs_across Differ a.front (c ∷ a.back) a.distinct c c i (inl refl) refl
@@ -136,7 +142,8 @@ never_put_refutes k h g n o =
 
 -- ---- 2: taken twice
 
-pub times_map : (h : List Call) (t : Effect → Bool) (l : List ℕ) → times t (map (does h) l) ≡ count_by (λ c. t (does h c)) l
+pub times_map : (h : List Call) (t : Effect → Bool) (l : List ℕ)
+    → times t (map (does h) l) ≡ count_by (λ c. t (does h c)) l
 times_map h t [] = refl
 times_map h t (c ∷ l) = let on = times_map h t l in let p = count_cons (λ c. t (does h c)) c l in omega (arith, on, p)
 
@@ -171,7 +178,8 @@ taken_twice_refutes k h g n o =
 -- ---- 3: not empty
 
 -- the greatest value of f on x and the list
-pub greatest : (f : ℕ → ℕ) (x : ℕ) (l : List ℕ) → (m : ℕ) × ((m ≡ x) ⊎ IsIn m l) × (f x ≤ f m) × ((y : ℕ) → IsIn y l → f y ≤ f m)
+pub greatest : (f : ℕ → ℕ) (x : ℕ) (l : List ℕ) → (m : ℕ) × ((m ≡ x) ⊎ IsIn m l) × (f x ≤ f m)
+    × ((y : ℕ) → IsIn y l → f y ≤ f m)
 greatest f x [] = (x, inl refl, omega arith, λ y i. absurd i)
 greatest f x (z ∷ l) =
     let on = greatest f x l in
@@ -194,13 +202,15 @@ pub not_ended : (o : Option End) (s : ℕ) → (EndsBelow o s → ⊥) → EndsF
 not_ended (Some end) s never = elim (cases_lt end.last s) [ inl lt ↦ absurd (never lt) | inr le ↦ le ]
 not_ended None s never = tt
 
-pub not_empty_refutes : (k : ℕ) (h : List Call) (e : ℕ) (puts : List ℕ) → IsHistory h → IsNotEmpty h e puts → HasOrder k h → ⊥
+pub not_empty_refutes : (k : ℕ) (h : List Call) (e : ℕ) (puts : List ℕ) → IsHistory h → IsNotEmpty h e puts
+    → HasOrder k h → ⊥
 not_empty_refutes k h e puts v n o =
     let ended = found_ended h e n.empty in
     let a = around k h o.0 e o.1 (o.1.is_order.complete e ended) in
     let g = greatest (λ c. (call h c).first) e a.front in
     let lasts : EndsFrom (call h g.0).first (call h e).end = elim g.1 [
-      | inl q ↦ (let P : ℕ → Type 0 = λ w. EndsFrom (call h w).first (call h e).end in subst P (sym q) (v e (ended_inside h e ended)).ends)
+      | inl q ↦ (let P : ℕ → Type 0 = λ w. EndsFrom (call h w).first (call h e).end in subst P (sym q)
+          (v e (ended_inside h e ended)).ends)
       | inr i ↦ not_ended (call h e).end (call h g.0).first (λ b. not_in_front k h o.0 e g.0 a b i)
     ] in
     let there = n.covered (call h g.0).first (g.2, lasts) in
@@ -210,7 +220,8 @@ not_empty_refutes k h e puts v n o =
     let i = in_front k h o.0 e p g.0 o.1 a t.put g.1 ne in
     let L : Effect → Type 0 = λ w. Leaves k a.mid w a.after in
     let none = subst L n.empty a.legal in
-    let x = put_along k t.item [] a.mid (map (does h) a.front) a.runs (into_map h (Adds t.item) a.front p i t.single.puts)
+    let x = put_along k t.item [] a.mid (map (does h) a.front) a.runs
+    (into_map h (Adds t.item) a.front p i t.single.puts)
     (λ j. let d = has_map h (Takes t.item) a.front j in let lt = t.kept d.0 d.2 in let le = g.3 d.0 d.1 in
     absurd (omega (arith, lt, le))) in
     let Q : List ℕ → Type 0 = λ w. IsIn t.item w in
@@ -223,8 +234,10 @@ not_itself (Some end) s f b = absurd (omega arith)
 not_itself None s f b = b
 
 -- what stands behind the put of y, up to the call that gets it
-behind_put : (k y q : ℕ) (h : List Call) (order : List ℕ) (g : ℕ) (a : IsAround k h order g) → IsSingle h y q → Gets h y g → IsIn q a.front
-    → (front : List ℕ) × (back : List ℕ) × (a.front ≡ front ++ q ∷ back) × (items : List ℕ) × RunsTo k [] (map (does h) front) items
+behind_put : (k y q : ℕ) (h : List Call) (order : List ℕ) (g : ℕ) (a : IsAround k h order g) → IsSingle h y q
+    → Gets h y g → IsIn q a.front
+    → (front : List ℕ) × (back : List ℕ) × (a.front ≡ front ++ q ∷ back) × (items : List ℕ)
+    × RunsTo k [] (map (does h) front) items
     × (IsIn y items → ⊥) × IsBehind y items a.mid (λ x. Has (Takes x) (map (does h) a.front))
 behind_put k y q h order g a single gets i =
     let p = parted q a.front i in
@@ -241,7 +254,8 @@ behind_put k y q h order g a single gets i =
     let same = single.once d.0 g d.2 gets in
     let P : ℕ → Type 0 = λ w. IsIn w a.front in
     let F : List ℕ → Type 0 = λ w. IsIn d.0 w in
-    itself_not_in_front k h order g a (subst P same (subst F (sym p.is) (in_right d.0 p.front (q ∷ p.back) (inr d.1)))) in
+    itself_not_in_front k h order g a
+    (subst P same (subst F (sym p.is) (in_right d.0 p.front (q ∷ p.back) (inr d.1)))) in
     let b = behind_along k y r.0 [] r.2.0 a.mid (map (does h) p.back) is r.2.2 not_taken in (
       p.front,
       p.back,
@@ -258,13 +272,15 @@ behind_put k y q h order g a single gets i =
         behind = b.behind;
         is = b.is;
         was = b.was;
-        kept = λ x j never. b.kept x j (λ m. never (let d = has_map h (Takes x) p.back m in let F : List ℕ → Type 0 = λ w. IsIn d.0 w in
+        kept = λ x j never. b.kept x j (λ m. never (let d = has_map h (Takes x) p.back m in let F : List ℕ → Type 0 =
+            λ w. IsIn d.0 w in
             into_map h (Takes x) a.front d.0 (subst F (sym p.is) (in_right d.0 p.front (q ∷ p.back) (inr d.1))) d.2));
       },
     )
 
 -- an older item stands before y
-older_before : (k y q : ℕ) (h : List Call) (order : List ℕ) (g p : ℕ) (v : IsHistory h) (l : IsLegal k h order) (a : IsAround k h order g)
+older_before : (k y q : ℕ) (h : List Call) (order : List ℕ) (g p : ℕ) (v : IsHistory h) (l : IsLegal k h order)
+    (a : IsAround k h order g)
     (single : IsSingle h y q) (gets : Gets h y g) (i : IsIn q a.front) (older : IsOlder h g q p)
     → IsIn older.item (behind_put k y q h order g a single gets i).6.before
 older_before k y q h order g p v l a single gets i older =
@@ -280,8 +296,8 @@ older_before k y q h order g p v l a single gets i older =
       | inl j ↦ j
       | inr j ↦ elim j [
         | inl e ↦ absurd (not_q e)
-        | inr m ↦ absurd (each_at (λ w. Precedes h w q → ⊥) p b.1 (pairs_back (λ d e. Precedes h e d → ⊥) b.0 (q ∷ b.1) keeps).0 m
-            older.before)
+        | inr m ↦ absurd (each_at (λ w. Precedes h w q → ⊥) p b.1 (pairs_back (λ d e. Precedes h e d → ⊥) b.0 (q ∷ b.1)
+            keeps).0 m older.before)
       ]
     ] in
     let untaken : Has (Takes older.item) (map (does h) a.front) → ⊥ = λ j.
@@ -290,14 +306,17 @@ older_before k y q h order g p v l a single gets i older =
     let d = has_map h (Takes older.item) b.0 j in
     let G : List ℕ → Type 0 = λ w. IsIn d.0 w in
     untaken (into_map h (Takes older.item) a.front d.0 (subst G (sym b.2) (in_left d.0 b.0 (q ∷ b.1) d.1)) d.2) in
-    b.6.kept older.item (put_along k older.item [] b.3 (map (does h) b.0) b.4 (into_map h (Adds older.item) b.0 p first older.single.puts)
+    b.6.kept older.item (put_along k older.item [] b.3 (map (does h) b.0) b.4
+    (into_map h (Adds older.item) b.0 p first older.single.puts)
     untaken_first) untaken
 
 -- rising numbers have no repeats
 pub rising_distinct : (l : List ℕ) → Rise l → HasNoRepeats l
-rising_distinct l rise = pairs_weaker (λ p q. p < q) (λ p q. p ≢ q) l (λ p q i j lt same. absurd (omega (arith, lt, same))) rise
+rising_distinct l rise =
+    pairs_weaker (λ p q. p < q) (λ p q. p ≢ q) l (λ p q i j lt same. absurd (omega (arith, lt, same))) rise
 
-pub too_young_refutes : (k n : ℕ) (h : List Call) (g : ℕ) (puts : List ℕ) → IsHistory h → k ≤ n → IsTooYoung n h g puts → HasOrder k h → ⊥
+pub too_young_refutes : (k n : ℕ) (h : List Call) (g : ℕ) (puts : List ℕ) → IsHistory h → k ≤ n → IsTooYoung n h g puts
+    → HasOrder k h → ⊥
 too_young_refutes k n h g puts v le t o =
     let y = t.item in
     let q = t.put in
@@ -306,7 +325,8 @@ too_young_refutes k n h g puts v le t o =
     let s = subst L t.gets a.legal in
     let i : IsIn q a.front = elim (came_along k y [] a.mid (map (does h) a.front) a.runs (in_get a.mid s.0 y s.2)) [
       | inl none ↦ absurd none
-      | inr j ↦ (let d = has_map h (Adds y) a.front j in let P : ℕ → Type 0 = λ w. IsIn w a.front in subst P (t.single.alone d.0 d.2) d.1)
+      | inr j ↦ (let d = has_map h (Adds y) a.front j in let P : ℕ → Type 0 =
+          λ w. IsIn w a.front in subst P (t.single.alone d.0 d.2) d.1)
     ] in
     let b = behind_put k y q h o.0 g a t.single t.gets i in
     let G : List ℕ → Type 0 = λ w. slice_get w s.0 ≡ Some y in
@@ -327,16 +347,22 @@ from_last (Some end) s ended f = f
 from_last None s ended f = absurd ended
 
 -- a put that stands before a get has begun by the get's end
-begun_by : (h : List Call) (x d : ℕ) (front : List ℕ) → Gets h x d → EachPair (λ u v. Precedes h v u → ⊥) (front ++ d ∷ []) → (c : ℕ)
+begun_by : (h : List Call) (x d : ℕ) (front : List ℕ) → Gets h x d
+    → EachPair (λ u v. Precedes h v u → ⊥) (front ++ d ∷ []) → (c : ℕ)
     → IsIn c (front ++ d ∷ []) → Puts h x c → (call h c).first ≤ last_step (call h d).end
 begun_by h x d front gets before c i puts =
     elim (in_append c front (d ∷ []) i) [
       | inl j ↦ from_last (call h d).end (call h c).first (got_ended h x d gets)
-          (not_ended (call h d).end (call h c).first (pairs_across (λ u v. Precedes h v u → ⊥) front (d ∷ []) before c d j (inl refl)))
-      | inr j ↦ elim j [ inl same ↦ (let u = sym puts ∙ ap (does h) same in let w = u ∙ gets in absurd (cc)) | inr never ↦ absurd never ]
+          (not_ended (call h d).end (call h c).first (pairs_across (λ u v. Precedes h v u → ⊥) front (d ∷ []) before c d
+          j (inl refl)))
+      | inr j ↦ elim j [
+        | inl same ↦ (let u = sym puts ∙ ap (does h) same in let w = u ∙ gets in absurd (cc))
+        | inr never ↦ absurd never
+      ]
     ]
 
--- Of the gets that have ended by then, take the last in the order. Up to it stand all of them, and only puts that have begun.
+-- Of the gets that have ended by then, take the last in the order. Up to it stand all of them, and only puts that have
+-- begun.
 overdrawn_refutes : (k : ℕ) (h : List Call) (x step : ℕ) → IsOverdrawn h x step → HasOrder k h → ⊥
 overdrawn_refutes k h x step more o =
     let order = o.0 in
@@ -364,14 +390,17 @@ overdrawn_refutes k h x step more o =
     let split : count_by ended order ≡ count_by ended part + count_by ended p.2 =
     ap (count_by ended) whole ∙ sum_by-append (λ c. cond (ended c) 1 0) part p.2 in
     let none = p.5 in
-    let took = count_weaker ended takes_x part (λ c i t. (and_parts (takes x (does h c)) (leb (last_step (call h c).end) step) t).0) in
+    let took = count_weaker ended takes_x part
+    (λ c i t. (and_parts (takes x (does h c)) (leb (last_step (call h c).end) step) t).0) in
     let put = count_weaker adds_x begun part (λ c i t.
     let by = begun_by h x d p.0 last.0 before c i (adds_is x (does h c) t) in
     let le = last.1 in
-    and_from (adds x (does h c)) (leb (call h c).first step) t (le-leb (call h c).first step (omega (arith, by, le)))) in
+    and_from (adds x (does h c)) (leb (call h c).first step) t (le-leb (call h c).first step (omega (arith, by, le))))
+    in
     let few : count_by begun part ≤ puts_begun h x step =
     count_within begun (length h) part distinct
-    (λ c i t. put_inside h x c (adds_is x (does h c) (and_parts (adds x (does h c)) (leb (call h c).first step) t).0)) in
+    (λ c i t. put_inside h x c (adds_is x (does h c) (and_parts (adds x (does h c)) (leb (call h c).first step) t).0))
+    in
     let often = taken_as_often k x [] (map (does h) part) run in
     let a = times_map h (takes x) part in
     let b = times_map h (adds x) part in

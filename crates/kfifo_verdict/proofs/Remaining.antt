@@ -1,6 +1,6 @@
 -- 6: where some item is certainly left as each call begins, the list is never empty meanwhile.
-use Rattle.std.proofs.Common.{ℕ, ◌≡◌, ◌+◌, ◌<◌, ◌≤◌, ◌&&◌, Bool, true, leb, count_by, List, [], ◌∷◌, length, map, sym, ◌∙◌}
-use Rattle.std.proofs.Common.{ap, subst, inl, inr, arith, Option, Some, None}
+use Rattle.std.proofs.Common.{ℕ, ◌≡◌, ◌+◌, ◌<◌, ◌≤◌, ◌&&◌, Bool, true, leb, count_by, List, [], ◌∷◌, length, map, sym}
+use Rattle.std.proofs.Common.{◌∙◌, ap, subst, inl, inr, arith, Option, Some, None}
 use Rattle.std.proofs.lemmas.Bool.{ltb-true, false≢true, le-leb, and_parts, and_from}
 use Rattle.kfifo_model.specs.declared.calls.Call.{Call}
 use Rattle.kfifo_model.specs.declared.calls.End.{End}
@@ -17,8 +17,8 @@ use Rattle.kfifo_model.proofs.Checking.{in_bounds}
 use Rattle.kfifo_verdict.specs.Evidence.{puts_ended, gets_begun, HasItemsLeft}
 use Rattle.kfifo_verdict.proofs.Counting.{count_into, count_within, count_weaker}
 use Rattle.kfifo_verdict.proofs.Runs.{RunsTo, times, copies, copies_push, copies_remove}
-use Rattle.kfifo_verdict.proofs.Refuting.{around, in_front, not_in_front, greatest, not_ended, found_ended, ended_inside}
-use Rattle.kfifo_verdict.proofs.Refuting.{got_ended, times_map, adds_is, takes_is}
+use Rattle.kfifo_verdict.proofs.Refuting.{around, in_front, not_in_front, greatest, not_ended, found_ended}
+use Rattle.kfifo_verdict.proofs.Refuting.{ended_inside, got_ended, times_map, adds_is, takes_is}
 
 -- what was there and what is added is what is there and what was taken
 balance : (k x : ℕ) (items after : List ℕ) (es : List Effect) → RunsTo k items es after
@@ -48,7 +48,8 @@ pub ends_at : (o : Option End) (step : ℕ) → ends_below o step ≡ true → E
 ends_at (Some e) step q = ltb-true e.last step q
 ends_at None step q = absurd (false≢true q)
 
--- Of the calls up to the Empty in the order take the one that begins last. Those puts stand before the Empty, and no other gets.
+-- Of the calls up to the Empty in the order take the one that begins last. Those puts stand before the Empty, and no
+-- other gets.
 pub items_left_refutes : (k : ℕ) (h : List Call) (e : ℕ) → IsHistory h → HasItemsLeft h e → HasOrder k h → ⊥
 items_left_refutes k h e v n o =
     let ended = found_ended h e n.empty in
@@ -57,7 +58,8 @@ items_left_refutes k h e v n o =
     let g = greatest (λ c. (call h c).first) e F in
     let step : ℕ = (call h g.0).first in
     let lasts : EndsFrom step (call h e).end = elim g.1 [
-      | inl q ↦ (let P : ℕ → Type 0 = λ w. EndsFrom (call h w).first (call h e).end in subst P (sym q) (v e (ended_inside h e ended)).ends)
+      | inl q ↦ (let P : ℕ → Type 0 = λ w. EndsFrom (call h w).first (call h e).end in subst P (sym q)
+          (v e (ended_inside h e ended)).ends)
       | inr i ↦ not_ended (call h e).end step (λ b. not_in_front k h o.0 e g.0 a b i)
     ] in
     let O : List ℕ → Type 0 = λ w. IsIn g.0 w in
@@ -79,7 +81,8 @@ items_left_refutes k h e v n o =
     let u = sym (ap (does h) same) ∙ adds_is x (does h c) both.0 in
     let w = sym n.empty ∙ u in
     absurd (cc))) in
-    let put = count_weaker gone adds_x F (λ c i t. (and_parts (adds x (does h c)) (ends_below (call h c).end step) t).0) in
+    let put = count_weaker gone adds_x F
+    (λ c i t. (and_parts (adds x (does h c)) (ends_below (call h c).end step) t).0) in
     let took = count_weaker takes_x begun F (λ c i t.
     and_from (takes x (does h c)) (leb (call h c).first step) t (le-leb (call h c).first step (g.3 c i))) in
     let few : count_by begun F ≤ gets_begun h x step =

@@ -1,6 +1,6 @@
 -- An order by a relation that fits a first-in-first-out queue is legal for k = 1.
-use Rattle.std.proofs.Common.{ℕ, ◌≡◌, ◌≢◌, ◌<◌, ◌⊎◌, List, [], ◌∷◌, ◌++◌, length, map, refl, sym, ◌∙◌, ap, subst, inl, inr, arith, Option}
-use Rattle.std.proofs.Common.{Some, None}
+use Rattle.std.proofs.Common.{ℕ, ◌≡◌, ◌≢◌, ◌<◌, ◌⊎◌, List, [], ◌∷◌, ◌++◌, length, map, refl, sym, ◌∙◌, ap, subst, inl}
+use Rattle.std.proofs.Common.{inr, arith, Option, Some, None}
 use Rattle.std.proofs.lemmas.Bool.{cases_eq}
 use Rattle.std.proofs.lemmas.List.{map_push}
 use Rattle.kfifo_verdict.proofs.Types.{Call, Effect, End}
@@ -14,7 +14,7 @@ use Rattle.kfifo_model.proofs.Lists.{in_append, in_left, in_right, each_at, each
 use Rattle.kfifo_verdict.specs.Evidence.{Puts, Gets}
 use Rattle.kfifo_verdict.proofs.Refuting.{put_inside, ended_inside}
 use Rattle.kfifo_verdict.proofs.Telling.{got_inside}
-use Rattle.kfifo_verdict.proofs.Being.{same_put}
+use Rattle.kfifo_verdict.proofs.ItemPresence.{same_put}
 
 -- What is asked of "stands before": items go out in the order in which they go in, and none is there at an Empty.
 pub record Fits (h : List Call) (R : ℕ → ℕ → Type 0) : Type 0 where
@@ -41,7 +41,8 @@ record Holds (h : List Call) (R : ℕ → ℕ → Type 0) (rest queue : List ℕ
   pub inside : AllByRecursion (λ c. c < length h) rest
   pub total : (d : ℕ) → d < length h → IsIn d rest ⊎ AllByRecursion (R d) rest
   pub line : EachPair R queue
-  pub held : (p : ℕ) → IsIn p queue → (x : ℕ) × Puts h x p × AllByRecursion (R p) rest × ((g : ℕ) → Gets h x g → IsIn g rest)
+  pub held : (p : ℕ) → IsIn p queue → (x : ℕ) × Puts h x p × AllByRecursion (R p) rest
+      × ((g : ℕ) → Gets h x g → IsIn g rest)
   pub kept : (x p g : ℕ) → Puts h x p → Gets h x g → AllByRecursion (R p) rest → IsIn g rest → IsIn p queue
 
 not_both : (h : List Call) (x y c : ℕ) → Puts h x c → Gets h y c → ⊥
@@ -60,19 +61,27 @@ not_self h R c d f e r =
     f.apart c c s s
 
 -- a call that stands before all that is left but the next, and is not the next, stands before that too
-done_before : (h : List Call) (R : ℕ → ℕ → Type 0) (c : ℕ) (rest queue : List ℕ) → Fits h R → Holds h R (c ∷ rest) queue → (p : ℕ)
+done_before : (h : List Call) (R : ℕ → ℕ → Type 0) (c : ℕ) (rest queue : List ℕ) → Fits h R → Holds h R (c ∷ rest) queue
+    → (p : ℕ)
     → p < length h → p ≢ c → AllByRecursion (R p) rest → AllByRecursion (R p) (c ∷ rest)
 done_before h R c rest queue f t p inside ne past =
     elim (t.total p inside) [
-      | inl i ↦ elim i [ inl e ↦ absurd (ne e) | inr j ↦ absurd (not_self h R p p f refl (each_at (R p) p rest past j)) ]
+      | inl i ↦ elim i [
+        | inl e ↦ absurd (ne e)
+        | inr j ↦ absurd (not_self h R p p f refl (each_at (R p) p rest past j))
+      ]
       | inr e ↦ e
     ]
 
-total_next : (h : List Call) (R : ℕ → ℕ → Type 0) (c : ℕ) (rest queue : List ℕ) → Holds h R (c ∷ rest) queue → (d : ℕ) → d < length h
+total_next : (h : List Call) (R : ℕ → ℕ → Type 0) (c : ℕ) (rest queue : List ℕ) → Holds h R (c ∷ rest) queue → (d : ℕ)
+    → d < length h
     → IsIn d rest ⊎ AllByRecursion (R d) rest
 total_next h R c rest queue t d inside =
     elim (t.total d inside) [
-      | inl i ↦ elim i [ inl e ↦ inr (let P : ℕ → Type 0 = λ w. AllByRecursion (R w) rest in subst P (sym e) t.sorted.0) | inr j ↦ inl j ]
+      | inl i ↦ elim i [
+        | inl e ↦ inr (let P : ℕ → Type 0 = λ w. AllByRecursion (R w) rest in subst P (sym e) t.sorted.0)
+        | inr j ↦ inl j
+      ]
       | inr e ↦ inr e.1
     ]
 
@@ -94,7 +103,8 @@ holds_same h R c rest queue f no_put no_get t = record {
       (done_before h R c rest queue f t p (put_inside h x p a) (λ e. no_put x (put_at h x p c e a)) past) (inr i);
 }
 
-holds_added : (h : List Call) (R : ℕ → ℕ → Type 0) (c x : ℕ) (rest queue : List ℕ) → Fits h R → Puts h x c → Holds h R (c ∷ rest) queue
+holds_added : (h : List Call) (R : ℕ → ℕ → Type 0) (c x : ℕ) (rest queue : List ℕ) → Fits h R → Puts h x c
+    → Holds h R (c ∷ rest) queue
     → Holds h R rest (queue ++ c ∷ [])
 holds_added h R c x rest queue f puts t =
     let waits = λ (g : ℕ) (is : Gets h x g). elim (t.total g (got_inside h x g is)) as (λ _. IsIn g rest) [
@@ -118,11 +128,13 @@ holds_added h R c x rest queue f puts t =
       ];
       kept = λ y p g a b past i. elim (cases_eq p c) [
         | inl e ↦ in_right p queue (c ∷ []) (inl e)
-        | inr ne ↦ in_left p queue (c ∷ []) (t.kept y p g a b (done_before h R c rest queue f t p (put_inside h y p a) ne past) (inr i))
+        | inr ne ↦ in_left p queue (c ∷ [])
+            (t.kept y p g a b (done_before h R c rest queue f t p (put_inside h y p a) ne past) (inr i))
       ];
     }
 
-holds_taken : (h : List Call) (R : ℕ → ℕ → Type 0) (c x q : ℕ) (rest queue : List ℕ) → Fits h R → Gets h x c → Puts h x q
+holds_taken : (h : List Call) (R : ℕ → ℕ → Type 0) (c x q : ℕ) (rest queue : List ℕ) → Fits h R → Gets h x c
+    → Puts h x q
     → Holds h R (c ∷ rest) (q ∷ queue) → Holds h R rest queue
 holds_taken h R c x q rest queue f gets puts t = record {
   sorted = t.sorted.1;
@@ -142,7 +154,8 @@ holds_taken h R c x q rest queue f gets puts t = record {
     ],
   );
   kept = λ y p g a b past i. elim (t.kept y p g a b
-      (done_before h R c rest (q ∷ queue) f t p (put_inside h y p a) (λ e. not_both h y x c (put_at h y p c e a) gets) past) (inr i)) [
+      (done_before h R c rest (q ∷ queue) f t p (put_inside h y p a) (λ e. not_both h y x c (put_at h y p c e a) gets)
+      past) (inr i)) [
         | inl e ↦ (
             let same = same_put h y x q (put_at h y p q e a) puts in
             let P : ℕ → Type 0 = λ w. Gets h w g in
@@ -153,7 +166,8 @@ holds_taken h R c x q rest queue f gets puts t = record {
 }
 
 -- the put of an item that a call gets is done
-source_past : (h : List Call) (R : ℕ → ℕ → Type 0) (c x p : ℕ) (rest queue : List ℕ) → Fits h R → Puts h x p → Gets h x c
+source_past : (h : List Call) (R : ℕ → ℕ → Type 0) (c x p : ℕ) (rest queue : List ℕ) → Fits h R → Puts h x p
+    → Gets h x c
     → Holds h R (c ∷ rest) queue → AllByRecursion (R p) (c ∷ rest)
 source_past h R c x p rest queue f puts gets t =
     elim (t.total p (put_inside h x p puts)) [
@@ -171,7 +185,8 @@ record IsHead (h : List Call) (x : ℕ) (queue : List ℕ) : Type 0 where
   pub is : queue ≡ put ∷ others
   pub puts : Puts h x put
 
-head_of : (h : List Call) (R : ℕ → ℕ → Type 0) (c x : ℕ) (rest queue : List ℕ) → Fits h R → Gets h x c → Holds h R (c ∷ rest) queue
+head_of : (h : List Call) (R : ℕ → ℕ → Type 0) (c x : ℕ) (rest queue : List ℕ) → Fits h R → Gets h x c
+    → Holds h R (c ∷ rest) queue
     → IsHead h x queue
 head_of h R c x rest [] f gets t =
     let s = f.put x c gets in
@@ -205,8 +220,10 @@ none_held h R c rest (q ∷ queue) f e t =
 abbrev Goes : List ℕ → Effect → List Effect → Type 0
 Goes items e rest = (after : List ℕ) × Leaves 1 items e after × IsRun 1 after rest
 
-step_taken : (h : List Call) (R : ℕ → ℕ → Type 0) (c x : ℕ) (rest queue : List ℕ) (effects : List Effect) → Fits h R → Gets h x c
-    → Holds h R (c ∷ rest) queue → IsHead h x queue → ((next : List ℕ) → Holds h R rest next → IsRun 1 (map (item h) next) effects)
+step_taken : (h : List Call) (R : ℕ → ℕ → Type 0) (c x : ℕ) (rest queue : List ℕ) (effects : List Effect) → Fits h R
+    → Gets h x c
+    → Holds h R (c ∷ rest) queue → IsHead h x queue
+    → ((next : List ℕ) → Holds h R rest next → IsRun 1 (map (item h) next) effects)
     → Goes (map (item h) queue) (Takes x) effects
 step_taken h R c x rest queue effects f gets t a go =
     let H : List ℕ → Type 0 = λ w. Holds h R (c ∷ rest) w in
@@ -217,7 +234,8 @@ step_taken h R c x rest queue effects f gets t a go =
       go a.others (holds_taken h R c x a.put rest a.others f gets a.puts (subst H a.is t)),
     )
 
-step : (h : List Call) (R : ℕ → ℕ → Type 0) (c : ℕ) (rest queue : List ℕ) (effects : List Effect) → Fits h R → Holds h R (c ∷ rest) queue
+step : (h : List Call) (R : ℕ → ℕ → Type 0) (c : ℕ) (rest queue : List ℕ) (effects : List Effect) → Fits h R
+    → Holds h R (c ∷ rest) queue
     → ((next : List ℕ) → Holds h R rest next → IsRun 1 (map (item h) next) effects) → (e : Effect) → does h c ≡ e
     → Goes (map (item h) queue) e effects
 step h R c rest queue effects f t go (Adds x) q = (
@@ -225,7 +243,8 @@ step h R c rest queue effects f t go (Adds x) q = (
   map_push (item h) queue c ∙ ap (λ e. map (item h) queue ++ item_of e ∷ []) q,
   go (queue ++ c ∷ []) (holds_added h R c x rest queue f q t),
 )
-step h R c rest queue effects f t go (Takes x) q = step_taken h R c x rest queue effects f q t (head_of h R c x rest queue f q t) go
+step h R c rest queue effects f t go (Takes x) q =
+    step_taken h R c x rest queue effects f q t (head_of h R c x rest queue f q t) go
 step h R c rest queue effects f t go FindsNone q =
     let none = none_held h R c rest queue f q t in (
       map (item h) queue,
@@ -244,22 +263,26 @@ step h R c rest queue effects f t go Wrong q = absurd (f.sound c t.inside.0 q)
 run_from : (h : List Call) (R : ℕ → ℕ → Type 0) (rest queue : List ℕ) → Fits h R → Holds h R rest queue
     → IsRun 1 (map (item h) queue) (map (does h) rest)
 run_from h R [] queue f t = tt
-run_from h R (c ∷ rest) queue f t = step h R c rest queue (map (does h) rest) f t (λ next u. run_from h R rest next f u) (does h c) refl
+run_from h R (c ∷ rest) queue f t = step h R c rest queue (map (does h) rest) f t (λ next u. run_from h R rest next f u)
+    (does h c) refl
 
 can_stand : (o : Option End) (op : Op) → HasEnd o → CanStand o op
 can_stand (Some end) op e = tt
 can_stand None op e = absurd e
 
 -- all calls, each before those before which it stands
-pub legal_by : (h : List Call) (R : ℕ → ℕ → Type 0) (order : List ℕ) → Fits h R → ((c : ℕ) → c < length h → IsFinished h c)
-    → EachPair R order → ((c : ℕ) → IsIn c order → c < length h) → ((c : ℕ) → c < length h → IsIn c order) → IsLegal 1 h order
+pub legal_by : (h : List Call) (R : ℕ → ℕ → Type 0) (order : List ℕ) → Fits h R
+    → ((c : ℕ) → c < length h → IsFinished h c)
+    → EachPair R order → ((c : ℕ) → IsIn c order → c < length h) → ((c : ℕ) → c < length h → IsIn c order)
+    → IsLegal 1 h order
 legal_by h R order f ended sorted inside all = record {
   is_order = record {
     distinct = pairs_weaker R (λ c d. c ≢ d) order (λ c d i j r e. not_self h R c d f e r) sorted;
     calls = each_from (λ c. CanStand (call h c).end (call h c).op) order
         (λ c i. can_stand (call h c).end (call h c).op (ended c (inside c i)));
     complete = λ c e. all c (ended_inside h c e);
-    before = pairs_weaker R (λ c d. Precedes h d c → ⊥) order (λ c d i j r p. f.apart c d r (f.before d c (inside d j) (inside c i) p))
+    before = pairs_weaker R (λ c d. Precedes h d c → ⊥) order
+        (λ c d i j r p. f.apart c d r (f.before d c (inside d j) (inside c i) p))
         sorted;
   };
   is_run = run_from h R order [] f (record {
@@ -268,6 +291,7 @@ legal_by h R order f ended sorted inside all = record {
     total = λ d lt. inl (all d lt);
     line = tt;
     held = λ p i. absurd i;
-    kept = λ x p g a b past i. absurd (not_self h R p p f refl (each_at (R p) p order past (all p (put_inside h x p a))));
+    kept = λ x p g a b past i.
+        absurd (not_self h R p p f refl (each_at (R p) p order past (all p (put_inside h x p a))));
   });
 }

@@ -1,5 +1,6 @@
 -- Items that are gone are passed over.
-use Rattle.std.proofs.Common.{ℕ, zero, suc, ◌≡◌, ◌+◌, ◌<◌, ◌≤◌, Bool, true, false, cond, leb, List, length, get_or, sym, ap, inl, inr, arith}
+use Rattle.std.proofs.Common.{ℕ, zero, suc, ◌≡◌, ◌+◌, ◌<◌, ◌≤◌, Bool, true, false, cond, leb, List, length, get_or, sym}
+use Rattle.std.proofs.Common.{ap, inl, inr, arith}
 use Rattle.std.proofs.lemmas.Bool.{cases_lt, lt-leb, and_right}
 use Rattle.kfifo_verdict.proofs.Types.{Presence}
 use Rattle.kfifo_verdict.specs.Evidence.{count_below}
@@ -23,7 +24,8 @@ count_rises test i (suc j) le =
       | inr ge ↦ (let on = count_rises test i j ge in omega (arith, on))
     ]
 
-pub count_flat : (test : ℕ → Bool) (i j : ℕ) → i ≤ j → ((p : ℕ) → i ≤ p → p < j → test p ≡ false) → count_below test j ≡ count_below test i
+pub count_flat : (test : ℕ → Bool) (i j : ℕ) → i ≤ j → ((p : ℕ) → i ≤ p → p < j → test p ≡ false)
+    → count_below test j ≡ count_below test i
 count_flat test i zero le f = let e : i ≡ 0 = omega arith in ap (count_below test) (sym e)
 count_flat test i (suc j) le f =
     elim (cases_lt j i) [
@@ -43,13 +45,15 @@ none_below test n c none lt passes =
     omega (arith, up, next, one, none)
 
 -- an item that is gone at call n is got by a call below `after`
-pub gone_fails : (ps : List Presence) (n put after p : ℕ) → n < after → (get_or ps p no_presence).gone ≤ n → lasts_at ps put after p ≡ false
+pub gone_fails : (ps : List Presence) (n put after p : ℕ) → n < after → (get_or ps p no_presence).gone ≤ n
+    → lasts_at ps put after p ≡ false
 gone_fails ps n put after p later gone =
     let s = get_or ps p no_presence in
     and_right (leb s.start put) (leb after s.gone) (lt-leb after s.gone (omega (arith, later, gone)))
 
 -- nothing is counted on the way to the next call
-pub count_skip_to : (ps : List Presence) (n put after p j : ℕ) (skips : List ℕ) → AreSkips ps n skips → n < after → p < length ps + 1
+pub count_skip_to : (ps : List Presence) (n put after p j : ℕ) (skips : List ℕ) → AreSkips ps n skips → n < after
+    → p < length ps + 1
     → p ≤ j → j ≤ get_or skips p 0 → count_below (lasts_at ps put after) j ≡ count_below (lasts_at ps put after) p
 count_skip_to ps n put after p j skips s later inside le most =
     count_flat (lasts_at ps put after) p j le

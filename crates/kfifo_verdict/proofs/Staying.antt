@@ -1,13 +1,14 @@
 -- Of the items that are there at a call the one that stays longest.
-use Rattle.std.proofs.Common.{ℕ, ◌≡◌, ◌≢◌, ◌+◌, ◌<◌, ◌≤◌, ◌⊎◌, List, [], ◌∷◌, ◌++◌, length, get_or, set, refl, sym, ◌∙◌, ap, subst, inl}
-use Rattle.std.proofs.Common.{inr, arith, length-append, get_or-set_other, get_or-set_same}
+use Rattle.std.proofs.Common.{ℕ, ◌≡◌, ◌≢◌, ◌+◌, ◌<◌, ◌≤◌, ◌⊎◌, List, [], ◌∷◌, ◌++◌, length, get_or, set, refl, sym, ◌∙◌}
+use Rattle.std.proofs.Common.{ap, subst, inl, inr, arith, length-append, get_or-set_other, get_or-set_same}
 use Rattle.std.proofs.lemmas.Bool.{cases_lt, cases_eq}
 use Rattle.std.proofs.lemmas.List.{get_or_append_left}
 use Rattle.std.proofs.Math.ListN.{length-set}
 use Rattle.std.proofs.Math.Seq.{get_or-append_seam}
 use Rattle.kfifo_verdict.proofs.Types.{Call, Presence, Stay}
 use Rattle.kfifo_model.specs.Validity.{IsHistory}
-use Rattle.kfifo_verdict.specs.Finding.{IsPresence, ArePresences, no_presence, IsStay, no_stay, AreStays, AreLongest, IsBucketed}
+use Rattle.kfifo_verdict.specs.Finding.{IsPresence, ArePresences, no_presence, IsStay, no_stay, AreStays, AreLongest}
+use Rattle.kfifo_verdict.specs.Finding.{IsBucketed}
 use Rattle.kfifo_verdict.proofs.Refuting.{put_inside}
 use Rattle.kfifo_verdict.proofs.Moments.{not_falling}
 
@@ -29,12 +30,16 @@ longer_right a b s (inr p) = let e = ap (λ w. w.gone) p.0 in omega (arith, e)
 
 -- an item that is there from call c or an earlier one on and stays so long
 abbrev pub IsHeld : List Call → List Presence → ℕ → Stay → Type 0
-IsHeld h ps c s = (q : ℕ) × (q < length h) × ((get_or ps q no_presence).start ≤ c) × ((get_or ps q no_presence).gone ≡ s.gone)
+IsHeld h ps c s = (q : ℕ) × (q < length h) × ((get_or ps q no_presence).start ≤ c)
+    × ((get_or ps q no_presence).gone ≡ s.gone)
 
-pub longer_held : (h : List Call) (ps : List Presence) (c : ℕ) (a b s : Stay) → IsLonger a b s → (0 < a.gone → IsHeld h ps c a)
+pub longer_held : (h : List Call) (ps : List Presence) (c : ℕ) (a b s : Stay) → IsLonger a b s
+    → (0 < a.gone → IsHeld h ps c a)
     → (0 < b.gone → IsHeld h ps c b) → 0 < s.gone → IsHeld h ps c s
-longer_held h ps c a b s (inl p) ha hb = let P : Stay → Type 0 = λ w. 0 < w.gone → IsHeld h ps c w in subst P (sym p.0) ha
-longer_held h ps c a b s (inr p) ha hb = let P : Stay → Type 0 = λ w. 0 < w.gone → IsHeld h ps c w in subst P (sym p.0) hb
+longer_held h ps c a b s (inl p) ha hb = let P : Stay → Type 0 = λ w. 0 < w.gone → IsHeld h ps c w in
+    subst P (sym p.0) ha
+longer_held h ps c a b s (inr p) ha hb = let P : Stay → Type 0 = λ w. 0 < w.gone → IsHeld h ps c w in
+    subst P (sym p.0) hb
 
 held_later : (h : List Call) (ps : List Presence) (c d : ℕ) (s : Stay) → c ≤ d → IsHeld h ps c s → IsHeld h ps d s
 held_later h ps c d s le o = let up = o.2 in (o.0, o.1, omega (arith, up, le), o.3)
@@ -74,14 +79,16 @@ bucketed_skip h ps n stays b past = record {
 }
 
 pub bucketed_more : (h : List Call) (ps : List Presence) (n start : ℕ) (stays more : List Stay) (was stay : Stay)
-    → IsBucketed h ps n stays → IsPresence h n (get_or ps n no_presence) → start ≡ (get_or ps n no_presence).start → start < length h
+    → IsBucketed h ps n stays → IsPresence h n (get_or ps n no_presence) → start ≡ (get_or ps n no_presence).start
+    → start < length h
     → n < length h
     → was ≡ get_or stays start no_stay → IsLonger was (record { put = n; gone = (get_or ps n no_presence).gone }) stay
     → more ≡ set stays start stay → IsBucketed h ps (n + 1) more
 bucketed_more h ps n start stays more was stay b r is inside inside_n at longer e =
     let size = b.sized in
     let here : start < length stays = omega (arith, size, inside) in
-    let at_start : get_or more start no_stay ≡ stay = ap (λ (l : List Stay). get_or l start no_stay) e ∙ rw get_or-set_same refl in
+    let at_start : get_or more start no_stay ≡ stay = ap (λ (l : List Stay). get_or l start no_stay) e
+    ∙ rw get_or-set_same refl in
     let elsewhere : (c : ℕ) → c ≢ start → get_or more c no_stay ≡ get_or stays c no_stay =
     λ c ne. ap (λ (l : List Stay). get_or l c no_stay) e ∙ rw get_or-set_other refl in
     let P : ℕ → Stay → Type 0 = λ c w. IsStay h c w in
@@ -118,7 +125,9 @@ bucketed_more h ps n start stays more was stay b r is inside inside_n at longer 
             )
         | inr ne ↦ (
             elim (cases_lt p n) [
-              | inl below ↦ (let le = b.longest p c below lt q in let a = ap (λ w. w.gone) (elsewhere c ne) in omega (arith, le, a))
+              | inl below ↦
+                  (let le = b.longest p c below lt q in let a =
+                  ap (λ w. w.gone) (elsewhere c ne) in omega (arith, le, a))
               | inr ge ↦ (let here_p : p ≡ n = omega (arith, ge, lt_p) in
                   absurd (ne (sym q ∙ (ap (λ w. (get_or ps w no_presence).start) here_p ∙ sym is))))
             ]
@@ -129,8 +138,12 @@ bucketed_more h ps n start stays more was stay b r is inside inside_n at longer 
             let now = ap (λ w. (get_or more w no_stay).gone) same ∙ ap (λ w. w.gone) at_start in
             let H : Stay → Type 0 = λ w. 0 < w.gone → IsHeld h ps start w in
             let a = ap (λ w. w.gone) at in
-            let old : H was = λ up. let o = b.held start inside (omega (arith, up, a)) in (o.0, o.1, o.2, o.3 ∙ sym a) in
-            let o = longer_held h ps start was (record { put = n; gone = (get_or ps n no_presence).gone }) stay longer old
+            let old : H was = λ up. let o = b.held start inside (omega (arith, up, a)) in
+            (o.0, o.1, o.2, o.3 ∙ sym a) in
+            let o = longer_held h ps start was (record {
+              put = n;
+              gone = (get_or ps n no_presence).gone;
+            }) stay longer old
             (λ up. (n, inside_n, omega (arith, is), refl)) (omega (arith, some, now)) in
             (o.0, o.1, (let le = o.2 in omega (arith, le, same)), o.3 ∙ sym now)
             )
@@ -144,7 +157,8 @@ bucketed_more h ps n start stays more was stay b r is inside inside_n at longer 
 pub record IsLongest (h : List Call) (ps : List Presence) (found : List Stay) (best : Stay) (n : ℕ) : Type 0 where
   pub sized : length found ≡ n
   pub best_real : (c : ℕ) → n ≤ c + 1 → c < length h → IsStay h c best
-  pub best_longest : (p : ℕ) → p < length h → (get_or ps p no_presence).start < n → (get_or ps p no_presence).gone ≤ best.gone
+  pub best_longest : (p : ℕ) → p < length h → (get_or ps p no_presence).start < n
+      → (get_or ps p no_presence).gone ≤ best.gone
   pub real : (c : ℕ) → c < n → IsStay h c (get_or found c no_stay)
   pub longest : (c p : ℕ) → c < n → p < length h → (get_or ps p no_presence).start ≤ c
       → (get_or ps p no_presence).gone ≤ (get_or found c no_stay).gone
@@ -152,15 +166,18 @@ pub record IsLongest (h : List Call) (ps : List Presence) (found : List Stay) (b
   pub held : (c : ℕ) → c < n → 0 < (get_or found c no_stay).gone → IsHeld h ps c (get_or found c no_stay)
 
 pub longest_more : (h : List Call) (ps : List Presence) (stays found more : List Stay) (best stay next : Stay) (n : ℕ)
-    → IsHistory h → IsBucketed h ps (length h) stays → n < length h → stay ≡ get_or stays n no_stay → IsLonger best stay next
+    → IsHistory h → IsBucketed h ps (length h) stays → n < length h → stay ≡ get_or stays n no_stay
+    → IsLonger best stay next
     → more ≡ found ++ next ∷ [] → IsLongest h ps found best n → IsLongest h ps more next (n + 1)
 longest_more h ps stays found more best stay next n v b inside at longer e l =
     let size = l.sized in
     let Q : Stay → Type 0 = λ w. IsStay h n w in
-    let here = longer_real h n best stay next longer (l.best_real n (omega arith) inside) (subst Q (sym at) (b.real n inside)) in
+    let here = longer_real h n best stay next longer (l.best_real n (omega arith) inside)
+    (subst Q (sym at) (b.real n inside)) in
     let left = longer_left best stay next longer in
     let right = longer_right best stay next longer in
-    let covers : (p : ℕ) → p < length h → (get_or ps p no_presence).start < n + 1 → (get_or ps p no_presence).gone ≤ next.gone =
+    let covers : (p : ℕ) → p < length h → (get_or ps p no_presence).start < n + 1
+    → (get_or ps p no_presence).gone ≤ next.gone =
     λ p lt from. elim (cases_lt (get_or ps p no_presence).start n) [
       | inl below ↦ (let le = l.best_longest p lt below in omega (arith, le, left))
       | inr ge ↦ (let same : (get_or ps p no_presence).start
@@ -188,7 +205,9 @@ longest_more h ps stays found more best stay next n v b inside at longer e l =
             → Type 0 = λ w. IsStay h w (get_or more w no_stay) in subst R (sym same) (subst Q (sym last) here))
       ];
       longest = λ c p lt in_p from. elim (cases_lt c n) [
-        | inl below ↦ (let le = l.longest c p below in_p from in let a = ap (λ w. w.gone) (before c below) in omega (arith, le, a))
+        | inl below ↦
+            (let le = l.longest c p below in_p from in let a =
+            ap (λ w. w.gone) (before c below) in omega (arith, le, a))
         | inr ge ↦ (
             let same : c ≡ n = omega (arith, ge, lt) in
             let le = covers p in_p (omega (arith, from, lt)) in
@@ -199,7 +218,9 @@ longest_more h ps stays found more best stay next n v b inside at longer e l =
       ];
       best_held = λ up. (n, omega arith, new_held up);
       held = λ c lt. elim (cases_lt c n) [
-        | inl below ↦ (let P : Stay → Type 0 = λ w. 0 < w.gone → IsHeld h ps c w in subst P (sym (before c below)) (l.held c below))
+        | inl below ↦
+            (let P : Stay → Type 0 = λ w. 0 < w.gone → IsHeld h ps c w in subst P (sym (before c below))
+            (l.held c below))
         | inr ge ↦ (
             let same : c ≡ n = omega (arith, ge, lt) in
             let P : Stay → Type 0 = λ w. 0 < w.gone → IsHeld h ps n w in
@@ -209,7 +230,8 @@ longest_more h ps stays found more best stay next n v b inside at longer e l =
       ];
     }
 
-pub longest_all : (h : List Call) (ps : List Presence) (found : List Stay) (best : Stay) (n : ℕ) → ArePresences h (length h) ps
+pub longest_all : (h : List Call) (ps : List Presence) (found : List Stay) (best : Stay) (n : ℕ)
+    → ArePresences h (length h) ps
     → IsLongest h ps found best n → n ≡ length h → AreStays h found
 longest_all h ps found best n are l e = record {
   sized = l.sized ∙ e;
@@ -222,7 +244,8 @@ longest_all h ps found best n are l e = record {
       omega (arith, le, ge);
 }
 
-pub longest_held : (h : List Call) (ps : List Presence) (found : List Stay) (best : Stay) (n : ℕ) → ArePresences h (length h) ps
+pub longest_held : (h : List Call) (ps : List Presence) (found : List Stay) (best : Stay) (n : ℕ)
+    → ArePresences h (length h) ps
     → IsLongest h ps found best n → n ≡ length h → AreLongest ps found
 longest_held h ps found best n are l e =
     let size = are.0 in

@@ -1,8 +1,8 @@
 -- The calls of each item, counted by their steps in a sorted list.
-use Rattle.std.proofs.Common.{ℕ, ◌≡◌, ◌≢◌, ◌+◌, ◌<◌, ◌≤◌, ◌⊎◌, ◌↔◌, ◌||◌, true, false, cond, count_by, eqb, leb, ltb, List, [], ◌∷◌}
-use Rattle.std.proofs.Common.{refl, sym, ◌∙◌, ap, subst, inl, inr, arith}
-use Rattle.std.proofs.lemmas.Bool.{cases_Bool, eq-eqb, ne_eqb, eqb-true, lt-ltb, ltb-true, leb-true, le-leb, and_from, and_parts, and_left}
-use Rattle.std.proofs.lemmas.Bool.{or_left, or_right}
+use Rattle.std.proofs.Common.{ℕ, ◌≡◌, ◌≢◌, ◌+◌, ◌<◌, ◌≤◌, ◌⊎◌, ◌↔◌, ◌||◌, true, false, cond, count_by, eqb, leb, ltb}
+use Rattle.std.proofs.Common.{List, [], ◌∷◌, refl, sym, ◌∙◌, ap, subst, inl, inr, arith}
+use Rattle.std.proofs.lemmas.Bool.{cases_Bool, eq-eqb, ne_eqb, eqb-true, lt-ltb, ltb-true, leb-true, le-leb, and_from}
+use Rattle.std.proofs.lemmas.Bool.{and_parts, and_left, or_left, or_right}
 use Rattle.std.proofs.lemmas.List.{get_or_default}
 use Rattle.std.proofs.lemmas.List.Sums.{sum_by-cons}
 use Rattle.std.specs.List.Sorted.{IsSortedBy, IsNonDecreasingBy, IsPartitionedBy}
@@ -44,7 +44,8 @@ until_from x t e (inl below) = or_left (ltb e.0 x) (is_by x t e) (lt-ltb e.0 x b
 until_from x t e (inr same) = or_right (ltb e.0 x) (is_by x t e)
     (and_from (eqb x e.0) (leb e.1 t) (eq-eqb x e.0 same.0) (le-leb e.1 t same.1))
 
-until_sooner : (x t : ℕ) (a b : ℕ × ℕ × ℕ) → Lex a b → (b.0 < x) ⊎ ((x ≡ b.0) × (b.1 ≤ t)) → (a.0 < x) ⊎ ((x ≡ a.0) × (a.1 ≤ t))
+until_sooner : (x t : ℕ) (a b : ℕ × ℕ × ℕ) → Lex a b → (b.0 < x) ⊎ ((x ≡ b.0) × (b.1 ≤ t))
+    → (a.0 < x) ⊎ ((x ≡ a.0) × (a.1 ≤ t))
 until_sooner x t a b (inl less) (inl below) = inl (omega (arith, less, below))
 until_sooner x t a b (inl less) (inr same) = let e = same.0 in inl (omega (arith, less, e))
 until_sooner x t a b (inr even) (inl below) = let e = even.0 in inl (omega (arith, e, below))
@@ -52,31 +53,41 @@ until_sooner x t a b (inr even) (inr same) =
     let e = even.0 in
     let f = same.0 in
     let le = same.1 in
-    inr (omega (arith, e, f), elim even.1 [ inl lt ↦ omega (arith, lt, le) | inr q ↦ (let r = q.0 in omega (arith, r, le)) ])
+    inr (
+      omega (arith, e, f),
+      elim even.1 [
+        | inl lt ↦ omega (arith, lt, le)
+        | inr q ↦ (let r = q.0 in omega (arith, r, le))
+      ],
+    )
 
 pub until_parts : (x t : ℕ) (steps : List (ℕ × ℕ × ℕ)) → IsSortedBy lower steps → IsPartitionedBy (is_until x t) steps
 until_parts x t steps up i j d le lt holds =
     let P : ℕ × ℕ × ℕ → Type 0 = λ e. is_until x t e ≡ true in
     let there = subst P (get_or_default steps j d (0, 0, 0) lt) holds in
     let here = until_from x t (place steps i)
-    (until_sooner x t (place steps i) (place steps j) (line_rises steps up i j le lt) (until_of x t (place steps j) there)) in
+    (until_sooner x t (place steps i) (place steps j) (line_rises steps up i j le lt)
+    (until_of x t (place steps j) there)) in
     subst P (sym (get_or_default steps i d (0, 0, 0) (omega (arith, le, lt)))) here
 
 -- an entry until then is of a lower item, or of this one
-one_until : (x t : ℕ) (e : ℕ × ℕ × ℕ) → ◌≡◌ {A = ℕ} (cond (is_until x t e) 1 0) (cond (is_below x e) 1 0 + cond (is_by x t e) 1 0)
+one_until : (x t : ℕ) (e : ℕ × ℕ × ℕ)
+    → ◌≡◌ {A = ℕ} (cond (is_until x t e) 1 0) (cond (is_below x e) 1 0 + cond (is_by x t e) 1 0)
 one_until x t e =
     elim (cases_Bool (ltb e.0 x)) [
       | inl below ↦ (
           let less = ltb-true e.0 x below in
           let ne : x ≢ e.0 = λ q. absurd (omega (arith, less, q)) in
           let by : is_by x t e ≡ false = and_left (eqb x e.0) (leb e.1 t) (ne_eqb x e.0 ne) in
-          let a : ◌≡◌ {A = ℕ} (cond (is_until x t e) 1 0) 1 = ap (λ b. cond b 1 0) (or_left (ltb e.0 x) (is_by x t e) below) in
+          let a : ◌≡◌ {A = ℕ} (cond (is_until x t e) 1 0) 1 =
+          ap (λ b. cond b 1 0) (or_left (ltb e.0 x) (is_by x t e) below) in
           let b : ◌≡◌ {A = ℕ} (cond (is_below x e) 1 0) 1 = ap (λ b. cond b 1 0) below in
           let z : ◌≡◌ {A = ℕ} (cond (is_by x t e) 1 0) 0 = ap (λ b. cond b 1 0) by in
           omega (arith, a, b, z)
           )
       | inr ge ↦ (
-          let a : ◌≡◌ {A = ℕ} (cond (is_until x t e) 1 0) (cond (is_by x t e) 1 0) = ap (λ b. cond (b || is_by x t e) 1 0) ge in
+          let a : ◌≡◌ {A = ℕ} (cond (is_until x t e) 1 0) (cond (is_by x t e) 1 0) =
+          ap (λ b. cond (b || is_by x t e) 1 0) ge in
           let z : ◌≡◌ {A = ℕ} (cond (is_below x e) 1 0) 0 = ap (λ b. cond b 1 0) ge in
           omega (arith, a, z)
           )
@@ -97,7 +108,8 @@ count_untils x t (e ∷ steps) =
 
 pub too_soon_both_ways : (h : List Call) (x g end put got : ℕ) (begun ended : List (ℕ × ℕ × ℕ)) → Gets h x g
     → end ≡ last_step (call h g).end → AreSorted Outer h In begun → AreSorted Outer h Out ended
-    → put ≡ count_by (is_by x end) begun → got ≡ count_by (is_by x end) ended → (ltb put got ≡ true) ↔ IsTakenTooSoon h g
+    → put ≡ count_by (is_by x end) begun → got ≡ count_by (is_by x end) ended
+    → (ltb put got ≡ true) ↔ IsTakenTooSoon h g
 too_soon_both_ways h x g end put got begun ended gets at ins outs e f =
     let Q : ℕ → Type 0 = λ w. IsOverdrawn h x w in
     let a : put ≡ puts_begun h x end = e ∙ ins.counted x end in

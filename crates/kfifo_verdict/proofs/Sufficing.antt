@@ -1,6 +1,6 @@
 -- For a plain history the kinds 1 to 4 are enough: where one of the kinds 5 to 7 is there, one of these is.
-use Rattle.std.proofs.Common.{ℕ, zero, suc, ◌≡◌, ◌<◌, ◌≤◌, ◌+◌, ◌&&◌, Bool, true, false, List, Option, Some, None, cond, leb, length}
-use Rattle.std.proofs.Common.{refl, sym, subst, inl, inr, arith, ◌∙◌}
+use Rattle.std.proofs.Common.{ℕ, zero, suc, ◌≡◌, ◌<◌, ◌≤◌, ◌+◌, ◌&&◌, Bool, true, false, List, Option, Some, None, cond}
+use Rattle.std.proofs.Common.{leb, length, refl, sym, subst, inl, inr, arith, ◌∙◌}
 use Rattle.std.proofs.lemmas.Bool.{and_from, and_parts, cases_lt, le-leb, ltb-true}
 use Rattle.kfifo_verdict.proofs.Types.{Call, End}
 use Rattle.kfifo_model.specs.Histories.{call, does, EndsBelow, HasEnd}
@@ -8,8 +8,8 @@ use Rattle.kfifo_model.specs.Overtaking.{adds, takes, ends_below}
 use Rattle.kfifo_model.specs.Validity.{IsHistory}
 use Rattle.kfifo_model.proofs.Lists.{each_at, each_from}
 use Rattle.kfifo_verdict.specs.Evidence.{Gets, HasItemsLeft, IsCertainlyThere, IsLeft, IsNeverPut, IsOlder, IsOlderCopy}
-use Rattle.kfifo_verdict.specs.Evidence.{IsOlderLeft, IsTakenTooSoon, IsTakenTwice, IsTooYoung, count_below, gets_begun, gets_of}
-use Rattle.kfifo_verdict.specs.Evidence.{gets_ended, last_step, puts_begun, puts_ended, puts_of}
+use Rattle.kfifo_verdict.specs.Evidence.{IsOlderLeft, IsTakenTooSoon, IsTakenTwice, IsTooYoung, count_below, gets_begun}
+use Rattle.kfifo_verdict.specs.Evidence.{gets_of, gets_ended, last_step, puts_begun, puts_ended, puts_of}
 use Rattle.kfifo_verdict.specs.Finding.{HasGaps}
 use Rattle.kfifo_verdict.specs.Judging.{GotTooYoung, HasNoEvidence, HasNoneForEachK, HasNoneTo3, IsPlain, Never}
 use Rattle.kfifo_verdict.proofs.Covering.{moment_here}
@@ -97,12 +97,15 @@ copy_is_older h get put p plain x gets copy =
       kept = λ g took. ends_later (call h get).end (call h g).first (got_ended h x get gets)
           (elim (cases_lt late (call h g).first) [
             | inl lt ↦ lt
-            | inr le ↦ absurd (none_below (λ c. takes y (does h c) && leb (call h c).first late) (length h) g unbegun (got_inside h y g took)
-                (and_from (takes y (does h g)) (leb (call h g).first late) (gets_pass h y g took) (le-leb (call h g).first late le)))
+            | inr le ↦ absurd (none_below (λ c. takes y (does h c) && leb (call h c).first late) (length h) g unbegun
+                (got_inside h y g took)
+                (and_from (takes y (does h g)) (leb (call h g).first late) (gets_pass h y g took)
+                (le-leb (call h g).first late le)))
           ]);
     }
 
-older_is_young : (k : ℕ) (h : List Call) (get : ℕ) (puts : List ℕ) → IsPlain h → IsOlderLeft k h get puts → IsTooYoung k h get puts
+older_is_young : (k : ℕ) (h : List Call) (get : ℕ) (puts : List ℕ) → IsPlain h → IsOlderLeft k h get puts
+    → IsTooYoung k h get puts
 older_is_young k h get puts plain o = record {
   item = o.item;
   put = o.put;
@@ -132,8 +135,10 @@ too_soon_never h get plain s = (
       let none : puts_begun h x step ≤ 0 = omega (arith, one, over) in
       ends_later (call h get).end (call h p).first (got_ended h x get s.1) (elim (cases_lt step (call h p).first) [
         | inl lt ↦ lt
-        | inr le ↦ absurd (none_below (λ c. adds x (does h c) && leb (call h c).first step) (length h) p none (put_inside h x p puts)
-            (and_from (adds x (does h p)) (leb (call h p).first step) (puts_pass h x p puts) (le-leb (call h p).first step le)))
+        | inr le ↦ absurd (none_below (λ c. adds x (does h c) && leb (call h c).first step) (length h) p none
+            (put_inside h x p puts)
+            (and_from (adds x (does h p)) (leb (call h p).first step) (puts_pass h x p puts)
+            (le-leb (call h p).first step le)))
       ])
       ),
 )
@@ -166,7 +171,8 @@ left_is_there h x moment plain left =
     let single = plain.0 x p (adds_is x (does h p) two.0) in
     let one : puts_ended h x moment ≤ 1 = at_most_one ended (length h) (λ c d lt more holds too.
     single.alone c (adds_is x (does h c) (and_parts (adds x (does h c)) (ends_below (call h c).end moment) holds).0)
-    ∙ sym (single.alone d (adds_is x (does h d) (and_parts (adds x (does h d)) (ends_below (call h d).end moment) too).0))) in
+    ∙ sym (single.alone d
+    (adds_is x (does h d) (and_parts (adds x (does h d)) (ends_below (call h d).end moment) too).0))) in
     let none : gets_begun h x moment ≤ 0 = omega (arith, one, left) in (
       p,
       record {
@@ -175,8 +181,10 @@ left_is_there h x moment plain left =
         put = ends_from (call h p).end moment two.1;
         kept = λ g took. elim (cases_lt moment (call h g).first) [
           | inl lt ↦ lt
-          | inr le ↦ absurd (none_below (λ c. takes x (does h c) && leb (call h c).first moment) (length h) g none (got_inside h x g took)
-              (and_from (takes x (does h g)) (leb (call h g).first moment) (gets_pass h x g took) (le-leb (call h g).first moment le)))
+          | inr le ↦ absurd (none_below (λ c. takes x (does h c) && leb (call h c).first moment) (length h) g none
+              (got_inside h x g took)
+              (and_from (takes x (does h g)) (leb (call h g).first moment) (gets_pass h x g took)
+              (le-leb (call h g).first moment le)))
         ];
       },
     )

@@ -52,7 +52,8 @@ counts_until soonest ps moment p = leb (since soonest ps p) moment && eqb moment
 pub record AreChanges (soonest : List ℕ) (ps : List Presence) (n : ℕ) (c : Changes) : Type 0 where
   pub sized : (length c.from.items ≡ length soonest) × (length c.until.items ≡ length soonest)
   pub from : (m : ℕ) → m < length soonest → slice_index_or c.from.items m 0 ≡ count_below (counts_from soonest ps m) n
-  pub until : (m : ℕ) → m < length soonest → slice_index_or c.until.items m 0 ≡ count_below (counts_until soonest ps m) n
+  pub until : (m : ℕ) → m < length soonest → slice_index_or c.until.items m 0
+      ≡ count_below (counts_until soonest ps m) n
 
 -- the most items that count at a moment
 pub record IsMostAtOnce (soonest : List ℕ) (ps : List Presence) (most : ℕ) : Type 0 where

@@ -1,6 +1,6 @@
 -- What the search for evidence knows of a history: what its calls do, tallies of their items, and when items are there.
-use Rattle.std.specs.Prelude.{ℕ, ◌≡◌, ◌+◌, ◌<◌, ◌≤◌, ◌↔◌, ◌⊎◌, ◌&&◌, ◌-◌, cond, leb, ltb, min, Bool, true, List, Option, length}
-use Rattle.std.specs.Prelude.{IsTrue, slice_index_or, unwrap_or}
+use Rattle.std.specs.Prelude.{ℕ, ◌≡◌, ◌+◌, ◌<◌, ◌≤◌, ◌↔◌, ◌⊎◌, ◌&&◌, ◌-◌, cond, leb, ltb, min, Bool, true, List, Option}
+use Rattle.std.specs.Prelude.{length, IsTrue, slice_index_or, unwrap_or}
 use Rattle.std.specs.Ordering.{nat_cmp}
 use Rattle.std.specs.BTreeMap.{get}
 use Rattle.kfifo_model.specs.declared.calls.Call.{Call}

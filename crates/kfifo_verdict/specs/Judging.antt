@@ -8,8 +8,8 @@ use Rattle.kfifo_verdict.specs.declared.verdicts.Evidence.TheVariants.{NeverPut,
 use Rattle.kfifo_verdict.specs.declared.verdicts.Evidence.TheVariants.{TakenTooSoon, ItemsLeft, OlderLeft}
 use Rattle.kfifo_verdict.specs.declared.verdicts.Judgement.{Judgement}
 use Rattle.kfifo_verdict.specs.declared.verdicts.Judgement.TheVariants.{Legal, NoOrder, Undecided}
-use Rattle.kfifo_verdict.specs.declared.verdicts.Stuck.{Stuck}
-use Rattle.kfifo_verdict.specs.declared.verdicts.Stuck.TheVariants.{TriesRanOut, NothingLeft}
+use Rattle.kfifo_verdict.specs.declared.verdicts.GivenUp.{GivenUp}
+use Rattle.kfifo_verdict.specs.declared.verdicts.GivenUp.TheVariants.{TriesRanOut, NothingLeft}
 use Rattle.kfifo_verdict.specs.declared.verdicts.Bounds.{Bounds}
 use Rattle.kfifo_verdict.specs.Evidence.{Puts, IsSingle, IsNeverPut, IsTakenTwice, IsNotEmpty, IsTooYoung}
 use Rattle.kfifo_verdict.specs.Evidence.{IsTakenTooSoon, HasItemsLeft, IsOlderLeft}
@@ -97,7 +97,7 @@ IsJudgement k h (NoOrder found) = IsFirstEvidence k h found × (HasOrder k h →
 IsJudgement k h (Undecided stuck) = HasNoEvidence k h
 
 -- how many choices the search had undone when it stopped
-abbrev pub tries_made : Stuck → ℕ
+abbrev pub tries_made : GivenUp → ℕ
 tries_made (TriesRanOut tries) = tries
 tries_made (NothingLeft tries) = tries
 

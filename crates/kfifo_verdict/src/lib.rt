@@ -2,12 +2,12 @@
 #![tactic(auto)]
 
 mod bound;
+mod choices;
 mod facts;
 mod finding;
 mod judging;
 mod left;
 mod older;
-mod picks;
 mod precedence;
 mod presences;
 mod remainder;
@@ -25,5 +25,5 @@ mod walking;
 pub use finding::{evidence, evidence_for_each_k};
 pub use judging::{judge, judge_and_count, least_k};
 pub use remainder::items_remaining;
-pub use verdicts::{Bounds, Evidence, Judgement, Stuck};
+pub use verdicts::{Bounds, Evidence, GivenUp, Judgement};
 pub use walking::witness;

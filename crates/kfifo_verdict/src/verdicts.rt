@@ -78,20 +78,20 @@ impl Evidence {
 
 /// Why the search for an order found none, and after how many tries: so many choices it undid.
 #[derive(Clone, Copy, Debug, PartialEq, Eq)]
-pub enum Stuck {
+pub enum GivenUp {
     /// As many choices were undone as were allowed: with more tries it may find one.
     TriesRanOut(u64),
     /// There was nothing that it could have done otherwise: more tries do not help.
     NothingLeft(u64),
 }
 
-impl Stuck {
+impl GivenUp {
     /// How many choices the search undid: no more than were allowed.
     pub fn tries(self) -> u64
         ensures { result ≡ tries_made self }
     {
         match self {
-            Stuck::TriesRanOut(tries) | Stuck::NothingLeft(tries) => tries,
+            GivenUp::TriesRanOut(tries) | GivenUp::NothingLeft(tries) => tries,
         }
     }
 }
@@ -105,7 +105,7 @@ pub enum Judgement {
     NoOrder(Evidence),
     /// There is none of the seven kinds of evidence, and no order was found, for this reason: there may be one all the
     /// same.
-    Undecided(Stuck),
+    Undecided(GivenUp),
 }
 
 /// Between which bounds the least k lies for which a history has a legal order, if it has one for some k.

@@ -13,11 +13,11 @@ ghost use Rattle.std.specs.Prelude.{◌≤◌, IfOk, IfSome, MatchResult};
 ghost use Rattle.kfifo_model.specs.Histories.{IsLegal};
 ghost use Rattle.kfifo_verdict.specs.Judging.{tries_made};
 
+use crate::choices::{Choices, next_way};
 use crate::facts::Facts;
-use crate::picks::{Picks, next_pick};
 use crate::seen::Seen;
 use crate::state::{Mark, State};
-use crate::verdicts::Stuck;
+use crate::verdicts::GivenUp;
 use kfifo_model::{Call, Effect, History, Verdict, check_order};
 use std::alloc::{AllocError, Global};
 
@@ -47,7 +47,7 @@ enum Step {
     /// The walk came on.
     Went,
     /// A call is due that cannot go.
-    Stuck,
+    GivenUp,
 }
 
 /// A waiting get, and the place of its item at the front.
@@ -130,10 +130,15 @@ impl Walk {
 
     /// An item leaves the front, if any can, so that get `but` has room. The one whose get ends first goes, since it
     /// has to go first anyhow; or, where that led nowhere, the one whose get ends last.
-    fn make_room(&mut self, but: usize, step: u64, picks: &mut Picks) -> Result<bool, AllocError> {
-        let (exit, others) = self.exit(but, picks.is_turned());
+    fn make_room(
+        &mut self,
+        but: usize,
+        step: u64,
+        choices: &mut Choices,
+    ) -> Result<bool, AllocError> {
+        let (exit, others) = self.exit(but, choices.is_turned());
         if others {
-            picks.pass();
+            choices.pass();
         }
         let Some(exit) = exit else {
             return Ok(false);
@@ -149,14 +154,14 @@ impl Walk {
         put: usize,
         get: usize,
         step: u64,
-        picks: &mut Picks,
+        choices: &mut Choices,
     ) -> Result<bool, AllocError> {
         let first = self.facts.at(put).first;
         for _ in 0..self.facts.count() {
             match self.state.loose.first_to_end() {
                 Some(oldest) if self.facts.at(oldest).last < first => {
                     self.state.settle(oldest)?;
-                    if self.state.front.len() >= self.k && !self.make_room(get, step, picks)? {
+                    if self.state.front.len() >= self.k && !self.make_room(get, step, choices)? {
                         return Ok(false);
                     }
                 }
@@ -219,22 +224,22 @@ impl Walk {
                 next: None,
             });
         }
-        let mut picks = Picks::of(way);
-        let (candidate, more) = self.candidate(item, picks.candidate);
+        let mut choices = Choices::of(way);
+        let (candidate, more) = self.candidate(item, choices.candidate);
         let Some(put) = candidate else {
             return Ok(Outcome {
                 went: false,
                 next: None,
             });
         };
-        let went = self.settle_before(put, get, step, &mut picks)?;
+        let went = self.settle_before(put, get, step, &mut choices)?;
         if went {
             self.state.pick(put)?;
             self.state.go(get, step)?;
         }
         Ok(Outcome {
             went,
-            next: next_pick(&picks, more),
+            next: next_way(&choices, more),
         })
     }
 
@@ -349,10 +354,10 @@ impl Walk {
             self.state.go_back(mark)?;
             match outcome.next {
                 Some(next) if !known => way = next,
-                _ => return Ok(Step::Stuck),
+                _ => return Ok(Step::GivenUp),
             }
         }
-        Ok(Step::Stuck)
+        Ok(Step::GivenUp)
     }
 
     /// The next finished call is due. One that puts nothing may have gone before.
@@ -381,7 +386,7 @@ impl Walk {
 
     /// Walks until all finished calls went, or none can that is due. At most `tries` choices are undone; returns how
     /// many were.
-    fn run(&mut self, tries: u64) -> Result<Result<u64, Stuck>, AllocError>
+    fn run(&mut self, tries: u64) -> Result<Result<u64, GivenUp>, AllocError>
         ensures { IfOk result (λ ran. MatchResult ran (λ undone. undone ≤ tries) (λ stuck. tries_made stuck ≤ tries)) }
     {
         let mut undone = 0;
@@ -390,22 +395,22 @@ impl Walk {
             match self.step(way)? {
                 Step::Finished => return Ok(Ok(undone)),
                 Step::Went => way = 0,
-                Step::Stuck => {
+                Step::GivenUp => {
                     if self.choices.is_empty() {
-                        return Ok(Err(Stuck::NothingLeft(undone)));
+                        return Ok(Err(GivenUp::NothingLeft(undone)));
                     }
                     if undone == tries {
-                        return Ok(Err(Stuck::TriesRanOut(undone)));
+                        return Ok(Err(GivenUp::TriesRanOut(undone)));
                     }
                     let Some(next) = self.go_back()? else {
-                        return Ok(Err(Stuck::NothingLeft(undone)));
+                        return Ok(Err(GivenUp::NothingLeft(undone)));
                     };
                     undone += 1;
                     way = next;
                 }
             }
         }
-        Ok(Err(Stuck::TriesRanOut(undone)))
+        Ok(Err(GivenUp::TriesRanOut(undone)))
     }
 }
 
@@ -416,7 +421,7 @@ fn found_order(
     calls: &[Call],
     k: usize,
     tries: u64,
-) -> Result<Result<(Vec<usize>, u64), Stuck>, AllocError>
+) -> Result<Result<(Vec<usize>, u64), GivenUp>, AllocError>
     ensures { IfOk result (λ found. MatchResult found (λ f. f.1 ≤ tries) (λ stuck. tries_made stuck ≤ tries)) }
 {
     let mut walk = Walk::new(alloc, calls, k)?;
@@ -432,7 +437,7 @@ pub(crate) fn search(
     history: &History,
     k: u32,
     tries: u64,
-) -> Result<Result<Vec<usize>, Stuck>, AllocError>
+) -> Result<Result<Vec<usize>, GivenUp>, AllocError>
     requires { (1 ≤ k) × (k ≤ 64) }
     ensures { IfOk result (λ found. MatchResult found
         (λ order. IsLegal k history.now order.items) (λ stuck. tries_made stuck ≤ tries)) }
@@ -443,7 +448,7 @@ pub(crate) fn search(
     };
     match check_order(alloc, history, k, &order)? {
         Verdict::Legal => Ok(Ok(order)),
-        _ => Ok(Err(Stuck::NothingLeft(undone))),
+        _ => Ok(Err(GivenUp::NothingLeft(undone))),
     }
 }
 

@@ -100,8 +100,9 @@ impl Shape {
     ///
     /// An enqueue that puts its item into the head's segment raises the version of the ends, so that no dequeue moves
     /// the head past the item. Another thread may change the ends first. Then the enqueue of a plain shape takes its
-    /// item out and begins anew. That of this shape looks at its slot and at the ends again, and takes the item out only
-    /// where its segment no longer lies between head and tail, or where it has no round left. Each try costs a round.
+    /// item out and begins anew. That of this shape looks at its slot and at the ends again, and takes the item out
+    /// only where its segment no longer lies between head and tail, or where it has no round left. Each try costs a
+    /// round.
     ///
     /// ```rust
     /// let shape = Shape::new(4, 256, MAX_VERSION)?.holding_again();

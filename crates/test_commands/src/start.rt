@@ -1,6 +1,6 @@
 //! The hint of a reader that waits, and the line of the progress.
 
-use kfifo_cli_commands::{Notes, Progress, Prompting, Showing, Stage};
+use kfifo_cli_commands::{Notes, Progress, ProgressLine, Prompting, Stage};
 use std::io;
 use std::io::Read;
 use std::test::Fail;
@@ -44,7 +44,7 @@ fn shows_the_progress_once_a_second_has_gone_by(rt: HostRuntime) -> Result<(), F
     let mut shown = Vec::new(rt.alloc());
     let mut notes = Vec::new(rt.alloc());
     let begun = Instant::now(&Still(2)).ok();
-    let mut progress = Showing::new(&Still(3), begun, Some(&mut shown), &mut notes);
+    let mut progress = ProgressLine::new(&Still(3), begun, Some(&mut shown), &mut notes);
     progress.told(1, 4);
     progress.told(2, 4);
     progress.ended();
@@ -60,7 +60,7 @@ fn shows_what_is_done_with_a_long_log(rt: HostRuntime) -> Result<(), Fail> {
     let mut shown = Vec::new(rt.alloc());
     let mut notes = Vec::new(rt.alloc());
     let begun = Instant::now(&Still(2)).ok();
-    let mut progress = Showing::new(&Still(2), begun, Some(&mut shown), &mut notes);
+    let mut progress = ProgressLine::new(&Still(2), begun, Some(&mut shown), &mut notes);
     progress.begun(Stage::Reading(33_554_431));
     progress.begun(Stage::Judging(999_999));
     progress.begun(Stage::Reading(351_666_715));
@@ -79,7 +79,7 @@ const WRONG: &str = "line 3: op is \"push\"\n";
 #[test]
 fn shows_what_is_wrong(rt: HostRuntime) -> Result<(), Fail> {
     let mut notes = Vec::new(rt.alloc());
-    let mut progress = Showing::new(&Still(2), None, None, &mut notes);
+    let mut progress = ProgressLine::new(&Still(2), None, None, &mut notes);
     progress.explained(WRONG);
     drop(progress);
     assert_eq!(rt; notes.as_slice(), WRONG.as_bytes());
@@ -91,7 +91,7 @@ fn shows_nothing_before_a_second_has_gone_by(rt: HostRuntime) -> Result<(), Fail
     let mut shown = Vec::new(rt.alloc());
     let mut notes = Vec::new(rt.alloc());
     let begun = Instant::now(&Still(2)).ok();
-    let mut progress = Showing::new(&Still(2), begun, Some(&mut shown), &mut notes);
+    let mut progress = ProgressLine::new(&Still(2), begun, Some(&mut shown), &mut notes);
     progress.told(1, 4);
     progress.ended();
     drop(progress);

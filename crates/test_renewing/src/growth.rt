@@ -118,8 +118,8 @@ fn stops_at_its_bound(rt: HostRuntime) -> Result<(), Fail> {
     Ok(())
 }
 
-/// One handle only gives and another one only takes. The queue grows again and again, each time by some 100 generations,
-/// which the other handle then joins at once.
+/// One handle only gives and another one only takes. The queue grows again and again, each time by some 100
+/// generations, which the other handle then joins at once.
 #[test]
 fn grows_between_two_handles(rt: HostRuntime) -> Result<(), Fail> {
     let mut handles = open_growing(rt.alloc(), 2, DEFAULT_RESERVE, 125)?;

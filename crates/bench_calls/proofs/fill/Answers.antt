@@ -9,7 +9,8 @@ pub loop-item-preserved : goal.loop-item-preserved
 loop-item-preserved c =
     let same = c.loop-item.invariant.same in
     let now = c.enqueue.ensures.same in
-    let more : calls c.args.pass.now.thread c.enqueue.new.self.seen ≡ calls c.args.pass.now.thread c.loop-item.pass.seen + 1 =
+    let more : calls c.args.pass.now.thread c.enqueue.new.self.seen
+    ≡ calls c.args.pass.now.thread c.loop-item.pass.seen + 1 =
     subst (λ t. calls t c.enqueue.new.self.seen ≡ calls t c.loop-item.pass.seen + 1) same.2
     (one_more _ _ _ _ _ _ _ c.enqueue.ensures.call.run) in
     let one : items_put c.args.pass.now.thread c.enqueue.new.self.seen
@@ -20,12 +21,15 @@ loop-item-preserved c =
       same = (now.0 ∙ same.0, now.1 ∙ same.1, now.2 ∙ same.2);
       made = omega (arith, more, c.loop-item.invariant.made);
       items =
-          one ∙ ap (λ is. is ++ c.loop-item.item ∷ []) c.loop-item.invariant.items ∙ append_assoc _ _ (c.loop-item.item ∷ [])
-          ∙ ap (λ is. items_put c.args.pass.now.thread c.args.pass.now.seen ++ is) (up_to c.loop-item.item c.loop-item.auto.item);
+          one ∙ ap (λ is. is ++ c.loop-item.item ∷ []) c.loop-item.invariant.items
+          ∙ append_assoc _ _ (c.loop-item.item ∷ [])
+          ∙ ap (λ is. items_put c.args.pass.now.thread c.args.pass.now.seen ++ is)
+          (up_to c.loop-item.item c.loop-item.auto.item);
       k = c.next.ensures.same ∙ c.loop-item.invariant.k;
     }
 
 pub returns-clause-items : goal.returns-clause-items
 returns-clause-items c =
     let all : c.loop-item.item - 1 ≡ 512 = omega (arith, c.loop-item-test.false, c.loop-item.auto.item-end) in
-    c.loop-item.invariant.items ∙ ap (λ n. items_put c.args.pass.now.thread c.args.pass.now.seen ++ range_with_len 1 n) all
+    c.loop-item.invariant.items
+    ∙ ap (λ n. items_put c.args.pass.now.thread c.args.pass.now.seen ++ range_with_len 1 n) all

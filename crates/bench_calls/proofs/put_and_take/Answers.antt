@@ -10,10 +10,12 @@ loop-item-preserved c =
     let same = c.loop-item.invariant.same in
     let put = c.enqueue.ensures.same in
     let taken = c.dequeue.ensures.same in
-    let one : calls c.args.pass.now.thread c.enqueue.new.self.seen ≡ calls c.args.pass.now.thread c.loop-item.pass.seen + 1 =
+    let one : calls c.args.pass.now.thread c.enqueue.new.self.seen
+    ≡ calls c.args.pass.now.thread c.loop-item.pass.seen + 1 =
     subst (λ t. calls t c.enqueue.new.self.seen ≡ calls t c.loop-item.pass.seen + 1) same.2
     (one_more _ _ _ _ _ _ _ c.enqueue.ensures.call.run) in
-    let two : calls c.args.pass.now.thread c.dequeue.new.self.seen ≡ calls c.args.pass.now.thread c.enqueue.new.self.seen + 1 =
+    let two : calls c.args.pass.now.thread c.dequeue.new.self.seen
+    ≡ calls c.args.pass.now.thread c.enqueue.new.self.seen + 1 =
     subst (λ t. calls t c.dequeue.new.self.seen ≡ calls t c.enqueue.new.self.seen + 1) (put.2 ∙ same.2)
     (one_more _ _ _ _ _ _ _ c.dequeue.ensures.call.run) in
     let few : c.match-enqueue.wanted ≤ 2 * c.loop-item.item + 1 = elim c.match-enqueue.branch [

@@ -9,7 +9,8 @@ pub loop-call-preserved : goal.loop-call-preserved
 loop-call-preserved c =
     let same = c.loop-call.invariant.same in
     let now = c.dequeue.ensures.same in
-    let more : calls c.args.pass.now.thread c.dequeue.new.self.seen ≡ calls c.args.pass.now.thread c.loop-call.pass.seen + 1 =
+    let more : calls c.args.pass.now.thread c.dequeue.new.self.seen
+    ≡ calls c.args.pass.now.thread c.loop-call.pass.seen + 1 =
     subst (λ t. calls t c.dequeue.new.self.seen ≡ calls t c.loop-call.pass.seen + 1) same.2
     (one_more _ _ _ _ _ _ _ c.dequeue.ensures.call.run) in
     record {

@@ -45,7 +45,8 @@ impl LeftHandle {
 
     /// The cells, of which nothing is held any more.
     pub(crate) fn take(&mut self, alloc: Global) -> Option<Box<LeftSeat, Global>>
-        ensures value { MatchOption result (left_in self.old.held.value ≡ None) (λ seat. self.old.held.value ≡ Some (Left seat.value)) }
+        ensures value { MatchOption result (left_in self.old.held.value ≡ None)
+            (λ seat. self.old.held.value ≡ Some (Left seat.value)) }
         ensures closed { self.new.held.value ≡ None }
     {
         let LeftHandle { held, holds } = replace(self, LeftHandle::closed());

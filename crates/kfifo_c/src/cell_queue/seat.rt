@@ -97,8 +97,8 @@ impl CellSeat {
         self.handle.cancel()
     }
 
-    /// Releases the cell that was received before, and takes one of the k oldest cells of the oldest generation that has
-    /// one.
+    /// Releases the cell that was received before, and takes one of the k oldest cells of the oldest generation that
+    /// has one.
     #[inline(always)]
     pub(crate) fn receive(&mut self) -> Taken<CellAt>
         ensures { ReceivesOldest result self.old self.new }

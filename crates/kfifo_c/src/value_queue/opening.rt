@@ -68,8 +68,8 @@ fn address_of_all(seats: &[Box<ValueSeat, Global>]) -> *mut u8 {
 /// reserve, a generation is followed by the next one; with a reserve of 0 it is not. So is one with no room while there
 /// are fewer than `generations`. What was behind the handles is lost. A refusal does nothing: BAD_THREADS where the
 /// handles are not 1 to 64; BAD_K; BAD_LAST; BAD_CAPACITY where the capacity is 0, or greater than a queue of these
-/// handles can have; BAD_RESERVE where the reserve is not below the greatest version; BAD_CALL where the generations are
-/// not 1 to 129 - 2 * threads; NO_MEMORY where an allocation failed.
+/// handles can have; BAD_RESERVE where the reserve is not below the greatest version; BAD_CALL where the generations
+/// are not 1 to 129 - 2 * threads; NO_MEMORY where an allocation failed.
 #[unsafe(no_mangle)]
 pub extern "C" fn kfifo_c_open_values(
     alloc: Global,

@@ -52,7 +52,8 @@ Exit statuses:
   status 0                    the answer was printed, or the help that was asked
                               for
   status 1                    the data, a size, the memory, reading or writing
-                              was at fault
+                              was at fault; or `judge` was given several
+                              files, of which one has no order
   status 2                    the command line is at fault
   status 3                    a record or a log has no order for this k, or the
                               order that was given is not legal

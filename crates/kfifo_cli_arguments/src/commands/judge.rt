@@ -148,8 +148,8 @@ Exit status:
   2  the command line is at fault
   3  `no order` was printed
   4  `undecided` was printed
-Of several files: 3 if one has no order; else 1 if one has no verdict; else 4 if
-one is undecided; else 0.
+Of several files: 1 if one has no order or no verdict; else 4 if one is
+undecided; else 0.
 
 Examples:
   kfifo judge log.csv                    is this the log of a plain queue, and

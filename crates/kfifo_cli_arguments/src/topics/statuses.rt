@@ -19,7 +19,7 @@ To do: nothing.
         advice: "\
 To do: read the line on standard error, and explain that one. There is none if
 standard output could not be written, nor where `judge` was given several files:
-there the line of each file without a verdict says why.
+there the line of each file without an order or a verdict says why.
 ",
     },
     Topic {

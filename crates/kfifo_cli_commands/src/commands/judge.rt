@@ -46,8 +46,8 @@ fn text_of(
     calls: &Calls,
 ) -> Result<(String, Status), AllocError>
     ensures said { IfOk result (λ a. (said : OutcomeData) × (status_number a.1 ≡ status_number (outcome_status said))
-        × IsVerdict options.entry (logged_calls (option_map (λ logged. logged.items) calls.now.logged)) calls.now.history
-        (string_bytes a.0) said) }
+        × IsVerdict options.entry (logged_calls (option_map (λ logged. logged.items) calls.now.logged))
+        calls.now.history (string_bytes a.0) said) }
     ensures status { IfOk result (λ a. (a.1 ≡ Status.Answered) ⊎ (a.1 ≡ Status.Unordered) ⊎ (a.1 ≡ Status.Undecided)) }
 {
     let (text, said) = verdict_on(alloc, options, &calls.history, calls.logged())?;

@@ -1,6 +1,7 @@
 use Rattle.kfifo_linear.proofs.Counts.{numbers_agree}
 use Rattle.kfifo_linear.proofs.Late.{late_take}
-use Rattle.kfifo_linear.proofs.Schedule.{points_hold, has_legal_order, few_overtake, few_certainly, laws_hold, puts_in_visit, one_order}
+use Rattle.kfifo_linear.proofs.Schedule.{points_hold, has_legal_order, few_overtake, few_certainly, laws_hold}
+use Rattle.kfifo_linear.proofs.Schedule.{puts_in_visit, one_order}
 use Rattle.kfifo_linear.proofs.every_schedule_has_a_legal_order.Goals as goal
 
 pub returns : goal.returns

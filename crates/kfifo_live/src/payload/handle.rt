@@ -4,7 +4,7 @@ ghost use Rattle.kfifo_live.specs.Calls.{IsDisturbed};
 ghost use Rattle.kfifo_live.specs.Pass.{IsPassOf, IsSamePass, IsSealedEmpty, PassKeepsPromise};
 ghost use Rattle.kfifo_live.specs.Payloads.{Gives, TakesOut};
 ghost use Rattle.kfifo_live.specs.Seals.{TakesOrSeals};
-ghost use Rattle.kfifo_live.specs.Handles.{PayHeld, cycle_at, first_of, further, pass_of};
+ghost use Rattle.kfifo_live.specs.Handles.{PayHandleView, cycle_at, first_of, further, pass_of};
 ghost use Rattle.kfifo_live.specs.declared.handle.TheConstants.{MAX_TURNS};
 
 use crate::handle::MAX_TURNS;
@@ -33,7 +33,7 @@ pub struct PayHandle<T: Drop> {
 }
 
 impl<T: Drop> Model for PayHandle<T> {
-    ghost Value = { PayHeld T };
+    ghost Value = { PayHandleView T };
 
     ghost view = { λ h. record { pass = h.pass; give_start = h.gives.start; take_start = h.takes.start } };
 
@@ -76,8 +76,8 @@ impl<T: Drop> PayHandle<T> {
 
     /// Puts a payload into the queue, with a token of the pass, as `PayPass::give` does.
     ///
-    /// Returns Done, or NoToken, Full, Worn or Busy with the payload. NoToken comes exactly where the pass has no token.
-    /// Busy comes only where another thread won an exchange during the call. It never allocates, waits or locks.
+    /// Returns Done, or NoToken, Full, Worn or Busy with the payload. NoToken comes exactly where the pass has no
+    /// token. Busy comes only where another thread won an exchange during the call. It never allocates, waits or locks.
     #[inline(always)]
     pub fn give(&mut self, queue: &PayQueue<T>, payload: T) -> Given<T>
         requires of { IsPassOf queue.now (pass_of self.old) }

@@ -57,9 +57,9 @@ impl<T: Drop> PayPass<T> {
     /// let taken = pass.take_or_seal(&queue, 0, 258); // start slot, turns
     /// ```
     ///
-    /// Returns as `take` does; and in place of Empty, Sealed where the ends word was the same from before the take up to
-    /// the seal, or was sealed before. Empty then says that it was not the same, or that an enqueue held the head. It
-    /// never allocates, waits or locks.
+    /// Returns as `take` does; and in place of Empty, Sealed where the ends word was the same from before the take up
+    /// to the seal, or was sealed before. Empty then says that it was not the same, or that an enqueue held the head.
+    /// It never allocates, waits or locks.
     pub fn take_or_seal(&mut self, queue: &PayQueue<T>, start: u32, turns: u16) -> TakenOrSealed<T>
         requires of { IsPassOf queue.now self.old.pass }
         requires start { start < queue.now.opened.shape.k }

@@ -5,8 +5,8 @@ ghost use Rattle.kfifo_live.specs.Handles.{cycle_at, first_of, further};
 ghost use Rattle.kfifo_live.specs.declared.handle.TheConstants.{MAX_TURNS};
 ghost use Rattle.kfifo_live.specs.Pass.{IsPassOf, IsSamePass, IsSealedEmpty, PassKeepsPromise};
 ghost use Rattle.kfifo_live.specs.Payloads.{TokenView};
-ghost use Rattle.kfifo_live.specs.Tokens.{GivesWith, Puts, ReceivesOrSeals, ReceivesWith, TakesToken, TakesTokenOrSeals};
-ghost use Rattle.kfifo_live.specs.Tokens.{TokenHeld};
+ghost use Rattle.kfifo_live.specs.Tokens.{GivesWith, Puts, ReceivesOrSeals, ReceivesWith, TakesToken};
+ghost use Rattle.kfifo_live.specs.Tokens.{TakesTokenOrSeals, TokenHandleView};
 
 use crate::handle::MAX_TURNS;
 use crate::payload::Taken;
@@ -34,7 +34,7 @@ pub struct TokenHandle<T: Drop> {
 }
 
 impl<T: Drop> Model for TokenHandle<T> {
-    ghost Value = { TokenHeld T };
+    ghost Value = { TokenHandleView T };
 
     ghost view = { λ h. record { pass = h.pass; put_start = h.puts.start; take_start = h.takes.start } };
 
@@ -156,8 +156,8 @@ impl<T: Drop> TokenHandle<T> {
         self.pass.receive(queue, start, MAX_TURNS)
     }
 
-    /// Takes one of the k oldest tokens out of a bare queue, or seals it where it is empty, as `TokenPass::take_or_seal`
-    /// does. It begins where a `take` would.
+    /// Takes one of the k oldest tokens out of a bare queue, or seals it where it is empty, as
+    /// `TokenPass::take_or_seal` does. It begins where a `take` would.
     ///
     /// Returns Got with the token, Empty, Sealed, Worn or Busy. Busy comes only where another thread won an exchange
     /// during the call. It never allocates, waits or locks.

@@ -56,7 +56,8 @@ fn deal_all<T: Drop>(
     requires seat { (seat.me.1 ≡ []) × (seat.me.0
         ≡ view_of seat.me.0.opened (fresh seat.me.0.opened.tokens 0 threads)) }
     requires opened { (seat.me.0.opened.threads ≡ threads) × (seat.me.0.opened.tokens ≡ tokens) }
-    ensures passes { IfOk result (λ r. r.0.items ≡ new_token_passes (queue_of seat.table_id seat.me.0.opened) 0 threads) }
+    ensures passes { IfOk result (λ r. r.0.items
+        ≡ new_token_passes (queue_of seat.table_id seat.me.0.opened) 0 threads) }
     ensures tokens { IfOk result (λ r. r.1.items
         ≡ tokens_from (queue_of seat.table_id seat.me.0.opened) 1 (threads * tokens)) }
 {

@@ -26,8 +26,8 @@ fn seals_a_queue_once_it_is_empty(rt: HostRuntime) -> Result<(), Fail> {
     Ok(())
 }
 
-/// A take or a seal gives out the payload that it finds, is refused where the ends moved, and then holds for every pass.
-/// A payload that is given later comes back, and none is left at the end.
+/// A take or a seal gives out the payload that it finds, is refused where the ends moved, and then holds for every
+/// pass. A payload that is given later comes back, and none is left at the end.
 #[test]
 fn seals_a_queue_of_payloads_once_it_is_empty(rt: HostRuntime) -> Result<(), Fail> {
     let shape = Shape::new(2, 2, MAX_VERSION)?;

@@ -16,7 +16,11 @@ pub returns-clause-answer : goal.returns-clause-answer
 returns-clause-answer c = (
   c.dequeue-answer.result,
   c.status.ensures,
-  elim c.match-answer.branch [ in-Some-Got w ↦ search rules | in-Some+in-Done-1 w ↦ search rules | in-None-1 w ↦ search rules ],
+  elim c.match-answer.branch [
+    | in-Some-Got w ↦ search rules
+    | in-Some+in-Done-1 w ↦ search rules
+    | in-None-1 w ↦ search rules
+  ],
   tried _ _ _ _ _ _ _ c.seat_mut.ensures.value refl c.dequeue-answer.ensures,
 )
 

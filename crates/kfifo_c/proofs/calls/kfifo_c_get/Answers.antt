@@ -26,4 +26,13 @@ returns-clause-answer c =
     )
 
 pub returns-then-pass-eq0-clause-answer : goal.returns-then-pass-eq0-clause-answer
-returns-then-pass-eq0-clause-answer c = (None, refl, refl, (refl, λ seat there _. no_items _ (sym c.args.pass.now.starts_are ∙ c.if-pass-eq0.true) seat there))
+returns-then-pass-eq0-clause-answer c = (
+  None,
+  refl,
+  refl,
+  (
+    refl,
+    λ seat there _. no_items _ (sym c.args.pass.now.starts_are ∙ c.if-pass-eq0.true) seat
+        there,
+  ),
+)

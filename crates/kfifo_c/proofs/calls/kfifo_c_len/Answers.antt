@@ -13,4 +13,5 @@ returns-clause-counted c = (
 )
 
 pub returns-then-pass-eq0-clause-counted : goal.returns-then-pass-eq0-clause-counted
-returns-then-pass-eq0-clause-counted c = (None, refl, (refl, λ seat there _. no_items _ (sym c.args.pass.now.starts_are ∙ c.if-pass-eq0.true) seat there))
+returns-then-pass-eq0-clause-counted c =
+    (None, refl, (refl, λ seat there _. no_items _ (sym c.args.pass.now.starts_are ∙ c.if-pass-eq0.true) seat there))

@@ -16,13 +16,22 @@ returns-in-Some-clause-read c = (
 )
 
 pub returns-then-pass-eq0-clause-read : goal.returns-then-pass-eq0-clause-read
-returns-then-pass-eq0-clause-read c = (None, refl, refl, (refl, λ seat there _. no_items _ (sym c.args.pass.now.starts_are ∙ c.if-pass-eq0.true) seat there))
+returns-then-pass-eq0-clause-read c = (
+  None,
+  refl,
+  refl,
+  (
+    refl,
+    λ seat there _. no_items _ (sym c.args.pass.now.starts_are ∙ c.if-pass-eq0.true) seat
+        there,
+  ),
+)
 
 pub returns-in-None-clause-read : goal.returns-in-None-clause-read
 returns-in-None-clause-read c = (
   None,
   refl,
   refl,
-  tried (MayRead c.args.index) (HasRead c.args.index) None _ _ c.seat_mut.result.now c.word.new.self c.seat_mut.ensures.value refl
-      c.in-None.ensures,
+  tried (MayRead c.args.index) (HasRead c.args.index) None _ _ c.seat_mut.result.now c.word.new.self
+      c.seat_mut.ensures.value refl c.in-None.ensures,
 )

@@ -14,13 +14,15 @@ close-requires c =
     let may' = subst (λ (q : OpenQueue). MayClose q os (length c.args.items.now)) (sym c.in-Some.ensures) may in
     let same = c.in-Ok-Some.ensures.same in
     subst (All (IsPassOf c.in-Some.queue)) (sym (c.in-Ok.ensures.taken ∙ ap passes_in (ap (map items_in) same)))
-    (closes_theirs os (length c.args.items.now) c.in-Some.queue may' (subst AreTheirs (ap (map items_in) same) c.in-Ok.ensures.of))
+    (closes_theirs os (length c.args.items.now) c.in-Some.queue may'
+    (subst AreTheirs (ap (map items_in) same) c.in-Ok.ensures.of))
 
 pub write_items-requires : goal.write_items-requires
 write_items-requires c =
     let may = match_some _ _ c.in-Ok-Some.field-0 c.in-Ok-Some.queue c.in-Ok-Some.ensures.may c.in-Ok-Some.field-0-is in
     let few = few_closed c.in-Some.queue c.in-Ok.taken.items c.in-Ok-close.left.items c.in-Ok-close.ensures.ok in
-    let wide = subst (λ (q : OpenQueue). q.opened.shape.n * q.opened.shape.k ≤ length c.args.items.now) (sym c.in-Some.ensures)
+    let wide = subst (λ (q : OpenQueue). q.opened.shape.n * q.opened.shape.k ≤ length c.args.items.now)
+    (sym c.in-Some.ensures)
     may.room_is in
     let e = ap length c.as_slice.ensures.value in
     let slots = c.in-Some.queue.opened.shape.n * c.in-Some.queue.opened.shape.k in
@@ -36,18 +38,26 @@ returns-clause-done c = λ _.
       queue = c.in-Some.queue;
       each_open = may'.each_open;
       left = c.in-Ok-close.left.items;
-      closes = subst (λ (ps : List PassView). Closes c.in-Some.queue ps c.in-Ok-close.left.items) taken c.in-Ok-close.ensures.ok;
+      closes = subst (λ (ps : List PassView). Closes c.in-Some.queue ps c.in-Ok-close.left.items) taken
+          c.in-Ok-close.ensures.ok;
       count_is = c.len.ensures ∙ v;
       written = c.write_items.ensures ∙ ap (λ l. l ++ drop (length l) c.args.items.now) c.as_slice.ensures.value;
     }
 
 pub returns-in_default-into_inner-clause-may : goal.returns-in_default-into_inner-clause-may
 returns-in_default-into_inner-clause-may c =
-    λ _. (c.in-Ok-Some.queue.value, match_some _ _ c.in-Ok-Some.field-0 c.in-Ok-Some.queue c.in-Ok-Some.ensures.may c.in-Ok-Some.field-0-is)
+    λ _. (
+      c.in-Ok-Some.queue.value,
+      match_some _ _ c.in-Ok-Some.field-0 c.in-Ok-Some.queue c.in-Ok-Some.ensures.may
+          c.in-Ok-Some.field-0-is,
+    )
 
 pub returns-in_default-close-clause-may : goal.returns-in_default-close-clause-may
-returns-in_default-close-clause-may c = λ _.
-    (c.in-Ok-Some.queue.value, match_some _ _ c.in-Ok-Some.field-0 c.in-Ok-Some.queue c.in-Ok-Some.ensures.may c.in-Ok-Some.field-0-is)
+returns-in_default-close-clause-may c = λ _. (
+  c.in-Ok-Some.queue.value,
+  match_some _ _ c.in-Ok-Some.field-0 c.in-Ok-Some.queue c.in-Ok-Some.ensures.may
+      c.in-Ok-Some.field-0-is,
+)
 
 pub returns-clause-may : goal.returns-clause-may
 returns-clause-may c = λ _. (
@@ -58,20 +68,23 @@ returns-clause-may c = λ _. (
 pub returns-in_default-into_inner-clause-closed : goal.returns-in_default-into_inner-clause-closed
 returns-in_default-into_inner-clause-closed c = λ _.
     let may = match_some _ _ c.in-Ok-Some.field-0 c.in-Ok-Some.queue c.in-Ok-Some.ensures.may c.in-Ok-Some.field-0-is in
-    let seats = seats_open c.in-Ok-Some.queue.value (items_behind c.args.passes.now) may.each_open in let closed = c.in-Ok.ensures.closed in
+    let seats = seats_open c.in-Ok-Some.queue.value (items_behind c.args.passes.now) may.each_open in
+    let closed = c.in-Ok.ensures.closed in
     all_closed items c.ready.new.handles c.take_all.new.handles seats.0
     (ap (map items_in) c.in-Ok-Some.ensures.same ∙ seats.1) closed
 
 pub returns-in_default-close-clause-closed : goal.returns-in_default-close-clause-closed
 returns-in_default-close-clause-closed c = λ _.
     let may = match_some _ _ c.in-Ok-Some.field-0 c.in-Ok-Some.queue c.in-Ok-Some.ensures.may c.in-Ok-Some.field-0-is in
-    let seats = seats_open c.in-Ok-Some.queue.value (items_behind c.args.passes.now) may.each_open in let closed = c.in-Ok.ensures.closed in
+    let seats = seats_open c.in-Ok-Some.queue.value (items_behind c.args.passes.now) may.each_open in
+    let closed = c.in-Ok.ensures.closed in
     all_closed items c.ready.new.handles c.take_all.new.handles seats.0
     (ap (map items_in) c.in-Ok-Some.ensures.same ∙ seats.1) closed
 
 pub returns-clause-closed : goal.returns-clause-closed
 returns-clause-closed c = λ _.
     let may = match_some _ _ c.in-Ok-Some.field-0 c.in-Ok-Some.queue c.in-Ok-Some.ensures.may c.in-Ok-Some.field-0-is in
-    let seats = seats_open c.in-Ok-Some.queue.value (items_behind c.args.passes.now) may.each_open in let closed = c.in-Ok.ensures.closed in
+    let seats = seats_open c.in-Ok-Some.queue.value (items_behind c.args.passes.now) may.each_open in
+    let closed = c.in-Ok.ensures.closed in
     all_closed items c.ready.new.handles c.take_all.new.handles seats.0
     (ap (map items_in) c.in-Ok-Some.ensures.same ∙ seats.1) closed

@@ -17,7 +17,8 @@ returns-in_err-push-clause-same c = put_back c.loop-handle.handles c.loop-handle
     (sym c.seat_mut.ensures.value) ∙ c.loop-handle.invariant.same
 
 pub returns-in_err-push-clause-fields : goal.returns-in_err-push-clause-fields
-returns-in_err-push-clause-fields c = same_fields c.loop-handle.handles c.loop-handle.handle-index _ c.handle-item.result refl
+returns-in_err-push-clause-fields c = same_fields c.loop-handle.handles c.loop-handle.handle-index _
+    c.handle-item.result refl
     ∙ c.loop-handle.invariant.fields
 
 pub loop-handle-preserved : goal.loop-handle-preserved
@@ -32,7 +33,9 @@ loop-handle-preserved c =
             ∙ ap (λ l. l ++ w.thread.result ∷ []) c.loop-handle.invariant.found
             ∙ ap (λ n. numbers_in (take i os) ++ n ∷ []) w.thread.ensures
             ∙ sym (numbers_more (take i os) w.seat_mut.result.now)
-            ∙ ap numbers_in (sym (next_items hs os i d (Some w.seat_mut.result.now) (ap (map items_in) c.loop-handle.invariant.same) (omega arith)
+            ∙ ap numbers_in
+            (sym (next_items hs os i d (Some w.seat_mut.result.now) (ap (map items_in) c.loop-handle.invariant.same)
+            (omega arith)
             (ap items_in w.seat_mut.ensures.value)));
       }
       | else-handle-ne0 w ↦ record {

@@ -1,4 +1,5 @@
-use Rattle.std.proofs.Common.{refl, subst, vec_capacity, ◌≡◌, ◌++◌, ◌∷◌, [], Some, None, get_or, take, length, sym, ap, ◌∙◌, arith}
+use Rattle.std.proofs.Common.{refl, subst, vec_capacity, ◌≡◌, ◌++◌, ◌∷◌, [], Some, None, get_or, take, length, sym, ap}
+use Rattle.std.proofs.Common.{◌∙◌, arith}
 use Rattle.kfifo_live.specs.Pass.{IsPassOf}
 use Rattle.kfifo_c.specs.Behind.{items_in}
 use Rattle.kfifo_c.specs.Handles.{WasClosed, items_behind}
@@ -18,14 +19,18 @@ loop-handle-preserved c =
     elim c.match-take.branch [
       | in-Some w ↦
           let seat = w.in-Some.seat.value in
-          let next = next_items olds os i d (Some seat) refl (omega arith) (ap (λ h. items_in h.held.value) (sym same) ∙ ap items_in w.in-Some.ensures.value) in
-          let pass : w.into_pass.result ≡ seat.pass = w.into_pass.ensures.pass ∙ ap (λ s. s.pass) w.into_inner-seat.ensures in
+          let next = next_items olds os i d (Some seat) refl (omega arith) (ap (λ h. items_in h.held.value) (sym same)
+          ∙ ap items_in w.in-Some.ensures.value) in
+          let pass : w.into_pass.result ≡ seat.pass = w.into_pass.ensures.pass
+          ∙ ap (λ s. s.pass) w.into_inner-seat.ensures in
           let items = ap (λ v. v.items) w.passes-is ∙ w.push_reserved.ensures.items in
           let longer = ap length items ∙ one_longer c.loop-handle.passes.items w.into_pass.result in
           let wide = ap (λ v. vec_capacity v) w.passes-is ∙ w.push_reserved.ensures.capacity in record {
             rest = rest_more olds hs i c.take.new.self inv.rest;
-            closed = changed_more olds hs i c.take.new.self (WasClosed 1) d (omega arith) inv.rest inv.closed c.take.ensures.closed;
-            taken = items ∙ ap (λ l. l ++ w.into_pass.result ∷ []) inv.taken ∙ ap (λ p. passes_in (take i os) ++ p ∷ []) pass
+            closed = changed_more olds hs i c.take.new.self (WasClosed 1) d (omega arith) inv.rest inv.closed
+                c.take.ensures.closed;
+            taken = items ∙ ap (λ l. l ++ w.into_pass.result ∷ []) inv.taken
+                ∙ ap (λ p. passes_in (take i os) ++ p ∷ []) pass
                 ∙ sym (passes_more (take i os) seat) ∙ ap passes_in (sym next);
             theirs = subst AreTheirs (sym next) (theirs_more (take i os) (Some seat) inv.theirs
                 (subst (λ p. IsPassOf seat.queue p) pass
@@ -34,11 +39,13 @@ loop-handle-preserved c =
             room = omega arith;
           }
       | in_default w ↦
-          let next = next_items olds os i d None refl (omega arith) (ap (λ h. items_in h.held.value) (sym same) ∙ items_not _ (λ e. w.in_default.ensures.value ((get_or hs i d).kind_is ∙ e))) in
+          let next = next_items olds os i d None refl (omega arith) (ap (λ h. items_in h.held.value) (sym same)
+          ∙ items_not _ (λ e. w.in_default.ensures.value ((get_or hs i d).kind_is ∙ e))) in
           let longer = ap (λ v. length v.items) w.passes-is in
           let wide = ap (λ v. vec_capacity v) w.passes-is in record {
             rest = rest_more olds hs i c.take.new.self inv.rest;
-            closed = changed_more olds hs i c.take.new.self (WasClosed 1) d (omega arith) inv.rest inv.closed c.take.ensures.closed;
+            closed = changed_more olds hs i c.take.new.self (WasClosed 1) d (omega arith) inv.rest inv.closed
+                c.take.ensures.closed;
             taken = ap (λ v. v.items) w.passes-is ∙ inv.taken ∙ sym (passes_same (take i os)) ∙ ap passes_in (sym next);
             theirs = subst AreTheirs (sym next) (theirs_more (take i os) None inv.theirs tt);
             few = omega arith;
@@ -47,4 +54,5 @@ loop-handle-preserved c =
     ]
 
 pub returns-clause-closed : goal.returns-clause-closed
-returns-clause-closed c = (c.loop-handle.auto.handles, λ i d below. c.loop-handle.invariant.closed i d (omega (arith, below)))
+returns-clause-closed c =
+    (c.loop-handle.auto.handles, λ i d below. c.loop-handle.invariant.closed i d (omega (arith, below)))

@@ -9,8 +9,8 @@ loop-handle-preserved g c =
     let inv = c.loop-handle.invariant in
     record {
       rest = rest_more olds hs i c.take-seat.new.self inv.rest;
-      closed = changed_more olds hs i c.take-seat.new.self (WasClosed g.S.Seating.KIND) c.handle-item.result (omega arith) inv.rest
-          inv.closed c.take-seat.ensures.closed;
+      closed = changed_more olds hs i c.take-seat.new.self (WasClosed g.S.Seating.KIND) c.handle-item.result
+          (omega arith) inv.rest inv.closed c.take-seat.ensures.closed;
     }
 
 pub returns : goal.returns

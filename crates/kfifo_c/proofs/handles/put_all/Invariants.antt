@@ -9,5 +9,6 @@ invariant-loop-handle g l = record {
   put : behind (take l.handle-index l.handles)
       ++ map (λ seat. Some (g.S.Seating.behind seat)) (reverse (map (λ seat. seat.value) l.seats.items))
       ≡ map (λ seat. Some (g.S.Seating.behind seat)) (reverse (map (λ seat. seat.value) l.fn.seats.items));
-  fields : All (λ handle. AreNew l.address g.S.Seating.KIND l.size l.alignment (fields_of handle)) (take l.handle-index l.handles);
+  fields : All (λ handle. AreNew l.address g.S.Seating.KIND l.size l.alignment (fields_of handle))
+      (take l.handle-index l.handles);
 }

@@ -5,8 +5,8 @@ use Rattle.kfifo_c.specs.Many.{AreItems}
 use Rattle.kfifo_c.proofs.many.are_items.Goals as goal
 
 pub loop-item-preserved : goal.loop-item-preserved
-loop-item-preserved c = All-more (λ item. (1 ≤ item) × (item < 2 ^ 24)) c.args.items.now c.loop-item.item-index 0 (omega arith)
-    c.loop-item.invariant (omega arith, omega arith)
+loop-item-preserved c = All-more (λ item. (1 ≤ item) × (item < 2 ^ 24)) c.args.items.now c.loop-item.item-index 0
+    (omega arith) c.loop-item.invariant (omega arith, omega arith)
 
 pub returns : goal.returns
 returns c = (

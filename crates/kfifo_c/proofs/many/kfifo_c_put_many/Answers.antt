@@ -10,5 +10,13 @@ returns-clause-answer c =
     let each = c.put_each.ensures.each in (
       Some each.0,
       each.1,
-      (c.seat_mut.result.now, c.put_each.new.self, c.seat_mut.ensures.value, refl, c.are_items.ensures.0 c.if-not-are_items.false, each.2),
+      (
+        c.seat_mut.result.now,
+        c.put_each.new.self,
+        c.seat_mut.ensures.value,
+        refl,
+        c.are_items.ensures.0
+            c.if-not-are_items.false,
+        each.2,
+      ),
     )

@@ -6,7 +6,8 @@ use Rattle.kfifo_c.proofs.opening.kfifo_c_open.Goals as goal
 pub put_all-requires : goal.put_all-requires
 put_all-requires c =
     let o = c.in-Ok-open_seats.ensures.ok in
-    sym (length_read (λ s. s.value) c.in-Ok-open_seats.seats.items) ∙ ap length o.new ∙ length_seats o.queue 0 (length c.args.passes.now)
+    sym (length_read (λ s. s.value) c.in-Ok-open_seats.seats.items) ∙ ap length o.new
+    ∙ length_seats o.queue 0 (length c.args.passes.now)
 
 pub returns-in-Ok-open_seats-clause-ok : goal.returns-in-Ok-open_seats-clause-ok
 returns-in-Ok-open_seats-clause-ok c = λ _. let is = c.in-Ok.ensures in record {

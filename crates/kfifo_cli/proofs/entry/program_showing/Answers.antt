@@ -6,11 +6,14 @@ pub returns : goal.returns
 returns g c = (
   c.perform.new.input.failed,
   ends_on _ _ _ _ _ _ _ _ _
-      (on_writer g.W.Write.contents c.new-output.result c.perform.new.output c.args.output.now _ c.new-output.ensures.held
+      (on_writer g.W.Write.contents c.new-output.result c.perform.new.output c.args.output.now _
+      c.new-output.ensures.held
       (λ stays. search rules))
-      (on_writer g.F.Write.contents c.new-faults.result c.perform.new.faults c.args.faults.now _ c.new-faults.ensures.held
+      (on_writer g.F.Write.contents c.new-faults.result c.perform.new.faults c.args.faults.now _
+      c.new-faults.ensures.held
       (λ stays. search rules))
-      (misuse_on _ _ _ (on_writer g.F.Write.contents c.new-faults.result c.perform.new.faults c.args.faults.now _ c.new-faults.ensures.held
+      (misuse_on _ _ _ (on_writer g.F.Write.contents c.new-faults.result c.perform.new.faults c.args.faults.now _
+      c.new-faults.ensures.held
       (λ stays. search rules)))
       (rw (c.new-input.ensures.inner, c.new-input.ensures.failed) at c.perform.ensures),
 )

@@ -6,7 +6,8 @@ use Rattle.kfifo_cli_arguments.proofs.command_line.request_of.Goals as goal
 pub returns-in-Some-clause-some : goal.returns-in-Some-clause-some
 returns-in-Some-clause-some c = (
   found_of c.in-Some.options.now,
-  named_as c.args.matches.now (codes "run") (found_of c.in-Some.options.now) (c.in-Some.ensures.found.0 refl) c.in-Some.ensures.rows,
+  named_as c.args.matches.now (codes "run") (found_of c.in-Some.options.now) (c.in-Some.ensures.found.0 refl)
+      c.in-Some.ensures.rows,
   c.options_of.ensures,
 )
 
@@ -14,7 +15,8 @@ pub returns-in-Some-subcommand_matches-clause-some : goal.returns-in-Some-subcom
 returns-in-Some-subcommand_matches-clause-some c =
     let found = c.in-Some-subcommand_matches in (
       found_of found.options.now,
-      named_as c.args.matches.now (codes "check") (found_of found.options.now) (found.ensures.found.0 refl) found.ensures.rows,
+      named_as c.args.matches.now (codes "check") (found_of found.options.now) (found.ensures.found.0 refl)
+          found.ensures.rows,
       c.options_of-in-Some-subcommand_matches.ensures,
     )
 
@@ -22,14 +24,16 @@ pub returns-in-Some-subcommand_matches-2-clause-some : goal.returns-in-Some-subc
 returns-in-Some-subcommand_matches-2-clause-some c =
     let found = c.in-Some-subcommand_matches-2 in (
       found_of found.field-0.now,
-      named_as c.args.matches.now (codes "measure") (found_of found.field-0.now) (found.ensures.found.0 refl) found.ensures.rows,
+      named_as c.args.matches.now (codes "measure") (found_of found.field-0.now) (found.ensures.found.0 refl)
+          found.ensures.rows,
     )
 
 pub returns-in-Some-subcommand_matches-3-clause-some : goal.returns-in-Some-subcommand_matches-3-clause-some
 returns-in-Some-subcommand_matches-3-clause-some c =
     let found = c.in-Some-subcommand_matches-3 in (
       found_of found.options.now,
-      named_as c.args.matches.now (codes "replay") (found_of found.options.now) (found.ensures.found.0 refl) found.ensures.rows,
+      named_as c.args.matches.now (codes "replay") (found_of found.options.now) (found.ensures.found.0 refl)
+          found.ensures.rows,
       c.options_of-in-Some-subcommand_matches-3.ensures,
     )
 
@@ -37,7 +41,8 @@ pub returns-in-Some-subcommand_matches-4-clause-some : goal.returns-in-Some-subc
 returns-in-Some-subcommand_matches-4-clause-some c =
     let found = c.in-Some-subcommand_matches-4 in (
       found_of found.options.now,
-      named_as c.args.matches.now (codes "judge") (found_of found.options.now) (found.ensures.found.0 refl) found.ensures.rows,
+      named_as c.args.matches.now (codes "judge") (found_of found.options.now) (found.ensures.found.0 refl)
+          found.ensures.rows,
       c.options_of-in-Some-subcommand_matches-4.ensures,
     )
 
@@ -45,7 +50,8 @@ pub returns-then-names_several-clause-some : goal.returns-then-names_several-cla
 returns-then-names_several-clause-some c =
     let found = c.in-Some-subcommand_matches-4 in (
       found_of found.options.now,
-      named_as c.args.matches.now (codes "judge") (found_of found.options.now) (found.ensures.found.0 refl) found.ensures.rows,
+      named_as c.args.matches.now (codes "judge") (found_of found.options.now) (found.ensures.found.0 refl)
+          found.ensures.rows,
       c.files_options_of.ensures,
     )
 
@@ -53,7 +59,8 @@ pub returns-in-Some-subcommand_matches-5-clause-some : goal.returns-in-Some-subc
 returns-in-Some-subcommand_matches-5-clause-some c =
     let found = c.in-Some-subcommand_matches-5 in (
       found_of found.options.now,
-      named_as c.args.matches.now (codes "least") (found_of found.options.now) (found.ensures.found.0 refl) found.ensures.rows,
+      named_as c.args.matches.now (codes "least") (found_of found.options.now) (found.ensures.found.0 refl)
+          found.ensures.rows,
       c.options_of-in-Some-subcommand_matches-5.ensures,
     )
 
@@ -61,7 +68,8 @@ pub returns-in-Some-subcommand_matches-6-clause-some : goal.returns-in-Some-subc
 returns-in-Some-subcommand_matches-6-clause-some c =
     let found = c.in-Some-subcommand_matches-6 in (
       found_of found.options.now,
-      named_as c.args.matches.now (codes "record") (found_of found.options.now) (found.ensures.found.0 refl) found.ensures.rows,
+      named_as c.args.matches.now (codes "record") (found_of found.options.now) (found.ensures.found.0 refl)
+          found.ensures.rows,
       c.options_of-in-Some-subcommand_matches-6.ensures,
     )
 
@@ -69,7 +77,8 @@ pub returns-in-Some-subcommand_matches-7-clause-some : goal.returns-in-Some-subc
 returns-in-Some-subcommand_matches-7-clause-some c =
     let found = c.in-Some-subcommand_matches-7 in (
       found_of found.options.now,
-      named_as c.args.matches.now (codes "import") (found_of found.options.now) (found.ensures.found.0 refl) found.ensures.rows,
+      named_as c.args.matches.now (codes "import") (found_of found.options.now) (found.ensures.found.0 refl)
+          found.ensures.rows,
       c.options_of-in-Some-subcommand_matches-7.ensures,
     )
 
@@ -77,7 +86,8 @@ pub returns-in-Some-subcommand_matches-8-clause-some : goal.returns-in-Some-subc
 returns-in-Some-subcommand_matches-8-clause-some c =
     let found = c.in-Some-subcommand_matches-8 in (
       found_of found.options.now,
-      named_as c.args.matches.now (codes "draw") (found_of found.options.now) (found.ensures.found.0 refl) found.ensures.rows,
+      named_as c.args.matches.now (codes "draw") (found_of found.options.now) (found.ensures.found.0 refl)
+          found.ensures.rows,
       c.options_of-in-Some-subcommand_matches-8.ensures,
     )
 
@@ -85,7 +95,8 @@ pub returns-in-Some-subcommand_matches-9-clause-some : goal.returns-in-Some-subc
 returns-in-Some-subcommand_matches-9-clause-some c =
     let found = c.in-Some-subcommand_matches-9 in (
       found_of found.options.now,
-      named_as c.args.matches.now (codes "dispatch") (found_of found.options.now) (found.ensures.found.0 refl) found.ensures.rows,
+      named_as c.args.matches.now (codes "dispatch") (found_of found.options.now) (found.ensures.found.0 refl)
+          found.ensures.rows,
       c.options_of-in-Some-subcommand_matches-9.ensures,
     )
 
@@ -93,6 +104,7 @@ pub returns-in-Some-subcommand_matches-10-clause-some : goal.returns-in-Some-sub
 returns-in-Some-subcommand_matches-10-clause-some c =
     let found = c.in-Some-subcommand_matches-10 in (
       found_of found.options.now,
-      named_as c.args.matches.now (codes "explain") (found_of found.options.now) (found.ensures.found.0 refl) found.ensures.rows,
+      named_as c.args.matches.now (codes "explain") (found_of found.options.now) (found.ensures.found.0 refl)
+          found.ensures.rows,
       c.options_of-in-Some-subcommand_matches-10.ensures,
     )

@@ -25,7 +25,8 @@ returns-then-count-eq0-clause-ok g c =
     let inv = c.pieces.invariant in
     let none : c.in-Ok.count ≡ 0 = search rules in
     let came : Consumes (g.S.Source.remaining c.pieces.source) (g.S.Source.remaining c.read.new.self) [] =
-    subst (λ n. Consumes (g.S.Source.remaining c.pieces.source) (g.S.Source.remaining c.read.new.self) (take n c.read.new.piece)) none
+    subst (λ n. Consumes (g.S.Source.remaining c.pieces.source) (g.S.Source.remaining c.read.new.self)
+    (take n c.read.new.piece)) none
     c.in-Ok.ensures.bytes.0 in
     fed_all c.args.start.now (g.S.Source.remaining c.args.source.now) (g.S.Source.remaining c.pieces.source)
     (g.S.Source.remaining c.read.new.self) c.pieces.reader inv.fed came (c.in-Ok.ensures.bytes.1 none (omega arith))
@@ -37,17 +38,20 @@ returns-in_err-take_piece-2-clause-err g c =
     let wrong : (text more : List ℕ) → IsReading c.pieces.reader text (take c.in-Ok.count c.read.new.piece ++ more)
     → IsLogFault text failure.fault = search rules in
     err_on c.from_residual-in_err-take_piece-2.result failure _ c.from_residual-in_err-take_piece-2.ensures.1
-    (inr (inr (fed_wrong c.args.start.now (g.S.Source.remaining c.args.source.now) (g.S.Source.remaining c.pieces.source)
+    (inr (inr (fed_wrong c.args.start.now (g.S.Source.remaining c.args.source.now)
+    (g.S.Source.remaining c.pieces.source)
     (g.S.Source.remaining c.read.new.self) c.pieces.reader (take c.in-Ok.count c.read.new.piece) failure.fault inv.fed
     c.in-Ok.ensures.bytes.0 wrong)))
 
 pub pieces-preserved : goal.pieces-preserved
 pieces-preserved g c =
     let inv = c.pieces.invariant in
-    let takes : TakesPiece c.pieces.reader c.take_piece-in-pieces.new.reader (take c.in-Ok.count c.read.new.piece) = search rules in
+    let takes : TakesPiece c.pieces.reader c.take_piece-in-pieces.new.reader (take c.in-Ok.count c.read.new.piece) =
+    search rules in
     record {
       fed = fed_more c.args.start.now (g.S.Source.remaining c.args.source.now) (g.S.Source.remaining c.pieces.source)
-          (g.S.Source.remaining c.read.new.self) c.pieces.reader c.take_piece-in-pieces.new.reader (take c.in-Ok.count c.read.new.piece) inv.fed
+          (g.S.Source.remaining c.read.new.self) c.pieces.reader c.take_piece-in-pieces.new.reader
+          (take c.in-Ok.count c.read.new.piece) inv.fed
           c.in-Ok.ensures.bytes.0 takes;
       most = c.in_ok-take_piece-2.ensures.same ∙ inv.most;
       failures = c.in-Ok.ensures.failures ∙ inv.failures;

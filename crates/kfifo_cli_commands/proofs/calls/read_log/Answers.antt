@@ -12,13 +12,15 @@ log_to_judge-requires-clause-reading g c =
 pub returns-in-Ok-clause-read : goal.returns-in-Ok-clause-read
 returns-in-Ok-clause-read g c = λ before came.
     let fed = c.in_ok-reader.ensures.ok in
-    log_calls c.args.start.now fed.0 before (g.S.Source.remaining c.args.source.now) c.requires came fed.1 c.in-Ok.log.history
+    log_calls c.args.start.now fed.0 before (g.S.Source.remaining c.args.source.now) c.requires came fed.1
+    c.in-Ok.log.history
     c.in-Ok.log.calls.items (c.in-Ok.ensures.log (c.args.start.now ++ fed.0) fed.2) c.in-Ok.ensures.each
 
 pub returns-in-Err-clause-read : goal.returns-in-Err-clause-read
 returns-in-Err-clause-read g c = λ before came.
     let fed = c.in_ok-reader.ensures.ok in
-    inr (inr (log_refused c.args.start.now fed.0 before (g.S.Source.remaining c.args.source.now) c.requires came fed.1 c.of_log.result.fault
+    inr (inr (log_refused c.args.start.now fed.0 before (g.S.Source.remaining c.args.source.now) c.requires came fed.1
+    c.of_log.result.fault
     (c.in-Err.refusal.fault, c.of_log.ensures, c.in-Err.ensures.log (c.args.start.now ++ fed.0) fed.2)))
 
 pub returns-in_err-reader-clause-read : goal.returns-in_err-reader-clause-read

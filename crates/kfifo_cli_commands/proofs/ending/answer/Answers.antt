@@ -20,20 +20,22 @@ returns-in_err-print-in-Check-clause-broken g c = any_err c.from_residual-in_err
 ))
 
 pub returns-in_err-print-in-Measure-clause-broken : goal.returns-in_err-print-in-Measure-clause-broken
-returns-in_err-print-in-Measure-clause-broken g c = any_err c.from_residual-in_err-print-in-Measure.result _ (λ fault is. (
-  c.as_bytes-in-Measure.result.now,
-  0,
-  rw (c.in-Measure.is, c.as_bytes-in-Measure.ensures.value) (c.in_ok-text-in-Measure.ensures.ok, refl),
-  c.in_err-print-in-Measure.ensures.err,
-))
+returns-in_err-print-in-Measure-clause-broken g c = any_err c.from_residual-in_err-print-in-Measure.result _
+    (λ fault is. (
+      c.as_bytes-in-Measure.result.now,
+      0,
+      rw (c.in-Measure.is, c.as_bytes-in-Measure.ensures.value) (c.in_ok-text-in-Measure.ensures.ok, refl),
+      c.in_err-print-in-Measure.ensures.err,
+    ))
 
 pub returns-in_err-print-in-Replay-clause-broken : goal.returns-in_err-print-in-Replay-clause-broken
-returns-in_err-print-in-Replay-clause-broken g c = any_err c.from_residual-in_err-print-in-Replay.result _ (λ fault is. (
-  c.as_bytes-in-Replay.result.now,
-  0,
-  rw (c.in-Replay.is, c.as_bytes-in-Replay.ensures.value) (c.in_ok-text-in-Replay.ensures.ok, refl),
-  c.in_err-print-in-Replay.ensures.err,
-))
+returns-in_err-print-in-Replay-clause-broken g c = any_err c.from_residual-in_err-print-in-Replay.result _
+    (λ fault is. (
+      c.as_bytes-in-Replay.result.now,
+      0,
+      rw (c.in-Replay.is, c.as_bytes-in-Replay.ensures.value) (c.in_ok-text-in-Replay.ensures.ok, refl),
+      c.in_err-print-in-Replay.ensures.err,
+    ))
 
 pub returns-in_err-print-in-Judge-clause-broken : goal.returns-in_err-print-in-Judge-clause-broken
 returns-in_err-print-in-Judge-clause-broken g c = any_err c.from_residual-in_err-print-in-Judge.result _ (λ fault is. (
@@ -60,20 +62,22 @@ returns-in_err-print-in-Least-clause-broken g c = any_err c.from_residual-in_err
 ))
 
 pub returns-in_err-print-in-Record-clause-broken : goal.returns-in_err-print-in-Record-clause-broken
-returns-in_err-print-in-Record-clause-broken g c = any_err c.from_residual-in_err-print-in-Record.result _ (λ fault is. (
-  c.as_bytes-in-Record.result.now,
-  0,
-  rw (c.in-Record.is, c.as_bytes-in-Record.ensures.value) (c.in_ok-text-in-Record.ensures.ok, refl),
-  c.in_err-print-in-Record.ensures.err,
-))
+returns-in_err-print-in-Record-clause-broken g c = any_err c.from_residual-in_err-print-in-Record.result _
+    (λ fault is. (
+      c.as_bytes-in-Record.result.now,
+      0,
+      rw (c.in-Record.is, c.as_bytes-in-Record.ensures.value) (c.in_ok-text-in-Record.ensures.ok, refl),
+      c.in_err-print-in-Record.ensures.err,
+    ))
 
 pub returns-in_err-print-in-Import-clause-broken : goal.returns-in_err-print-in-Import-clause-broken
-returns-in_err-print-in-Import-clause-broken g c = any_err c.from_residual-in_err-print-in-Import.result _ (λ fault is. (
-  c.as_bytes-in-Import.result.now,
-  0,
-  rw (c.in-Import.is, c.as_bytes-in-Import.ensures.value) (c.in_ok-text-in-Import.ensures.ok, refl),
-  c.in_err-print-in-Import.ensures.err,
-))
+returns-in_err-print-in-Import-clause-broken g c = any_err c.from_residual-in_err-print-in-Import.result _
+    (λ fault is. (
+      c.as_bytes-in-Import.result.now,
+      0,
+      rw (c.in-Import.is, c.as_bytes-in-Import.ensures.value) (c.in_ok-text-in-Import.ensures.ok, refl),
+      c.in_err-print-in-Import.ensures.err,
+    ))
 
 pub returns-in_err-print-in-Draw-clause-broken : goal.returns-in_err-print-in-Draw-clause-broken
 returns-in_err-print-in-Draw-clause-broken g c = any_err c.from_residual-in_err-print-in-Draw.result _ (λ fault is. (
@@ -84,17 +88,19 @@ returns-in_err-print-in-Draw-clause-broken g c = any_err c.from_residual-in_err-
 ))
 
 pub returns-in_err-print-in-Dispatch-clause-broken : goal.returns-in_err-print-in-Dispatch-clause-broken
-returns-in_err-print-in-Dispatch-clause-broken g c = any_err c.from_residual-in_err-print-in-Dispatch.result _ (λ fault is. (
-  c.as_bytes-in-Dispatch.result.now,
-  0,
-  rw (c.in-Dispatch.is, c.as_bytes-in-Dispatch.ensures.value) (c.in_ok-text-in-Dispatch.ensures.ok, refl),
-  c.in_err-print-in-Dispatch.ensures.err,
-))
+returns-in_err-print-in-Dispatch-clause-broken g c = any_err c.from_residual-in_err-print-in-Dispatch.result _
+    (λ fault is. (
+      c.as_bytes-in-Dispatch.result.now,
+      0,
+      rw (c.in-Dispatch.is, c.as_bytes-in-Dispatch.ensures.value) (c.in_ok-text-in-Dispatch.ensures.ok, refl),
+      c.in_err-print-in-Dispatch.ensures.err,
+    ))
 
 pub returns-in_err-print-in-Explain-clause-broken : goal.returns-in_err-print-in-Explain-clause-broken
-returns-in_err-print-in-Explain-clause-broken g c = any_err c.from_residual-in_err-print-in-Explain.result _ (λ fault is. (
-  c.as_bytes-in-Explain.result.now,
-  0,
-  rw c.in-Explain.is refl,
-  c.in_err-print-in-Explain.ensures.err,
-))
+returns-in_err-print-in-Explain-clause-broken g c = any_err c.from_residual-in_err-print-in-Explain.result _
+    (λ fault is. (
+      c.as_bytes-in-Explain.result.now,
+      0,
+      rw c.in-Explain.is refl,
+      c.in_err-print-in-Explain.ensures.err,
+    ))

@@ -15,16 +15,21 @@ returns-in-Err g c =
     let after = g.S.Source.failed c.answer.new.input in
     let on_output = OnPrinter g.W.Write.contents c.args.output.now c.answer.new.output in
     let on_faults = OnPrinter g.F.Write.contents c.args.faults.now c.end_with_fault-status.new.faults in
-    let ends : Ends (IsAnswered c.args.request input before after) (IsRefused c.args.request input before after) ⊥ on_output on_faults 1 =
+    let ends : Ends (IsAnswered c.args.request input before after) (IsRefused c.args.request input before after) ⊥
+    on_output on_faults 1 =
     ends_with
-    (IsAnswered c.args.request input before after) (IsRefused c.args.request input before after) on_output on_faults fault
+    (IsAnswered c.args.request input before after) (IsRefused c.args.request input before after) on_output on_faults
+    fault
     (λ is. c.end_with_fault-status.ensures.silent is)
     (λ is.
     let w = c.in-Err.ensures.broken is in
-    let answered : IsAnswered c.args.request input before after w.0 w.1 = (w.2, c.in-Err.ensures.reads (output_no_input fault is)) in
+    let answered : IsAnswered c.args.request input before after w.0 w.1 =
+    (w.2, c.in-Err.ensures.reads (output_no_input fault is)) in
     (w.0, w.1, answered, w.3))
-    (λ not. (c.in-Err.ensures.refused not).1) (λ not. (c.in-Err.ensures.refused not).0) (λ not. c.end_with_fault-status.ensures.told not) in
-    subst (λ (s : Status). Ends (IsAnswered c.args.request input before after) (IsRefused c.args.request input before after) ⊥ on_output
+    (λ not. (c.in-Err.ensures.refused not).1) (λ not. (c.in-Err.ensures.refused not).0)
+    (λ not. c.end_with_fault-status.ensures.told not) in
+    subst (λ (s : Status). Ends (IsAnswered c.args.request input before after)
+    (IsRefused c.args.request input before after) ⊥ on_output
     on_faults (status_number s))
     (sym c.end_with_fault-status.ensures.status) ends
 
@@ -34,8 +39,10 @@ returns-in-Ok g c =
     let before = g.S.Source.failed c.args.input.now in
     let after = g.S.Source.failed c.answer.new.input in
     let w = c.in-Ok.ensures.printed in
-    let answered : IsAnswered c.args.request input before after w.0 (status_number c.in-Ok.status) = (w.1, c.in-Ok.ensures.reads) in
+    let answered : IsAnswered c.args.request input before after w.0 (status_number c.in-Ok.status) =
+    (w.1, c.in-Ok.ensures.reads) in
     ends_well
     (IsAnswered c.args.request input before after) (IsRefused c.args.request input before after)
-    (OnPrinter g.W.Write.contents c.args.output.now c.answer.new.output) (OnPrinter g.F.Write.contents c.args.faults.now c.args.faults.now)
+    (OnPrinter g.W.Write.contents c.args.output.now c.answer.new.output)
+    (OnPrinter g.F.Write.contents c.args.faults.now c.args.faults.now)
     c.in-Ok.status w.0 c.in-Ok.ensures.statuses refl answered w.2

@@ -13,7 +13,8 @@ returns-clause-ok g c =
         history = c.in_ok-calls.calls.history;
         logged = option_map (λ logged. logged.items) c.in_ok-calls.calls.logged;
         calls = read.2;
-        answer = subst (λ (logged : List LoggedCall). IsFileVerdict c.args.options c.args.name.now logged c.in_ok-calls.calls.history
+        answer = subst (λ (logged : List LoggedCall). IsFileVerdict c.args.options c.args.name.now logged
+            c.in_ok-calls.calls.history
             (string_bytes c.in_ok-said.said.0) c.in_ok-said.said.1) c.logged.ensures c.in_ok-said.ensures;
       },
     )

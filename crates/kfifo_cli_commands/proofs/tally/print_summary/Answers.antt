@@ -22,7 +22,8 @@ returns-clause-ok g c =
     let b = c.write_counts.new.output in
     ended_well C a b c.print.new.self (flat_map counted c.counts_of-counts.result) (codes "\n") _
     (c.counts_of-counts.ensures c.if-options.false)
-    (it_wrote C c.write_counts.result a b _ c.if-not-write_counts.false c.write_counts.ensures) c.print.result c.print.ensures.ok
+    (it_wrote C c.write_counts.result a b _ c.if-not-write_counts.false c.write_counts.ensures) c.print.result
+    c.print.ensures.ok
 
 pub returns-clause-err : goal.returns-clause-err
 returns-clause-err g c =
@@ -31,4 +32,5 @@ returns-clause-err g c =
     let b = c.write_counts.new.output in
     ended_by C a b c.print.new.self (flat_map counted c.counts_of-counts.result) (codes "\n") _
     (c.counts_of-counts.ensures c.if-options.false)
-    (it_wrote C c.write_counts.result a b _ c.if-not-write_counts.false c.write_counts.ensures) c.print.result c.print.ensures.err
+    (it_wrote C c.write_counts.result a b _ c.if-not-write_counts.false c.write_counts.ensures) c.print.result
+    c.print.ensures.err

@@ -4,4 +4,5 @@ use Rattle.kfifo_cli_commands.specs.Tallies.{counted}
 use Rattle.kfifo_cli_commands.proofs.tally.write_counts.Given as goal
 
 abbrev pub invariant-loop-count : goal.invariant-loop-count
-invariant-loop-count g l = Writes g.W.Write.contents l.fn.output (flat_map counted (take l.count-index l.counts)) l.output
+invariant-loop-count g l = Writes g.W.Write.contents l.fn.output (flat_map counted (take l.count-index l.counts))
+    l.output

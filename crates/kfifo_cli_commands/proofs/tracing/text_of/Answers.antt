@@ -8,7 +8,8 @@ pub returns-then-count-clause-err : goal.returns-then-count-clause-err
 returns-then-count-clause-err c = inr (inr (
   refl,
   λ scripts picks stands.
-      is_long c.args.shape scripts picks c.count.result (c.count.ensures c.args.shape scripts picks stands) c.args.replay.now stands
+      is_long c.args.shape scripts picks c.count.result (c.count.ensures c.args.shape scripts picks stands)
+      c.args.replay.now stands
       (omega (arith, c.if-count.true)),
 ))
 
@@ -19,8 +20,15 @@ returns-clause-ok c scripts picks stands =
     (c.steps.ensures c.args.shape scripts picks stands) in
     let few : c.count.result ≤ 65536 = omega (arith, c.if-count.false) in
     let reported = c.in_ok-report.ensures.ok c.args.shape scripts picks stands in
-    let is : string_bytes c.push_str.new.self ≡ trace_lines c.args.shape.k 0 c.steps.result.now ++ string_bytes c.in_ok-report.report =
-    rw (c.in_ok-push_str.ensures.bytes, c.in_ok-push_trace.ensures, c.new-text.ensures.bytes, c.k.ensures, c.as_str.ensures.value) refl in
+    let is : string_bytes c.push_str.new.self ≡ trace_lines c.args.shape.k 0 c.steps.result.now
+    ++ string_bytes c.in_ok-report.report =
+    rw (
+      c.in_ok-push_str.ensures.bytes,
+      c.in_ok-push_trace.ensures,
+      c.new-text.ensures.bytes,
+      c.k.ensures,
+      c.as_str.ensures.value,
+    ) refl in
     is_traced c.args.shape scripts picks c.count.result counted c.steps.result.now trace few c.args.options.now.points
     c.args.options.now.stopped
     (string_bytes c.in_ok-report.report) (string_bytes c.push_str.new.self) reported is

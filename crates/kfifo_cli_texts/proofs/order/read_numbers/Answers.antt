@@ -6,7 +6,8 @@ use Rattle.kfifo_cli_texts.proofs.order.read_numbers.Goals as goal
 
 pub loop-text-preserved : goal.loop-text-preserved
 loop-text-preserved c = rw c.in_ok-push-in-Some.ensures.items
-    (read_more WritesNumber (part_of c.args.is_spaced) c.args.texts.now c.loop-text.text-index _ c.loop-text.numbers.items c.in-Some.number
+    (read_more WritesNumber (part_of c.args.is_spaced) c.args.texts.now c.loop-text.text-index _
+    c.loop-text.numbers.items c.in-Some.number
     c.loop-text-test.true c.loop-text.invariant (rw c.plain_part.ensures at c.in-Some.ensures))
 
 pub returns-in-None : goal.returns-in-None

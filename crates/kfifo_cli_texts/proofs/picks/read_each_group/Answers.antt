@@ -8,4 +8,5 @@ loop-text-preserved c = rw c.in_ok-push-in-Some.ensures.items
     c.loop-text-test.true c.loop-text.invariant c.in-Some.ensures)
 
 pub returns-in-None : goal.returns-in-None
-returns-in-None c = text_unread WritesGroup (λ t. t) c.args.texts.now c.loop-text.text-index _ c.loop-text-test.true c.in-None.ensures
+returns-in-None c = text_unread WritesGroup (λ t. t) c.args.texts.now c.loop-text.text-index _ c.loop-text-test.true
+    c.in-None.ensures

@@ -24,4 +24,5 @@ returns-in_err-thread-in-None c =
     let parts = split_parts 120 c.args.text.now c.split_once.result c.split_once.ensures.cases (omega arith) in
     let here = rw c.in-None.is at parts in
     rw c.from_residual-in_err-thread-in-None.ensures (λ group written.
-    c.in_err-thread-in-None.ensures group.thread (omega arith) written.thread_fits (bare_group c.args.text.now group here written))
+    c.in_err-thread-in-None.ensures group.thread (omega arith) written.thread_fits
+    (bare_group c.args.text.now group here written))

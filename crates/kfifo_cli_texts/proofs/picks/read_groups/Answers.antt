@@ -7,7 +7,8 @@ use Rattle.kfifo_cli_texts.proofs.picks.read_groups.Goals as goal
 pub returns : goal.returns
 returns c =
     let all = map_from_collect c.collect.result c.collect.ensures.ran
-    (YieldsList-from_str_split {s = c.split.result} 44 c.args.text.now (lit< tt) c.split.ensures.text c.split.ensures.has_more
+    (YieldsList-from_str_split {s = c.split.result} 44 c.args.text.now (lit< tt) c.split.ensures.text
+    c.split.ensures.has_more
     c.split.ensures.pattern) in
     let parts = rw c.in_ok-parts.was at all in
     groups_told (λ v. v.items) c.args.text.now c.as_slice.result.now c.read_each_group.result

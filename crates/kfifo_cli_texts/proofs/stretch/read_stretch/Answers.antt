@@ -14,14 +14,16 @@ pub returns-in_err-first : goal.returns-in_err-first
 returns-in_err-first c =
     let parts = split_parts 45 c.args.text.now c.split_once.result c.split_once.ensures.cases (omega arith) in
     let here = rw c.in_ok-before.was at parts in
-    rw c.from_residual-in_err-first.ensures (no_first c.args.text.now c.in_ok-before.before.now c.in_ok-before.behind.now here.0 here.1
+    rw c.from_residual-in_err-first.ensures
+    (no_first c.args.text.now c.in_ok-before.before.now c.in_ok-before.behind.now here.0 here.1
     c.in_err-first.ensures)
 
 pub returns-in_err-last : goal.returns-in_err-last
 returns-in_err-last c =
     let parts = split_parts 45 c.args.text.now c.split_once.result c.split_once.ensures.cases (omega arith) in
     let here = rw c.in_ok-before.was at parts in
-    rw c.from_residual-in_err-last.ensures (no_last c.args.text.now c.in_ok-before.before.now c.in_ok-before.behind.now here.0 here.1
+    rw c.from_residual-in_err-last.ensures (no_last c.args.text.now c.in_ok-before.before.now c.in_ok-before.behind.now
+    here.0 here.1
     c.in_err-last.ensures)
 
 pub returns-then-last-first : goal.returns-then-last-first

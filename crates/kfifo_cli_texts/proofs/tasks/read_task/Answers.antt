@@ -16,7 +16,8 @@ returns-in_err-left c =
     let here = rw c.in_ok-id.was at parts in
     let parts-2 = split_parts 58 c.in_ok-id.rest.now c.split_once-2.result c.split_once-2.ensures.cases (omega arith) in
     let none = rw c.in_err-left.was at parts-2 in
-    rw c.from_residual-in_err-left.ensures (one_colon c.args.word.now c.in_ok-id.id.now c.in_ok-id.rest.now here.0 here.1 none)
+    rw c.from_residual-in_err-left.ensures (one_colon c.args.word.now c.in_ok-id.id.now c.in_ok-id.rest.now here.0
+    here.1 none)
 
 pub returns-in_err-id-2 : goal.returns-in_err-id-2
 returns-in_err-id-2 c =
@@ -33,7 +34,8 @@ returns-in_err-left-2 c =
     let here = rw c.in_ok-id.was at parts in
     let parts-2 = split_parts 58 c.in_ok-id.rest.now c.split_once-2.result c.split_once-2.ensures.cases (omega arith) in
     let next = rw c.in_ok-left.was at parts-2 in
-    rw c.from_residual-in_err-left-2.ensures (no_left c.args.word.now c.in_ok-id.id.now c.in_ok-id.rest.now here.0 here.1
+    rw c.from_residual-in_err-left-2.ensures (no_left c.args.word.now c.in_ok-id.id.now c.in_ok-id.rest.now here.0
+    here.1
     c.in_ok-left.left.now c.in_ok-left.sum.now next.0 next.1 c.in_err-left-2.ensures)
 
 pub returns-in_err-sum : goal.returns-in_err-sum

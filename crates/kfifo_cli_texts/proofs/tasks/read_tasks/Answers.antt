@@ -11,7 +11,8 @@ returns-in-None-clause-fault c = inr (
   record {
     inside = c.loop-index-test.true;
     unread = λ word task written. c.in-None.ensures task
-        (subst (λ w. WritesTask w.now task) (get_or_default c.args.texts.now c.loop-index.index word _ c.loop-index-test.true) written);
+        (subst (λ w. WritesTask w.now task) (get_or_default c.args.texts.now c.loop-index.index word _
+        c.loop-index-test.true) written);
     before = (c.loop-index.tasks.items, c.loop-index.invariant);
   },
 )

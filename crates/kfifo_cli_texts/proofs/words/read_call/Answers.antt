@@ -8,7 +8,8 @@ returns-in_err-name c = rw c.from_residual.ensures (no_call c.args.k c.args.turn
 
 pub returns-in_err-item-in-Some : goal.returns-in_err-item-in-Some
 returns-in_err-item-in-Some c =
-    let stripped = strip_prefix_char 101 c.in_ok-name.name.now c.strip_prefix.result c.strip_prefix.ensures.cases (omega arith) in
+    let stripped = strip_prefix_char 101 c.in_ok-name.name.now c.strip_prefix.result c.strip_prefix.ensures.cases
+    (omega arith) in
     let here = rw c.in-Some.is at stripped in
     rw c.from_residual-in_err-item-in-Some.ensures
     (no_item c.args.k c.args.turns c.args.word.now c.in_ok-name.name.now c.in-Some.number.now c.in_ok-name.start
@@ -16,7 +17,8 @@ returns-in_err-item-in-Some c =
 
 pub returns-in-None-2 : goal.returns-in-None-2
 returns-in-None-2 c =
-    let stripped = strip_prefix_char 101 c.in_ok-name.name.now c.strip_prefix.result c.strip_prefix.ensures.cases (omega arith) in
+    let stripped = strip_prefix_char 101 c.in_ok-name.name.now c.strip_prefix.result c.strip_prefix.ensures.cases
+    (omega arith) in
     let here = rw c.in-None.is at stripped in
     no_name c.args.k c.args.turns c.args.word.now c.in_ok-name.name.now c.in_ok-name.start c.in_ok-name.ensures here
     (λ e. let bad : false ≡ true = rw e at c.if-eq.ensures in cc)

@@ -19,8 +19,8 @@ loop-index-preserved c =
     let kept = c.loop-index.invariant in
     rw pushed record {
       count = omega (arith, length_push c.loop-index.calls.items c.in-Some.call, kept.count);
-      each = written_more c.args.k c.args.turns c.args.texts.now c.loop-index.calls.items c.loop-index.index _ c.in-Some.call
-          kept.count c.loop-index-test.true kept.each c.in-Some.ensures;
+      each = written_more c.args.k c.args.turns c.args.texts.now c.loop-index.calls.items c.loop-index.index _
+          c.in-Some.call kept.count c.loop-index-test.true kept.each c.in-Some.ensures;
     }
 
 pub returns-clause-calls : goal.returns-clause-calls

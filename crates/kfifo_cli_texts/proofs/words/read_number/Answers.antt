@@ -11,4 +11,5 @@ returns-then-text-gt10 c = elim c.then-text-gt10.branch [
 ]
 
 pub returns : goal.returns
-returns c = rw c.ok.ensures.value (parsed c.args.text.now c.parse.result c.parse.ensures.value.0 (search rules) (omega arith))
+returns c = rw c.ok.ensures.value (parsed c.args.text.now c.parse.result c.parse.ensures.value.0 (search rules)
+    (omega arith))

@@ -10,7 +10,8 @@ use Rattle.kfifo_cli_texts.proofs.words.read_script.Goals as goal
 pub returns : goal.returns
 returns c =
     let all = map_from_collect c.collect.result c.collect.ensures.ran
-    (YieldsList-from_str_split {s = c.split.result} 44 c.args.text.now (lit< tt) c.split.ensures.text c.split.ensures.has_more
+    (YieldsList-from_str_split {s = c.split.result} 44 c.args.text.now (lit< tt) c.split.ensures.text
+    c.split.ensures.has_more
     c.split.ensures.pattern) in
     let parts = rw c.in_ok-parts.was at all in
     let same : texts_of c.as_slice.result.now ≡ comma_parts c.args.text.now = rw c.as_slice.ensures.value parts in

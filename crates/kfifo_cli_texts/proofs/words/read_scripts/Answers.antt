@@ -19,7 +19,11 @@ returns-in-None-clause-fault c = let none = rw c.in-None.is at c.in_ok-read.ensu
 
 pub loop-index-preserved : goal.loop-index-preserved
 loop-index-preserved c = let read = rw c.in-Some.is at c.in_ok-read.ensures in
-    rw (c.in_ok-push-in-Some.ensures.items, map_push (λ script. script.items) c.loop-index.scripts.items c.in-Some.script)
+    rw (
+      c.in_ok-push-in-Some.ensures.items,
+      map_push (λ script. script.items) c.loop-index.scripts.items
+          c.in-Some.script,
+    )
     (read_more (WritesScript c.args.k c.args.turns) (λ t. t) c.args.texts.now c.loop-index.index _
     (map (λ script. script.items) c.loop-index.scripts.items) c.in-Some.script.items
     c.loop-index-test.true c.loop-index.invariant read)

@@ -17,17 +17,20 @@ loop-back-preserved g c =
     let whole : c.loop-done.yielded ≡ items.items =
     taken_all items.items those.result c.loop-done.yielded c.loop-done.done-iterator c.next-in-loop-done.new.self
     c.next-in-loop-done.result those.ensures.into_iter_gives.0
-    (those.ensures.into_iter_gives.1 ∙ items.ok.0) c.loop-done.yielded_by c.in-None-done.is c.next-in-loop-done.ensures.steps in
+    (those.ensures.into_iter_gives.1 ∙ items.ok.0) c.loop-done.yielded_by c.in-None-done.is
+    c.next-in-loop-done.ensures.steps in
     let here : map (λ (d : JobView). d.place) c.loop-done.yielded ≡ places_of back.kept =
     ap (map (λ (d : JobView). d.place)) whole ∙ sym (ap places_of kept) in
     record {
       can_next = tt;
       is_finite = tt;
       all = all_push (λ b. IsOk b.kept) c.loop-back.yielded back i.all (rw kept refl);
-      passes = c.in_ok-push.ensures.items ∙ (λ k. i.passes k ++ back.pass ∷ []) ∙ sym (map_push (λ b. b.pass) c.loop-back.yielded back);
+      passes = c.in_ok-push.ensures.items ∙ (λ k. i.passes k ++ back.pass ∷ [])
+          ∙ sym (map_push (λ b. b.pass) c.loop-back.yielded back);
       came =
           c.loop-done.invariant.came ∙ (λ k. i.came k ++ here k)
-          ∙ flat_map_more (λ b. places_of b.kept) (map (λ (d : JobView). d.place) c.args.returned.now.items) c.loop-back.yielded back;
+          ∙ flat_map_more (λ b. places_of b.kept) (map (λ (d : JobView). d.place) c.args.returned.now.items)
+          c.loop-back.yielded back;
     }
 
 pub returns-clause-all : goal.returns-clause-all

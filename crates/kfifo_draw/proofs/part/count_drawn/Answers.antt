@@ -18,16 +18,16 @@ loop-number-preserved c =
       | then-is_in_part w ↦ (
           let is = w.count-is in
           rw is (
-            count_more (IsInPart c.args.calls.now c.args.logged.now c.args.part) c.loop-number.number c.loop-number.count counted
-                (w.if-is_in_part.ensures.0 refl),
+            count_more (IsInPart c.args.calls.now c.args.logged.now c.args.part) c.loop-number.number
+                c.loop-number.count counted (w.if-is_in_part.ensures.0 refl),
             omega (arith, few),
           )
           )
       | else-is_in_part w ↦ (
           let is = w.count-is in
           rw is (
-            count_same (IsInPart c.args.calls.now c.args.logged.now c.args.part) c.loop-number.number c.loop-number.count counted
-                (λ p. (let bad : false ≡ true = w.if-is_in_part.ensures.1 p in cc)),
+            count_same (IsInPart c.args.calls.now c.args.logged.now c.args.part) c.loop-number.number
+                c.loop-number.count counted (λ p. (let bad : false ≡ true = w.if-is_in_part.ensures.1 p in cc)),
             omega (arith, few),
           )
           )

@@ -9,12 +9,14 @@ loop-number-preserved c = elim c.if-is_in_part.branch [
   | then-is_in_part+in_ok-push w ↦ (
       let is = w.drawn-is in
       let more = w.in_ok-push.ensures.items in
-      rw (is, more) (drawn_more (IsInPart c.args.calls.now c.args.logged.now c.args.part) c.loop-number.number c.loop-number.drawn.items
+      rw (is, more) (drawn_more (IsInPart c.args.calls.now c.args.logged.now c.args.part) c.loop-number.number
+      c.loop-number.drawn.items
       c.loop-number.invariant (w.if-is_in_part.ensures.0 refl))
       )
   | else-is_in_part w ↦ (
       let is = w.drawn-is in
-      rw is (drawn_same (IsInPart c.args.calls.now c.args.logged.now c.args.part) c.loop-number.number c.loop-number.drawn.items
+      rw is (drawn_same (IsInPart c.args.calls.now c.args.logged.now c.args.part) c.loop-number.number
+      c.loop-number.drawn.items
       c.loop-number.invariant
       (λ p. (let bad : false ≡ true = w.if-is_in_part.ensures.1 p in cc)))
       )

@@ -7,4 +7,5 @@ use Rattle.kfifo_exclusive.specs.contracts.Exclusive.{the_row, the_type}
 
 pub send : (T : RattleType) → IsSend T → IsSend (the_row T)
 send T s = let O = the_type T in
-    owning_send O (s, tt) (λ d. tt) (λ k. quiet (to O) (exits_of k (fields O)) ((struct_send (shape O) (s, tt)).leaving k))
+    owning_send O (s, tt) (λ d. tt)
+    (λ k. quiet (to O) (exits_of k (fields O)) ((struct_send (shape O) (s, tt)).leaving k))

@@ -14,7 +14,8 @@ loop-number-preserved c =
           let good : is_ok w.push.result ≡ true = search rules in
           let items = rw good at w.push.ensures.items in
           let is : is_some (end_at calls n) ≡ true = sym c.has_ended.ensures ∙ w.if-has_ended.true in
-          rw (w.ends-is, items, w.last_at-time.ensures) (one_end calls c.loop-number.ends.items n c.loop-number-test.true c.loop-number.invariant is)
+          rw (w.ends-is, items, w.last_at-time.ensures)
+          (one_end calls c.loop-number.ends.items n c.loop-number-test.true c.loop-number.invariant is)
       | else-has_ended w ↦
           let is : is_some (end_at calls n) ≡ false = sym c.has_ended.ensures ∙ w.if-has_ended.false in
           rw w.ends-is (no_end calls c.loop-number.ends.items n c.loop-number-test.true c.loop-number.invariant is)

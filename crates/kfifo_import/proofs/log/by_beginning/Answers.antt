@@ -13,5 +13,6 @@ returns c =
     let calls : c.in_ok-calls.calls.items ≡ calls_of sorted =
     (rw (c.as_slice-lines.ensures.value, c.as_slice.ensures.value) at c.in_ok-calls.ensures) ∙ calls_by lines order in
     let logged : c.in_ok-logged.logged.items ≡ map logged_call sorted =
-    (rw (c.as_slice-lines.ensures.value, c.as_slice-2.ensures.value) at c.in_ok-logged.ensures) ∙ logged_by lines order in
+    (rw (c.as_slice-lines.ensures.value, c.as_slice-2.ensures.value) at c.in_ok-logged.ensures)
+    ∙ logged_by lines order in
     (sorted, first, calls, logged)

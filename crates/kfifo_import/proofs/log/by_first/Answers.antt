@@ -9,5 +9,6 @@ pub returns : goal.returns
 returns c =
     let lines = c.args.lines.now in
     IfOk-weaker c.by_time.result _ _ (λ sorted is.
-    let by : IsByTime (beginnings lines) sorted.items = subst (λ xs. IsByTime xs sorted.items) c.in_ok-begins.ensures is in
+    let by : IsByTime (beginnings lines) sorted.items = subst (λ xs. IsByTime xs sorted.items) c.in_ok-begins.ensures
+    is in
     by_first lines sorted.items by.reordered.permutation by.rise by.reordered.stable) c.by_time.ensures

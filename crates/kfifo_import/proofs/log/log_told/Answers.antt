@@ -28,7 +28,8 @@ stamped-requires-clause-by_first c =
 pub returns-in-Ok-clause-log : goal.returns-in-Ok-clause-log
 returns-in-Ok-clause-log c =
     let by = c.in_ok-calls.ensures in
-    let made : AreStamped (calls_of by.0) c.in_ok-found.found.items = rw (c.as_slice.ensures.value ∙ by.2) at c.in_ok-found.ensures in
+    let made : AreStamped (calls_of by.0) c.in_ok-found.found.items =
+    rw (c.as_slice.ensures.value ∙ by.2) at c.in_ok-found.ensures in
     record {
       few = search rules;
       sorted = by.0;
@@ -41,10 +42,12 @@ returns-in-Ok-clause-log c =
 pub returns-in-Err-clause-log : goal.returns-in-Err-clause-log
 returns-in-Err-clause-log c =
     let by = c.in_ok-calls.ensures in
-    let made : AreStamped (calls_of by.0) c.in_ok-found.found.items = rw (c.as_slice.ensures.value ∙ by.2) at c.in_ok-found.ensures in
+    let made : AreStamped (calls_of by.0) c.in_ok-found.found.items =
+    rw (c.as_slice.ensures.value ∙ by.2) at c.in_ok-found.ensures in
     let logged : c.as_slice-in-Err-3.result.now ≡ map logged_call by.0 = c.as_slice-in-Err-3.ensures.value ∙ by.3 in
     let is : c.with_cause.result.fault ≡ import_fault by.0 c.in-Err.fault =
-    c.with_cause.ensures.fault ∙ (c.from-in-Err.ensures.0 ∙ (c.fault_of.ensures ∙ (ap (λ l. fault_among l c.in-Err.fault) logged
+    c.with_cause.ensures.fault
+    ∙ (c.from-in-Err.ensures.0 ∙ (c.fault_of.ensures ∙ (ap (λ l. fault_among l c.in-Err.fault) logged
     ∙ same_fault by.0 c.in-Err.fault))) in
     subst (IsImportFault c.args.lines.items) (sym is)
     (refused c.args.lines.items by.0 c.in_ok-found.found.items c.in-Err.fault by.1 made c.in-Err.ensures)

@@ -9,7 +9,8 @@ returns-in_err-thread c =
     let fields = fields_of c.args.row.now in
     let text : GivesText (field_at fields c.args.columns.now.thread) (Some c.in_ok-field.field-0.now) = search rules in
     rw c.from_residual-in_err-thread.ensures (λ call is.
-    gives_nothing WritesSmall (field_at fields c.args.columns.now.thread) c.in_ok-field.field-0.now text c.in_err-thread.ensures
+    gives_nothing WritesSmall (field_at fields c.args.columns.now.thread) c.in_ok-field.field-0.now text
+    c.in_err-thread.ensures
     (Some call.thread) is.thread)
 
 pub returns-in_err-end : goal.returns-in_err-end
@@ -17,6 +18,7 @@ returns-in_err-end c =
     let fields = fields_of c.args.row.now in
     let columns = c.args.columns.now in
     rw c.from_residual-in_err-end.ensures
-    (no_end columns fields c.args.item c.in_ok-last.last c.in_ok-field-3.field-0.now (search rules) (search rules) c.in_ok-op.op
+    (no_end columns fields c.args.item c.in_ok-last.last c.in_ok-field-3.field-0.now (search rules) (search rules)
+    c.in_ok-op.op
     (option_map (λ t. t.now) c.field-4.result)
     (search rules) (search rules) (search rules) (search rules))

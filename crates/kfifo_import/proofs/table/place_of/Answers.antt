@@ -4,7 +4,8 @@ use Rattle.kfifo_import.proofs.Header.{found_all}
 use Rattle.kfifo_import.proofs.table.place_of.Goals as goal
 
 -- a field is at a place within
-within : (fields : List (List ℕ)) (place : ℕ) (text : List ℕ) → field_at fields place ≡ Some text → place < length fields
+within : (fields : List (List ℕ)) (place : ℕ) (text : List ℕ) → field_at fields place ≡ Some text
+    → place < length fields
 unfolding field_at
 within [] place text e = absurd (cc)
 within (f ∷ fields) zero text e = omega arith
@@ -16,5 +17,6 @@ returns c =
     let over = c.loop-place-test.false in
     let bound = c.loop-place.auto.place-end in
     found_all (fields_of c.args.header.now) c.args.name.now c.loop-place.place c.loop-place.found
-    (λ k is. let inside = within (fields_of c.args.header.now) k c.args.name.now is in omega (arith, inside, counted, over, bound))
+    (λ k is. let inside = within (fields_of c.args.header.now) k c.args.name.now is in omega
+    (arith, inside, counted, over, bound))
     c.loop-place.invariant

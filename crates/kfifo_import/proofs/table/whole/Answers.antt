@@ -10,4 +10,5 @@ returns-in_default c =
 
 pub returns : goal.returns
 returns c =
-    rw c.ok.ensures.value (parsed c.args.text.now c.parse.result (rw c.in-Ok.ensures.cases.0 at c.parse.ensures.value.0) (search rules))
+    rw c.ok.ensures.value (parsed c.args.text.now c.parse.result (rw c.in-Ok.ensures.cases.0 at c.parse.ensures.value.0)
+    (search rules))

@@ -8,7 +8,8 @@ use Rattle.kfifo_import.proofs.wrong.wrong_at.Goals as goal
 pub returns : goal.returns
 returns c = all
   where
-    all : (field : Field) → column c.args.columns.now field ≡ c.args.place → FitsRule c.args.columns.now (fields_of c.args.row.now) field
+    all : (field : Field) → column c.args.columns.now field ≡ c.args.place
+        → FitsRule c.args.columns.now (fields_of c.args.row.now) field
     all Thread = c.loop-number.invariant 0 (omega arith)
     all Op = c.loop-number.invariant 1 (omega arith)
     all Item = c.loop-number.invariant 2 (omega arith)

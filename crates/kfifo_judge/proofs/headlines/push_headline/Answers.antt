@@ -20,11 +20,13 @@ returns-in_ok-push_str-in-NotEmpty c =
 pub returns-in-TooYoung : goal.returns-in-TooYoung
 returns-in-TooYoung c =
     let got : c.item_got-item.result ≡ got_item c.args.logged.now c.args.history.now c.in-TooYoung.get =
-    c.item_got-item.ensures ∙ ap (got_item c.args.logged.now c.args.history.now) (c.call.ensures ∙ ap call_in c.in-TooYoung.is) in
+    c.item_got-item.ensures
+    ∙ ap (got_item c.args.logged.now c.args.history.now) (c.call.ensures ∙ ap call_in c.in-TooYoung.is) in
     rw (c.in-TooYoung.is, ← got, ← c.as_slice-in-TooYoung.ensures.value) c.push_older.ensures
 
 pub returns-in-OlderLeft : goal.returns-in-OlderLeft
 returns-in-OlderLeft c =
     let got : c.item_got-item.result ≡ got_item c.args.logged.now c.args.history.now c.in-OlderLeft.get =
-    c.item_got-item.ensures ∙ ap (got_item c.args.logged.now c.args.history.now) (c.call.ensures ∙ ap call_in c.in-OlderLeft.is) in
+    c.item_got-item.ensures
+    ∙ ap (got_item c.args.logged.now c.args.history.now) (c.call.ensures ∙ ap call_in c.in-OlderLeft.is) in
     rw (c.in-OlderLeft.is, ← got, ← c.as_slice-in-OlderLeft.ensures.value) c.push_older-in-OlderLeft.ensures

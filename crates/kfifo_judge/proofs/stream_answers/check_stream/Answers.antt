@@ -16,9 +16,13 @@ returns-in_err-text g c =
       writes_after = g.W.Sink.failed c.args.sink.now;
     } in
     let silent : IsSilent s = search rules in
-    let read = has_read s c.in_ok-bytes.bytes.items c.as_slice.result.now c.as_slice.ensures.value c.in_ok-bytes.ensures.failures
+    let read = has_read s c.in_ok-bytes.bytes.items c.as_slice.result.now c.as_slice.ensures.value
+    c.in_ok-bytes.ensures.failures
     c.in_ok-bytes.ensures.read c.in_ok-bytes.ensures.small in
     let fault = c.in_err-text.field-0.0 in
-    let answer : IsStreamAnswer (IsChecked c.args.k (option_map (λ s. s.now) c.args.order)) (IsCheckFault (option_map (λ s. s.now) c.args.order)) s (Err fault) =
-    refused s (IsChecked c.args.k (option_map (λ s. s.now) c.args.order)) (IsCheckFault (option_map (λ s. s.now) c.args.order)) c.as_slice.result.now read never never silent fault c.in_err-text.ensures in
+    let answer : IsStreamAnswer (IsChecked c.args.k (option_map (λ s. s.now) c.args.order))
+    (IsCheckFault (option_map (λ s. s.now) c.args.order)) s (Err fault) =
+    refused s (IsChecked c.args.k (option_map (λ s. s.now) c.args.order))
+    (IsCheckFault (option_map (λ s. s.now) c.args.order)) c.as_slice.result.now read never never silent fault
+    c.in_err-text.ensures in
     search (rules, answer)

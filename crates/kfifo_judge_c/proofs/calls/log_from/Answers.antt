@@ -17,7 +17,8 @@ pub returns : goal.returns
 returns c =
     let calls = c.args.calls.now in
     let known : position is_unknown calls ≡ None = elim c.match-first_unknown.branch [
-      | in-Some+else-place-lt-MAX_LOG_CALLS w ↦ all_known calls w.in-Some.place (sym c.first_unknown.ensures ∙ w.in-Some.is)
+      | in-Some+else-place-lt-MAX_LOG_CALLS w
+          ↦ all_known calls w.in-Some.place (sym c.first_unknown.ensures ∙ w.in-Some.is)
           w.if-place-lt-MAX_LOG_CALLS.false c.if-calls-gt-MAX_LOG_CALLS.false
       | in_default w ↦ sym c.first_unknown.ensures ∙ w.in_default.is
     ] in

@@ -17,7 +17,8 @@ feed-requires-clause-room c begins =
 pub returns-in-Err-clause-refused : goal.returns-in-Err-clause-refused
 returns-in-Err-clause-refused c =
     let at = c.loop-event.invariant.follows in
-    inr (λ schedule. no_schedule c.loop-event.linearizer.shape c.args.threads c.args.events.now c.loop-event.event-index _
+    inr (λ schedule. no_schedule c.loop-event.linearizer.shape c.args.threads c.args.events.now
+    c.loop-event.event-index _
     c.loop-event.linearizer.world c.in-Err._fault c.loop-event-test.true at.reached c.in-Err.ensures.refused
     (subst (λ s. IsSchedule s c.args.threads c.args.events.now) (sym c.loop-event.invariant.shape) schedule))
 
@@ -26,7 +27,8 @@ loop-event-preserved c = record {
   shape = c.in-Ok.ensures.shape ∙ c.loop-event.invariant.shape;
   follows = subst (λ (es : _). Follows c.args.threads (calls_begun c.args.events.now) es c.feed.new.self)
       (sym (take-next c.args.events.now c.loop-event.event-index _ c.loop-event-test.true))
-      (c.in-Ok.ensures.follows c.args.threads (calls_begun c.args.events.now) (take c.loop-event.event-index c.args.events.now)
+      (c.in-Ok.ensures.follows c.args.threads (calls_begun c.args.events.now)
+      (take c.loop-event.event-index c.args.events.now)
       c.loop-event.invariant.follows);
 }
 
@@ -37,5 +39,6 @@ returns-clause-followed c =
       c.loop-event.invariant.shape,
       c.in_ok-linearizer.ensures.few.0,
       c.in_ok-linearizer.ensures.few.1,
-      subst (λ es. Follows c.args.threads (calls_begun c.args.events.now) es c.loop-event.linearizer) all c.loop-event.invariant.follows,
+      subst (λ es. Follows c.args.threads (calls_begun c.args.events.now) es c.loop-event.linearizer) all
+          c.loop-event.invariant.follows,
     )

@@ -12,7 +12,8 @@ returns-clause-order c =
       known.1,
       known.2,
       subst (λ s. IsSchedule s c.args.threads c.args.events.now) known.0
-          (is_schedule c.in_ok-linearizer.linearizer.shape c.args.threads c.args.events.now c.in_ok-linearizer.linearizer.world
+          (is_schedule c.in_ok-linearizer.linearizer.shape c.args.threads c.args.events.now
+          c.in_ok-linearizer.linearizer.world
           known.3.reached),
       c.in_ok-order.ensures c.args.threads (calls_begun c.args.events.now) c.args.events.now known.3 known.2
           ∙ ap (λ s. order_of s c.args.threads c.args.events.now) known.0,

@@ -35,16 +35,19 @@ pub returns-clause-ok : goal.returns-clause-ok
 returns-clause-ok c =
     let q = queue_of c.args.table.shared.table_id c.args.table.shared.key in
     let of = All-pop (IsPassOf q) _ _ (Some c.in-Some.last) c.in-Some.ensures.items c.requires.of in
-    let few = subst (λ (o : Opening). o.threads ≤ 64) (ap (λ (k : PassView). k.opened) c.last.view_is ∙ of.1.1) c.last.invariant.few.0 in
+    let few = subst (λ (o : Opening). o.threads ≤ 64) (ap (λ (k : PassView). k.opened) c.last.view_is ∙ of.1.1)
+    c.last.invariant.few.0 in
     closes q _ _ _ _ _ _ c.last.inside.seat.me.0 _ c.pop.new.self.items c.in-Some.last
     refl
     c.in-Some.ensures.items
     c.join_all-seat.ensures.all
     (subst (λ (x : ℕ × List PassView). IsComplete x.0 x.1) (λ k. (c.requires.key.1 k, c.as_slice.ensures.value k))
     (c.is_complete.ensures.0 c.if-not-is_complete.false))
-    (pass_idle q.opened _ c.last.inside.seat.me c.in-Some.last c.last.invariant (ap (λ (k : PassView). k.opened) c.last.view_is ∙ of.1.1)
+    (pass_idle q.opened _ c.last.inside.seat.me c.in-Some.last c.last.invariant
+    (ap (λ (k : PassView). k.opened) c.last.view_is ∙ of.1.1)
     (sym (ap (λ (k : PassView). k.thread) c.last.view_is)) (sym (ap (λ (k : PassView). k.seen) c.last.view_is)))
-    (λ all b. pass_begins _ c.last.inside.seat.me c.in-Some.last all c.last.invariant (sym (ap (λ (k : PassView). k.thread) c.last.view_is))
+    (λ all b. pass_begins _ c.last.inside.seat.me c.in-Some.last all c.last.invariant
+    (sym (ap (λ (k : PassView). k.thread) c.last.view_is))
     (sym (ap (λ (k : PassView). k.seen) c.last.view_is)) b)
     few
     (c.in_ok-items.ensures ∙ ap (items_left c.args.shape) (c.as_slice-2.ensures.value ∙ c.in_ok-words.ensures)

@@ -9,7 +9,8 @@ invariant-loop-pass l = record {
   table : l.seat.table_id ≡ l.fn.seat.table_id;
   opened : l.seat.me.0.opened ≡ l.fn.seat.me.0.opened;
   all_of : All (IsPassOf (queue_of l.fn.seat.table_id l.fn.seat.me.0.opened)) l.passes.items;
-  covers : (all : List Event) → AllBegin l.seat.me.0.parts all → AllSeen l.passes.items all → AllBegin l.fn.seat.me.0.parts all
+  covers : (all : List Event) → AllBegin l.seat.me.0.parts all → AllSeen l.passes.items all
+      → AllBegin l.fn.seat.me.0.parts all
       × AllSeen l.initial.passes.items all;
   idle : AllIdle l.fn.seat.me.0.opened l.passes.items → AllIdle l.fn.seat.me.0.opened l.initial.passes.items;
 }

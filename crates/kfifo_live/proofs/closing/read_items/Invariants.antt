@@ -12,4 +12,5 @@ invariant-segments l = record {
 
 abbrev pub invariant-slots : goal.invariant-slots
 invariant-slots l = l.items.items ++ (slots_left l.words (l.first + l.slot) (l.shape.k - l.slot)
-    ++ segments_left l.shape l.words (next_segment l.shape.n l.segment) (l.shape.n - (l.count + 1))) ≡ items_left l.shape l.words
+    ++ segments_left l.shape l.words (next_segment l.shape.n l.segment) (l.shape.n - (l.count + 1)))
+    ≡ items_left l.shape l.words

@@ -5,14 +5,16 @@ use Rattle.kfifo_model.specs.declared.calls.Answer.TheVariants as A
 use Rattle.kfifo_machine.specs.declared.place.Next.TheVariants.{Answers}
 use Rattle.kfifo_live.specs.Hands.{FitsOwn}
 use Rattle.kfifo_live.specs.InHand.{GetsToken}
-use Rattle.kfifo_live.proofs.Pays.{fits_got, gets_token}
+use Rattle.kfifo_live.proofs.TokenMoves.{fits_got, gets_token}
 use Rattle.kfifo_live.proofs.in_hand.dequeue_token.Goals as goal
 
 pub unreachable-requires : goal.unreachable-requires
-unreachable-requires g c = none_of c.dequeue.result (fits_got c.args.seat.now c.dequeue.new.seat c.requires.hand.2 c.dequeue.ensures.leads)
+unreachable-requires g c =
+    none_of c.dequeue.result (fits_got c.args.seat.now c.dequeue.new.seat c.requires.hand.2 c.dequeue.ensures.leads)
     c.in_default.not-Got c.in_default.not-Empty c.in_default.not-Busy c.in_default.not-Worn
   where
-    none_of : (a : Answer) → FitsOwn 0 (Answers a) → ((x : ℕ) → a ≡ A.Got x → ⊥) → (a ≡ A.Empty → ⊥) → (a ≡ A.Busy → ⊥) → (a ≡ A.Worn → ⊥)
+    none_of : (a : Answer) → FitsOwn 0 (Answers a) → ((x : ℕ) → a ≡ A.Got x → ⊥) → (a ≡ A.Empty → ⊥) → (a ≡ A.Busy → ⊥)
+        → (a ≡ A.Worn → ⊥)
         → ⊥
     none_of A.Done fits got empty busy worn = omega arith
     none_of A.Full fits got empty busy worn = omega arith

@@ -8,7 +8,8 @@ invariant_of-push c =
     let i = c.loop-thread.invariant in
     let g = c.give_rest-rest.ensures in
     let cut = cut_first _ _ _ _ _ _ c.loop-thread-test.true i.view g.kept g.given.1 in
-    let below : c.loop-thread.thread < c.args.seat.me.0.opened.threads = omega (arith, c.requires.seat.2, c.loop-thread-test.true) in
+    let below : c.loop-thread.thread < c.args.seat.me.0.opened.threads =
+    omega (arith, c.requires.seat.2, c.loop-thread-test.true) in
     new_pass _ _ _ below c.requires.few cut.0 (g.same.1 ∙ i.held)
 
 pub loop-thread-preserved : goal.loop-thread-preserved

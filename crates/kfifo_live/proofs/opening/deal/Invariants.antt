@@ -7,6 +7,7 @@ abbrev pub invariant-loop-thread : goal.invariant-loop-thread
 invariant-loop-thread l = record {
   table : l.seat.table_id ≡ l.fn.seat.table_id;
   held : l.seat.me.1 ≡ [];
-  view : l.seat.me.0 ≡ view_of l.fn.seat.me.0.opened (fresh l.fn.seat.me.0.opened.tokens l.thread (l.threads - l.thread));
+  view : l.seat.me.0
+      ≡ view_of l.fn.seat.me.0.opened (fresh l.fn.seat.me.0.opened.tokens l.thread (l.threads - l.thread));
   made : l.passes.items ≡ new_passes (queue_of l.fn.seat.table_id l.fn.seat.me.0.opened) 0 l.thread;
 }

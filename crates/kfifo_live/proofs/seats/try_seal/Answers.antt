@@ -16,7 +16,8 @@ compare_exchange-found-requires g c =
     c.bits-2.ensures.bits ∙ c.pack-sealed.ensures.word
     ∙ (λ k. ends_word (c.head.ensures.value k) (c.tail.ensures.value k) (c.last.ensures k))
     ∙ (λ k. sealed_word (sym c.requires.shape k) (sym sought k)) in
-    let may : may_seal me.0.opened.shape c.bits.result ≡ true = (λ k. may_seal (c.requires.shape k) (sought k)) ∙ c.requires.may in (
+    let may : may_seal me.0.opened.shape c.bits.result ≡ true = (λ k. may_seal (c.requires.shape k) (sought k))
+    ∙ c.requires.may in (
       c.requires.table.0,
       c.requires.table.1,
       seals _ _ _ me c.bits.result c.bits-2.result _ c.requires.idle sealed may

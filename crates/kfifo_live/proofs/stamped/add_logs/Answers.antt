@@ -20,8 +20,12 @@ invariant_of-push c =
     let few : x.opened.threads ≤ 64 = subst (λ (o : Opening). o.threads ≤ 64) (sym new.0) c.requires.few in
     let calls : x.opened.calls ≡ c.queue.inside.calls =
     ap (λ (o : Opening). o.calls) new.0 ∙ sym (ap (λ (p : OpenQueue). p.opened.calls) c.queue.view_is) in
-    let capacity = c.in_ok-log.ensures.capacity in
-    (subst (IsLog x) (sym c.in_ok-log.ensures.items) (new_log x new.1), new_promise x new.1 few, omega (arith, calls, capacity))
+    let capacity = c.in_ok-log.ensures.capacity in (
+      subst (IsLog x) (sym c.in_ok-log.ensures.items) (new_log x new.1),
+      new_promise x new.1 few,
+      omega
+          (arith, calls, capacity),
+    )
 
 pub loop-pass-preserved : goal.loop-pass-preserved
 loop-pass-preserved c =

@@ -11,16 +11,21 @@ use Rattle.kfifo_machine.proofs.state.step.Goals as goal
 others_stay : (shape : Shape) (old new : Machine) (e : Event) (result : Result Outcome NotEnabled)
     → IfOk result (λ outcome. step shape old.world e ≡ Ok (new.world, outcome)) → OnErr result (new ≡ old)
     → OthersStay e.thread old.world new.world
-others_stay shape old new e (Ok outcome) made unchanged = λ other apart. other_place shape old.world e new.world outcome other apart made
-others_stay shape old new e (Err fault) made unchanged = λ other apart. ap (λ (m : Machine). place_of m.world other) unchanged
+others_stay shape old new e (Ok outcome) made unchanged = λ other apart. other_place shape old.world e new.world outcome
+    other apart made
+others_stay shape old new e (Err fault) made unchanged = λ other apart. ap (λ (m : Machine). place_of m.world other)
+    unchanged
 
-falls_none : (shape : Shape) (old new : Machine) (e : Event) (result : Result Outcome NotEnabled) → IsSound shape old.world
+falls_none : (shape : Shape) (old new : Machine) (e : Event) (result : Result Outcome NotEnabled)
+    → IsSound shape old.world
     → IfOk result (λ outcome. step shape old.world e ≡ Ok (new.world, outcome)) → OnErr result (new ≡ old)
     → NoneFalls old.world new.world
 falls_none shape old new e (Ok outcome) sound made unchanged = step_rises shape old.world e new.world outcome sound made
-falls_none shape old new e (Err fault) sound made unchanged = none_falls old.world new.world (ap (λ (m : Machine). m.world) unchanged)
+falls_none shape old new e (Err fault) sound made unchanged =
+    none_falls old.world new.world (ap (λ (m : Machine). m.world) unchanged)
 
-changes_one : (shape : Shape) (old new : Machine) (e : Event) (result : Result Outcome NotEnabled) → IsSound shape old.world
+changes_one : (shape : Shape) (old new : Machine) (e : Event) (result : Result Outcome NotEnabled)
+    → IsSound shape old.world
     → IfOk result (λ outcome. step shape old.world e ≡ Ok (new.world, outcome))
     → IfOk result (λ outcome. OneWord shape old.world new.world e)
 changes_one shape old new e (Ok outcome) sound made = one_word shape old.world e new.world outcome sound made

@@ -16,8 +16,10 @@ loop-rival-preserved c =
     let most = from_max c.loop-rival.latest r.put_first in
     let from_latest = most.0 in
     let from_put = most.1 in
-    subst (λ xs. IsSpan xs c.min-earliest.result c.max-latest.result) (sym (take_more c.args.rivals.now i d c.loop-rival-test.true))
-    (span_more (take i c.args.rivals.now) r c.loop-rival.earliest c.loop-rival.latest c.min-earliest.result c.max-latest.result
+    subst (λ xs. IsSpan xs c.min-earliest.result c.max-latest.result)
+    (sym (take_more c.args.rivals.now i d c.loop-rival-test.true))
+    (span_more (take i c.args.rivals.now) r c.loop-rival.earliest c.loop-rival.latest c.min-earliest.result
+    c.max-latest.result
     c.loop-rival.invariant (omega arith) (omega arith) (omega arith) (omega arith))
 
 pub returns : goal.returns

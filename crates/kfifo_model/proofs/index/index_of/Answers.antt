@@ -18,7 +18,8 @@ loop-call-preserved c =
       | in-Some+in_ok-insert+else-is_some w ↦ subst P (sym w.firsts-is)
           (index_more h c.args.side n w.in-Some.item (call h n).first (λ x. get nat_cmp c.loop-call.firsts x)
           (λ x. get nat_cmp w.insert.new.self x) c.loop-call.invariant
-          (was_none _ _ w.in_ok-insert.ensures.old (w.if-is_some.ensures)) (ap effect_of (sym same) ∙ w.in-Some.ensures) refl
+          (was_none _ _ w.in_ok-insert.ensures.old (w.if-is_some.ensures))
+          (ap effect_of (sym same) ∙ w.in-Some.ensures) refl
           (w.in_ok-insert.ensures.updates.1 ∙ ap (λ t. Some t.first) same)
           (λ q ne. w.in_ok-insert.ensures.updates.2 q (differs w.in-Some.item q ne)))
       | in_default w ↦ subst P (sym w.firsts-is)

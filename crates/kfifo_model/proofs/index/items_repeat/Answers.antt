@@ -24,4 +24,5 @@ returns c =
     let gots = rw c.in-Some-2.is at c.in_ok-_gets.ensures in
     let P : List Call → Type 0 = λ h. HasDistinctItems h in
     subst P c.calls-calls.ensures.calls
-    (all_distinct c.calls-calls.result.now (λ x. get nat_cmp c.in-Some._puts x) (λ x. get nat_cmp c.in-Some-2._gets x) puts gots)
+    (all_distinct c.calls-calls.result.now (λ x. get nat_cmp c.in-Some._puts x) (λ x. get nat_cmp c.in-Some-2._gets x)
+    puts gots)

@@ -6,6 +6,7 @@ use Rattle.kfifo_model.proofs.measures.ranks_along.Given as goal
 
 abbrev pub invariant-loop-n : goal.invariant-loop-n
 invariant-loop-n l = record {
-  told : l.found.items ++ ranks_at l.k (Some l.items.items) (map (does l.calls) (drop l.n-index l.order)) ≡ ranks_of l.k l.calls l.order;
+  told : l.found.items ++ ranks_at l.k (Some l.items.items) (map (does l.calls) (drop l.n-index l.order))
+      ≡ ranks_of l.k l.calls l.order;
   runs : IsRun l.k l.items.items (map (does l.calls) (drop l.n-index l.order));
 }

@@ -16,8 +16,22 @@ loop-j-preserved c =
     (effect_of (get_or c.args.calls.now c.loop-j.j (record { thread = 0; op = Enqueue 0; first = 0; end = None }))) in
     no_more (λ j. SharesItem (does c.args.calls.now c.args.n) (does c.args.calls.now j)) c.loop-j.j c.loop-j.invariant
     (λ s. false≢true (c.if-shares_item.ensures.1
-    (subst Q (sym (read c.args.calls.now c.args.n (record { thread = 0; op = Enqueue 0; first = 0; end = None }) c.requires))
-    (subst P (sym (read c.args.calls.now c.loop-j.j (record { thread = 0; op = Enqueue 0; first = 0; end = None }) lt)) s))))
+    (subst Q (sym (read c.args.calls.now c.args.n (record {
+      thread = 0;
+      op = Enqueue 0;
+      first = 0;
+      end = None;
+    }) c.requires))
+    (subst P (sym (read c.args.calls.now c.loop-j.j (record {
+      thread = 0;
+      op = Enqueue 0;
+      first = 0;
+      end = None;
+    }) lt)) s))))
 
 pub returns : goal.returns
-returns c = (λ f. absurd (false≢true f), λ r. absurd (c.loop-j.invariant r.0 (let lt : r.0 < c.args.n = r.1 in omega arith) r.2))
+returns c = (
+  λ f. absurd (false≢true f),
+  λ r. absurd (c.loop-j.invariant r.0 (let lt : r.0 < c.args.n =
+      r.1 in omega arith) r.2),
+)

@@ -7,13 +7,16 @@ use Rattle.kfifo_model.proofs.orders.first_break.Goals as goal
 pub returns-in-NotLegal : goal.returns-in-NotLegal
 returns-in-NotLegal c =
     let none = rw c.in-NotLegal.is at c.in_ok-tried.ensures in
-    breaks_at c.args.k c.args.calls.now c.args.order.now c.loop-p.p c.loop-p.items.items c.loop-p-test.true c.loop-p.invariant none
+    breaks_at c.args.k c.args.calls.now c.args.order.now c.loop-p.p c.loop-p.items.items c.loop-p-test.true
+    c.loop-p.invariant none
 
 pub loop-p-preserved : goal.loop-p-preserved
 loop-p-preserved c =
-    goes_on c.args.k c.args.calls.now c.args.order.now c.loop-p.p c.loop-p.items.items c.try_number.new.items.items c.loop-p-test.true
+    goes_on c.args.k c.args.calls.now c.args.order.now c.loop-p.p c.loop-p.items.items c.try_number.new.items.items
+    c.loop-p-test.true
     c.loop-p.invariant
-    (tried_went c.args.k c.loop-p.items.items c.try_number.new.items.items (does c.args.calls.now (get_or c.args.order.now c.loop-p.p 0))
+    (tried_went c.args.k c.loop-p.items.items c.try_number.new.items.items
+    (does c.args.calls.now (get_or c.args.order.now c.loop-p.p 0))
     c.in_ok-tried.tried c.in_ok-tried.ensures c.in_default.not-NotLegal)
 
 pub returns : goal.returns

@@ -4,7 +4,8 @@ use Rattle.kfifo_model.proofs.Places.{pairs_from_places}
 use Rattle.kfifo_model.proofs.Checking.{read, at_bounds, breaks_before, keeps_more, most_more, safe_some, no_end}
 use Rattle.kfifo_model.specs.Histories.{call, Precedes}
 use Rattle.kfifo_model.proofs.orders.keeps_before.Goals as goal
-use Rattle.kfifo_model.proofs.orders.keeps_before.Goals.{in-Some+else-end-latest, in_default, then-call-latest, else-call-latest}
+use Rattle.kfifo_model.proofs.orders.keeps_before.Goals.{in-Some+else-end-latest, in_default, then-call-latest}
+use Rattle.kfifo_model.proofs.orders.keeps_before.Goals.{else-call-latest}
 
 pub returns-then-end-latest : goal.returns-then-end-latest
 returns-then-end-latest c =
@@ -14,8 +15,8 @@ returns-then-end-latest c =
       λ f. absurd (false≢true f),
       λ keeps. absurd (elim c.loop-n.invariant.some [
         | inl z ↦ omega arith
-        | inr p ↦ breaks_before c.args.calls.now c.args.order.now p.0 c.loop-n.n-index c.in-Some.end p.1 c.loop-n-test.true e (omega arith)
-            keeps
+        | inr p ↦ breaks_before c.args.calls.now c.args.order.now p.0 c.loop-n.n-index c.in-Some.end p.1
+            c.loop-n-test.true e (omega arith) keeps
       ]),
     )
 
@@ -31,19 +32,21 @@ loop-n-preserved c =
     let same = read c.args.calls.now (get_or c.args.order.now c.loop-n.n-index 0) _
     (at_bounds c.args.calls.now c.args.order.now c.loop-n.n-index c.requires c.loop-n-test.true) in
     record {
-      kept = keeps_more c.args.calls.now c.args.order.now c.loop-n.n-index c.loop-n.latest c.loop-n.invariant.kept c.loop-n.invariant.most
-          (λ s le. elim c.match-call.branch [
-            | in-Some+else-end-latest w ↦ safe_some (call c.args.calls.now (get_or c.args.order.now c.loop-n.n-index 0)).end w.in-Some.end
+      kept = keeps_more c.args.calls.now c.args.order.now c.loop-n.n-index c.loop-n.latest c.loop-n.invariant.kept
+          c.loop-n.invariant.most (λ s le. elim c.match-call.branch [
+            | in-Some+else-end-latest w
+                ↦ safe_some (call c.args.calls.now (get_or c.args.order.now c.loop-n.n-index 0)).end w.in-Some.end
                 c.loop-n.latest s (ap (λ w. w.end) (sym same) ∙ w.in-Some.is) w.if-end-latest.false le
             | in_default w ↦ no_end (call c.args.calls.now (get_or c.args.order.now c.loop-n.n-index 0)).end s
                 (ap (λ w. w.end) (sym same) ∙ w.in_default.is)
           ]);
       most = elim c.if-call-latest.branch [
-        | then-call-latest w ↦ most_more c.args.calls.now c.args.order.now c.loop-n.n-index c.loop-n.latest c.if-call-latest.latest
+        | then-call-latest w ↦ most_more c.args.calls.now c.args.order.now c.loop-n.n-index c.loop-n.latest
+            c.if-call-latest.latest
             c.loop-n.invariant.most (let a = w.if-call-latest.true in let b = w.latest-is in omega arith)
             (let a = w.latest-is in let e = ap (λ w. w.first) same in omega arith)
-        | else-call-latest w ↦ most_more c.args.calls.now c.args.order.now c.loop-n.n-index c.loop-n.latest c.if-call-latest.latest
-            c.loop-n.invariant.most (let b = w.latest-is in omega arith)
+        | else-call-latest w ↦ most_more c.args.calls.now c.args.order.now c.loop-n.n-index c.loop-n.latest
+            c.if-call-latest.latest c.loop-n.invariant.most (let b = w.latest-is in omega arith)
             (let f = w.if-call-latest.false in let a = w.latest-is in let e = ap (λ w. w.first) same in omega arith)
       ];
       some = elim c.if-call-latest.branch [

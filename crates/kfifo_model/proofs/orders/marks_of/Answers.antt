@@ -11,7 +11,8 @@ returns-then-index c =
     let bound = at_bounds c.args.calls.now c.args.order.now c.loop-n.n-index c.requires c.loop-n-test.true in
     let size = c.loop-n.invariant.sized in
     let inside : n < length c.loop-n.marks.items = omega (arith, bound, size) in
-    let marked = get_or_default c.loop-n.marks.items n false c.index.result.now inside ∙ (sym c.index.ensures ∙ c.if-index.true) in
+    let marked = get_or_default c.loop-n.marks.items n false c.index.result.now inside
+    ∙ (sym c.index.ensures ∙ c.if-index.true) in
     let p = c.loop-n.invariant.only n marked in
     found_twice c.args.order.now c.loop-n.n-index p.0 p.1 c.loop-n-test.true p.2
 

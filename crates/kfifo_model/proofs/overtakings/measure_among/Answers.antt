@@ -6,8 +6,11 @@ use Rattle.kfifo_model.proofs.overtakings.measure_among.Goals as goal
 
 pub returns-then-not-has_done : goal.returns-then-not-has_done
 returns-then-not-has_done c =
-    let none = c.if-not-has_done.ensures in
-    (c.new.ensures.items ∙ sym (none_measured c.args.calls.now (length c.args.calls.now) none), λ n d. absurd (none n d))
+    let none = c.if-not-has_done.ensures in (
+      c.new.ensures.items ∙ sym (none_measured c.args.calls.now (length c.args.calls.now) none),
+      λ n d.
+          absurd (none n d),
+    )
 
 pub returns-in_default : goal.returns-in_default
 returns-in_default c =

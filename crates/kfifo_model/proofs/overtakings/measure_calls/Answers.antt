@@ -29,12 +29,14 @@ loop-n-preserved c =
           let q = subst Q same (w.in-Some.ensures.1, w.in-Some.ensures.2) in
           let beaten : Rival → Bool = λ r. is_beaten (last_of (call h n).end) (get nat_cmp c.args.gots.now o.item) r in
           let sorted : in_blocks ≡ c.sort_by_key.new.self.items =
-          ap (flat_map (λ (b : List Rival). b)) c.deref-in-loop-n.ensures.value ∙ c.in_ok-blocks.ensures ∙ c.deref.ensures.value in
+          ap (flat_map (λ (b : List Rival). b)) c.deref-in-loop-n.ensures.value ∙ c.in_ok-blocks.ensures
+          ∙ c.deref.ensures.value in
           let same_count : count_by beaten in_blocks ≡ count_by beaten rivals =
           ap (count_by beaten) sorted ∙ count-permuted beaten c.in_ok-rivals.rivals.items c.sort_by_key.new.self.items
           c.sort_by_key.ensures.permutation ∙ ap (count_by beaten) c.in_ok-rivals.ensures in
           subst P (ap (λ v. v.items) (sym w.found-is))
-          (measured_some h (λ x. get nat_cmp c.args.puts.now x) (λ x. get nat_cmp c.args.gots.now x) c.requires.puts c.requires.gots n
+          (measured_some h (λ x. get nat_cmp c.args.puts.now x) (λ x. get nat_cmp c.args.gots.now x) c.requires.puts
+          c.requires.gots n
           rivals c.loop-n.found.items w.push.new.self.items o
           refl c.loop-n.invariant w.in-Some.ensures.0 q.0 (q.1 ∙ same_count) w.in_ok-push.ensures.items)
           )

@@ -14,11 +14,13 @@ returns-then-len-gt-MAX_CALLS c =
 pub returns-in-Ok : goal.returns-in-Ok
 returns-in-Ok c =
     let P : List Call → Type 0 = λ h. IsRecordOf (view c.args.json.now) h × IsHistory h in
-    let small : length c.deref.result.now ≤ 65536 = (let e = c.len.ensures in let f = c.deref.ensures.len in omega arith) in
+    let small : length c.deref.result.now ≤ 65536 =
+    (let e = c.len.ensures in let f = c.deref.ensures.len in omega arith) in
     subst P (sym c.of_valid.ensures) (
       (
         map view c.deref.result.now,
-        is_array (view c.args.json.now) c.in-Some.members.now.items c.deref.result.now c.deref.ensures.value c.in-Some.ensures,
+        is_array (view c.args.json.now) c.in-Some.members.now.items c.deref.result.now c.deref.ensures.value
+            c.in-Some.ensures,
         rw length-map small,
         c.in-Ok.ensures.0,
         c.in-Ok.ensures.1,
@@ -28,7 +30,9 @@ returns-in-Ok c =
 
 pub returns-in-Err : goal.returns-in-Err
 returns-in-Err c =
-    let small : length c.deref.result.now ≤ 65536 = (let e = c.len.ensures in let f = c.deref.ensures.len in omega arith) in
+    let small : length c.deref.result.now ≤ 65536 =
+    (let e = c.len.ensures in let f = c.deref.ensures.len in omega arith) in
     member_fault (view c.args.json.now) (map view c.deref.result.now) c.in-Err.fault
-    (is_array (view c.args.json.now) c.in-Some.members.now.items c.deref.result.now c.deref.ensures.value c.in-Some.ensures)
+    (is_array (view c.args.json.now) c.in-Some.members.now.items c.deref.result.now c.deref.ensures.value
+    c.in-Some.ensures)
     (rw length-map small) c.in-Err.ensures

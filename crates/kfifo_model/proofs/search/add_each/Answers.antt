@@ -32,5 +32,7 @@ loop-n-preserved c =
 pub returns : goal.returns
 returns c =
     let r = reach c.args.done.now c.args.items.now in
-    added_as c.args.k c.args.calls.now r c.args.next.now.items c.loop-n.next.items _ (Extends c.args.k c.args.calls.now r → ⊥)
-    (λ s. none_goes c.args.k c.args.calls.now r c.requires.history c.requires.open (λ n lt. s n (omega arith))) c.loop-n.invariant
+    added_as c.args.k c.args.calls.now r c.args.next.now.items c.loop-n.next.items _
+    (Extends c.args.k c.args.calls.now r → ⊥)
+    (λ s. none_goes c.args.k c.args.calls.now r c.requires.history c.requires.open (λ n lt. s n (omega arith)))
+    c.loop-n.invariant

@@ -10,13 +10,15 @@ loop-reached-init c = members_init c.args.level.items c.sort_unstable_by.new.sel
 
 pub loop-reached-preserved-in-Continue-1 : goal.loop-reached-preserved-in-Continue-1
 loop-reached-preserved-in-Continue-1 c =
-    members_pushed c.args.level.items c.loop-reached.level.items c.pop.new.self.items c.loop-reached.kept.items c.push.new.self.items
+    members_pushed c.args.level.items c.loop-reached.level.items c.pop.new.self.items c.loop-reached.kept.items
+    c.push.new.self.items
     c.in-Some.reached c.loop-reached.invariant c.in-Some.ensures.items c.in_ok-push.ensures.items
 
 pub loop-reached-preserved : goal.loop-reached-preserved
 loop-reached-preserved c =
     let P : List Reach → Type 0 = λ t. Contains t c.in-Some.reached in
-    members_same c.args.level.items c.loop-reached.level.items c.pop.new.self.items c.loop-reached.kept.items c.in-Some.reached
+    members_same c.args.level.items c.loop-reached.level.items c.pop.new.self.items c.loop-reached.kept.items
+    c.in-Some.reached
     c.loop-reached.invariant c.in-Some.ensures.items
     (subst P c.deref.ensures.value (c.if-not-ends_with.ensures refl))
 

@@ -10,7 +10,8 @@ returns-in-Some c =
     let r = reach c.args.done.now c.args.items.now in
     on_ok_map c.add_after.result _ (IsAdded c.args.k c.args.calls.now r c.args.next.now.items c.add_after.new.next.items
     (Extends c.args.k c.args.calls.now r → ⊥))
-    (added_as c.args.k c.args.calls.now r c.args.next.now.items c.add_after.new.next.items _ (Extends c.args.k c.args.calls.now r → ⊥)
+    (added_as c.args.k c.args.calls.now r c.args.next.now.items c.add_after.new.next.items _
+    (Extends c.args.k c.args.calls.now r → ⊥)
     (idle_goes c.args.k c.args.calls.now r c.in-Some.n c.in-Some.ensures.0 c.in-Some.ensures.1))
     c.add_after.ensures
 

@@ -19,12 +19,15 @@ loop-i-preserved c =
     elim c.if-is_left.branch [
       | then-is_left w ↦ inl (sym w.as_good-is)
       | else-is_left w ↦ subst Q (sym w.as_good-is)
-          (worthless calls done c.index-item.result.now c.requires (λ x. false≢true (sym w.if-is_left.false ∙ c.is_left.ensures.1 x)))
+          (worthless calls done c.index-item.result.now c.requires
+          (λ x. false≢true (sym w.if-is_left.false ∙ c.is_left.ensures.1 x)))
     ] in
     let R : List ℕ → Type 0 = λ t. (length t ≡ c.loop-i.i + 1) in
-    let S : List ℕ → Type 0 = λ t. (j : ℕ) → j < c.loop-i.i + 1 → IsAsGood calls done (get_or items j 0) (get_or t j 0) in
+    let S : List ℕ → Type 0 = λ t. (j : ℕ) → j < c.loop-i.i + 1
+    → IsAsGood calls done (get_or items j 0) (get_or t j 0) in
     record {
-      sized = subst R (sym c.in_ok-push.ensures.items) (simp length-append (let z = c.loop-i.invariant.sized in omega arith));
+      sized = subst R (sym c.in_ok-push.ensures.items)
+          (simp length-append (let z = c.loop-i.invariant.sized in omega arith));
       good = subst S (sym c.in_ok-push.ensures.items)
           (as_good_more calls done items c.loop-i.kept.items c.loop-i.i c.if-is_left.as_good c.loop-i.invariant.sized
           c.loop-i.invariant.good (subst P at good));

@@ -9,5 +9,7 @@ pub repeat_script-requires : goal.repeat_script-requires
 repeat_script-requires c =
     let same = c.as_slice.ensures.value ∙ script_at c.args.scripts.now c.loop-script.script-index c.script-item.result
     c.loop-script-test.true c.script-item.is in
-    subst (λ (x : ℕ × List Begin). FitsTo ((c.args.count - 1) * x.0) x.1) (λ i. (sym c.greatest_item-step.ensures i, sym same i))
-    (c.requires c.loop-script.script-index (length_in c.args.scripts.now c.loop-script.script-index c.loop-script-test.true))
+    subst (λ (x : ℕ × List Begin). FitsTo ((c.args.count - 1) * x.0) x.1)
+    (λ i. (sym c.greatest_item-step.ensures i, sym same i))
+    (c.requires c.loop-script.script-index (length_in c.args.scripts.now c.loop-script.script-index
+    c.loop-script-test.true))

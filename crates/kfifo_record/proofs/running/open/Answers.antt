@@ -18,7 +18,8 @@ few_threads n t is no_fault = elim (cases_lt 64 t) [
   ]
 ]
 
-few_calls : (most calls : ℕ) → calls ≡ min (max most 1) (2 ^ 32 - 1) → ((calls ≡ 0) ⊎ (1024 < calls) → ⊥) → (calls ≡ max 1 most)
+few_calls : (most calls : ℕ) → calls ≡ min (max most 1) (2 ^ 32 - 1) → ((calls ≡ 0) ⊎ (1024 < calls) → ⊥)
+    → (calls ≡ max 1 most)
     × (most ≤ 1024)
 few_calls most calls is no_fault = elim (cases_lt 1024 calls) [
   | inl over ↦ absurd (no_fault (inr over))
@@ -37,7 +38,8 @@ returns-clause-may_run c =
     (λ out. absurd (let h = e.threads.1 out in cc)) in
     let calls = few_calls (longest scripts) c.capped-calls.result room
     (λ out. absurd (let h = e.calls.1 (threads.0, threads.1, out) in cc)) in
-    let count : c.capped-threads.result ≡ length scripts = threads.2 ∙ sym (length-map c.args.scripts.now (λ script. script.items)) in
+    let count : c.capped-threads.result ≡ length scripts = threads.2
+    ∙ sym (length-map c.args.scripts.now (λ script. script.items)) in
     let opened : IsOpenFor c.args.shape scripts q ps = record {
       opened = e.ok.0 ∙ (λ i. stamped_opening c.args.shape (count i) (calls.0 i));
       passes_are = e.ok.1 ∙ ap (λ (n : ℕ). new_logs (new_passes q 0 n)) count;

@@ -10,7 +10,8 @@ returns g c =
     let olds = c.args.passes.items in
     let news = c.in_ok-passes.passes.items in
     let len : length news ≡ length olds = omega (arith, c.in_ok-passes.ensures.len) in
-    by_threads (g.G.Gate.passed c.args.gate.now) c.args.shape scripts c.args.queue.now olds news c.requires.opened len (λ t d less.
+    by_threads (g.G.Gate.passed c.args.gate.now) c.args.shape scripts c.args.queue.now olds news c.requires.opened len
+    (λ t d less.
     let back = c.in_ok-passes.ensures.each t d less in
     let made : MakesInTurn (g.G.Gate.passed c.args.gate.now (get_or olds t d).pass.thread) 1
     (script_of scripts (get_or olds t d).pass.thread) (get_or olds t d) (get_or news t d) = search rules in made)

@@ -15,7 +15,8 @@ returns-in-Cancel-clause-calls c =
 pub returns-in-Release-clause-calls : goal.returns-in-Release-clause-calls
 returns-in-Release-clause-calls c =
     subst
-    (λ (call : CellCall). CallsCell {T = Unit {0}} call c.done_if-in-Release.result c.args.handle.now c.release_cell.new.self)
+    (λ (call : CellCall). CallsCell {T = Unit {0}} call c.done_if-in-Release.result c.args.handle.now
+    c.release_cell.new.self)
     (sym c.in-Release.is)
     (released c.release_cell.result c.done_if-in-Release.result c.args.handle.now c.release_cell.new.self
     c.done_if-in-Release.ensures c.release_cell.ensures.did)

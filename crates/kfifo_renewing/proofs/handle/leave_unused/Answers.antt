@@ -7,10 +7,12 @@ use Rattle.kfifo_renewing.proofs.handle.leave_unused.Goals as goal
 
 pub leave_unused-requires : goal.leave_unused-requires
 leave_unused-requires g c =
-    (All-pop (λ (p : PartView g.row.T.Denot). IsUntouched p.handle) c.loop-part.parts.items c.pop.new.self.items (Some c.in-Some.part)
+    (All-pop (λ (p : PartView g.row.T.Denot). IsUntouched p.handle) c.loop-part.parts.items c.pop.new.self.items
+    (Some c.in-Some.part)
     c.in-Some.ensures.items c.loop-part.invariant).1
 
 pub loop-part-preserved : goal.loop-part-preserved
 loop-part-preserved g c =
-    (All-pop (λ (p : PartView g.row.T.Denot). IsUntouched p.handle) c.loop-part.parts.items c.pop.new.self.items (Some c.in-Some.part)
+    (All-pop (λ (p : PartView g.row.T.Denot). IsUntouched p.handle) c.loop-part.parts.items c.pop.new.self.items
+    (Some c.in-Some.part)
     c.in-Some.ensures.items c.loop-part.invariant).0

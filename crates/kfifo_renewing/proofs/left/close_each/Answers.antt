@@ -18,15 +18,16 @@ loop-joined-preserved c =
     let next = c.in-Some.ensures.steps.0 in
     record {
       same = refl;
-      rest = (all-next (λ (p : PartView T). IsOpenedAs (opening_with true c.args.sizes.now) p.handle) here c.next.new.self.rest.items
-          c.loop-joined.joined-iterator.rest.items next i.rest).1;
+      rest = (all-next (λ (p : PartView T). IsOpenedAs (opening_with true c.args.sizes.now) p.handle) here
+          c.next.new.self.rest.items c.loop-joined.joined-iterator.rest.items next i.rest).1;
       left = (
         done ++ here ∷ [],
         i.left.1 ∙ ap (λ l. done ++ l) next ∙ sym (append_assoc done (here ∷ []) c.next.new.self.rest.items),
         subst (λ (hs : List (HeldIn T)). LeavesCells hs c.push.new.self.items)
             (sym (map-append (λ (p : PartView T). held_in p) done (here ∷ [])))
             (subst (LeavesCells (held_by done ++ held_in here ∷ [])) (sym c.in-Ok.ensures.items)
-            (leaves-more (held_by done) c.loop-joined.left.items (held_in here) c.in_ok-closed.closed i.left.2 c.in_ok-closed.ensures)),
+            (leaves-more (held_by done) c.loop-joined.left.items (held_in here) c.in_ok-closed.closed i.left.2
+            c.in_ok-closed.ensures)),
       );
     }
 

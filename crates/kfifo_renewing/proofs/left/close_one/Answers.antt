@@ -15,7 +15,8 @@ close-requires c =
     let q = c.in_ok-queue.queue in
     let same : q ≡ c.in-Some.generation.queue = c.in_ok-queue.ensures.queue in
     let others : All (λ (h : Pooled T). IsPassOf q h.held.pass.pass) c.in_ok-queue.handles.items =
-    subst (λ (o : OpenQueue). All (λ (h : Pooled T). IsPassOf o h.held.pass.pass) c.in_ok-queue.handles.items) (sym same)
+    subst (λ (o : OpenQueue). All (λ (h : Pooled T). IsPassOf o h.held.pass.pass) c.in_ok-queue.handles.items)
+    (sym same)
     c.in_ok-queue.ensures.of in
     let own : IsPassOf q c.into_parts-generation.result.1.held.pass.pass =
     subst (λ (o : OpenQueue). IsPassOf o c.into_parts-generation.result.1.held.pass.pass)
@@ -23,7 +24,8 @@ close-requires c =
     All-map (IsPassOf q) (λ (p : PayPassView T). p.pass) (map (λ (h : Pooled T). h.held.pass) c.push.new.self.items)
     (All-map (λ (p : PayPassView T). IsPassOf q p.pass) (λ (h : Pooled T). h.held.pass) c.push.new.self.items
     (subst (All (λ (h : Pooled T). IsPassOf q h.held.pass.pass)) (sym c.in-Ok.ensures.items)
-    (All-push (λ (h : Pooled T). IsPassOf q h.held.pass.pass) c.in_ok-queue.handles.items c.into_parts-generation.result.1 others own)))
+    (All-push (λ (h : Pooled T). IsPassOf q h.held.pass.pass) c.in_ok-queue.handles.items
+    c.into_parts-generation.result.1 others own)))
 
 pub returns : goal.returns
 returns c =
@@ -35,7 +37,8 @@ returns c =
     c.into_parts-generation.ensures.handle ∙ ap (λ (p : PartView T). p.handle) c.into_part.ensures in
     let of : IsPassOf q h.held.pass.pass = subst (λ (p : Pooled T). IsPassOf q p.held.pass.pass) handle_is
     (subst (λ (o : OpenQueue). IsPassOf o c.into_parts-generation.result.1.held.pass.pass)
-    (sym (c.in_ok-queue.ensures.queue ∙ ap (λ (v : Numbered). v.queue) c.in-Some.ensures)) c.into_parts-generation.ensures.of) in
+    (sym (c.in_ok-queue.ensures.queue ∙ ap (λ (v : Numbered). v.queue) c.in-Some.ensures))
+    c.into_parts-generation.ensures.of) in
     record {
       queue = q;
       of = of;

@@ -12,7 +12,8 @@ pub returns-in-NoToken-clause-same : goal.returns-in-NoToken-clause-same
 returns-in-NoToken-clause-same t c =
     let after = c.stop_giving.new.self in
     let same : IsSamePart {T = Unit {0}} c.in-Some.first.now after =
-    subst (λ (p : PartView (Unit {0})). IsSamePart c.in-Some.first.now p) (sym c.stop_giving.ensures) c.call_here-answer.ensures.same in
+    subst (λ (p : PartView (Unit {0})). IsSamePart c.in-Some.first.now p) (sym c.stop_giving.ensures)
+    c.call_here-answer.ensures.same in
     subst (λ l. AreSameParts {T = Unit {0}} l (after ∷ c.call_first.new.parts)) (sym c.in-Some.ensures.cases.0)
     (after, c.call_first.new.parts, refl, same, c.call_first.ensures.same)
 
@@ -22,7 +23,8 @@ returns-in-NoToken-clause-calls t c =
     let called : CallsCell {T = Unit {0}} c.args.call (G.NoToken tt) c.in-Some.first.now.handle after.handle =
     subst (λ (p : PartView (Unit {0})). CallsCell c.args.call (G.NoToken tt) c.in-Some.first.now.handle p.handle)
     (sym c.stop_giving.ensures) c.in-NoToken.ensures.calls in
-    subst (λ (l : List (PartView (Unit {0}))). CallsFirst c.args.call c.call_first.result (held_by l) (held_by (after ∷ c.call_first.new.parts)))
+    subst (λ (l : List (PartView (Unit {0}))). CallsFirst c.args.call c.call_first.result (held_by l)
+    (held_by (after ∷ c.call_first.new.parts)))
     (sym c.in-Some.ensures.cases.0) (
       held_in after,
       held_by c.call_first.new.parts,
@@ -36,14 +38,18 @@ returns-in_default-answer t c =
     let after = c.stop_giving.new.self in
     let rest = c.in-Some.rest.now in
     let same : IsSamePart {T = Unit {0}} c.in-Some.first.now after =
-    subst (λ (p : PartView (Unit {0})). IsSamePart c.in-Some.first.now p) (sym c.stop_giving.ensures) c.call_here-answer.ensures.same in
-    let called : CallsCell {T = Unit {0}} c.args.call c.call_here-answer.result c.in-Some.first.now.handle after.handle =
-    subst (λ (p : PartView (Unit {0})). CallsCell c.args.call c.call_here-answer.result c.in-Some.first.now.handle p.handle)
+    subst (λ (p : PartView (Unit {0})). IsSamePart c.in-Some.first.now p) (sym c.stop_giving.ensures)
+    c.call_here-answer.ensures.same in
+    let called : CallsCell {T = Unit {0}} c.args.call c.call_here-answer.result c.in-Some.first.now.handle
+    after.handle =
+    subst (λ (p : PartView (Unit {0})). CallsCell c.args.call c.call_here-answer.result c.in-Some.first.now.handle
+    p.handle)
     (sym c.stop_giving.ensures) c.call_here-answer.ensures.calls in record {
       same = subst (λ l. AreSameParts {T = Unit {0}} l (after ∷ rest)) (sym c.in-Some.ensures.cases.0)
           (after, rest, refl, same, same-refl rest);
       calls = subst
-          (λ (l : List (PartView (Unit {0}))). CallsFirst c.args.call c.call_here-answer.result (held_by l) (held_by (after ∷ rest)))
+          (λ (l : List (PartView (Unit {0}))). CallsFirst c.args.call c.call_here-answer.result (held_by l)
+          (held_by (after ∷ rest)))
           (sym c.in-Some.ensures.cases.0) (
             held_in after,
             held_by rest,
@@ -52,24 +58,28 @@ returns-in_default-answer t c =
             inr (search rules, called, refl),
           );
       none = all-from-ahead HasNoCell after rest c.args.with_cells c.if-with_cells-eq0.false
-          (all-from-behind HasNoCell c.in-Some.first.now rest c.args.parts.now c.args.with_cells c.in-Some.ensures.cases.0
+          (all-from-behind HasNoCell c.in-Some.first.now rest c.args.parts.now c.args.with_cells
+          c.in-Some.ensures.cases.0
           c.if-with_cells-eq0.false c.requires.none);
     }
 
 pub returns-in-NoToken-clause-none : goal.returns-in-NoToken-clause-none
 returns-in-NoToken-clause-none t c =
-    all-from-ahead HasNoCell c.stop_giving.new.self c.call_first.new.parts c.args.with_cells c.if-with_cells-eq0.false c.call_first.ensures.none
+    all-from-ahead HasNoCell c.stop_giving.new.self c.call_first.new.parts c.args.with_cells c.if-with_cells-eq0.false
+    c.call_first.ensures.none
 
 pub returns-then-with_cells-eq0-clause-calls : goal.returns-then-with_cells-eq0-clause-calls
 returns-then-with_cells-eq0-clause-calls t c =
-    finds-none c.args.call c.args.parts.now (subst (λ n. All HasNoCell (drop n c.args.parts.now)) c.if-with_cells-eq0.true c.requires.none)
+    finds-none c.args.call c.args.parts.now (subst (λ n. All HasNoCell (drop n c.args.parts.now))
+    c.if-with_cells-eq0.true c.requires.none)
 
 pub returns-then-with_cells-eq0-clause-same : goal.returns-then-with_cells-eq0-clause-same
 returns-then-with_cells-eq0-clause-same t c = same-refl c.args.parts.now
 
 pub call_first-requires : goal.call_first-requires
 call_first-requires t c =
-    let bare = bare_rest true c.args.parts.now c.in-Some.rest.now c.in-Some.first.now c.in-Some.ensures.cases.0 c.requires.bare in
+    let bare = bare_rest true c.args.parts.now c.in-Some.rest.now c.in-Some.first.now c.in-Some.ensures.cases.0
+    c.requires.bare in
     let none = all-from-behind HasNoCell c.in-Some.first.now c.in-Some.rest.now c.args.parts.now c.args.with_cells
     c.in-Some.ensures.cases.0 c.if-with_cells-eq0.false c.requires.none in
     search (rules, bare, none)

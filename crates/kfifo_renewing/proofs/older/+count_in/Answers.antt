@@ -15,7 +15,10 @@ returns g t c = λ o all.
     c.args.parts.now c.in-Some.ensures.cases.0 all in
     let opened : c.queue.result.now.opened ≡ o =
     ap (λ (q : OpenQueue). q.opened) c.queue.ensures ∙ sym c.generation.ensures.1 ∙ first in
-    let count : length c.in-Some.rest.now + 1 ≡ length c.args.parts.now = omega (arith, ap length c.in-Some.ensures.cases.0) in
+    let count : length c.in-Some.rest.now + 1 ≡ length c.args.parts.now =
+    omega (arith, ap length c.in-Some.ensures.cases.0) in
     subst (λ n. c.saturating_add.result ≤ n * slots_of o) count
-    (counts-more c.saturating_add.result c.count_in.result c.len.result 18446744073709551615 (length c.in-Some.rest.now) (slots_of o)
-    c.saturating_add.ensures (c.count_in.ensures o rest) (subst (λ (q : Opening). c.len.result ≤ slots_of q) opened c.len.ensures))
+    (counts-more c.saturating_add.result c.count_in.result c.len.result 18446744073709551615 (length c.in-Some.rest.now)
+    (slots_of o)
+    c.saturating_add.ensures (c.count_in.ensures o rest) (subst (λ (q : Opening). c.len.result ≤ slots_of q) opened
+    c.len.ensures))

@@ -19,8 +19,10 @@ loop-thread-preserved g c =
     let at : handle.thread ≡ 0 + n = omega (arith, c.in_ok-handle.ensures.thread) in
     record {
       each = subst (All P) (sym items) (All-push P before handle i.each
-          (subst (λ (v : Numbered). HasOne v.queue v.book handle) c.in_ok-generation.ensures.ok c.in_ok-handle.ensures.one));
-      threads = ap (map (λ (h : Generations T). h.thread)) items ∙ map-append (λ (h : Generations T). h.thread) before (handle ∷ [])
+          (subst (λ (v : Numbered). HasOne v.queue v.book handle) c.in_ok-generation.ensures.ok
+          c.in_ok-handle.ensures.one));
+      threads = ap (map (λ (h : Generations T). h.thread)) items ∙ map-append (λ (h : Generations T). h.thread) before
+          (handle ∷ [])
           ∙ ap (λ l. l ++ handle.thread ∷ []) i.threads ∙ ap (λ t. count_up 0 n ++ t ∷ []) at ∙ sym (count-more 0 n);
       count = ap length items ∙ length-append before (handle ∷ []) ∙ ap (λ k. k + 1) i.count;
     }

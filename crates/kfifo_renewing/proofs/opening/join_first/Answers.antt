@@ -15,9 +15,11 @@ new-requires-clause-part g c =
     let number : joined.number ≡ 0 = search rules in
     let place : joined.place ≡ c.args.place = search rules in
     let table : generation.queue.table ≡ joined.handle.held.pass.pass.table = search rules in
-    let made = subst (λ (v : Numbered). IsMade c.history.result.now.log v.number v.queue.table) c.deref.ensures c.history.ensures.made in
+    let made = subst (λ (v : Numbered). IsMade c.history.result.now.log v.number v.queue.table) c.deref.ensures
+    c.history.ensures.made in
     record {
-      made = subst (λ n. IsMade log n joined.handle.held.pass.pass.table) (first ∙ sym number) (subst (IsMade log generation.number) table
+      made = subst (λ n. IsMade log n joined.handle.held.pass.pass.table) (first ∙ sym number)
+          (subst (IsMade log generation.number) table
           (made-later c.history.result.now.log log generation.number generation.queue.table c.learn.ensures.3 made));
       inside = subst (λ k. k < place_count) (sym place) c.requires.there.1;
       placed = subst (λ n. IsPlaced log n joined.place) (sym number) (subst (IsPlaced log 0) (sym place)

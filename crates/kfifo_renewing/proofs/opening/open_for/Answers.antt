@@ -8,7 +8,8 @@ pub returns-in-Ok-open_first : goal.returns-in-Ok-open_first
 returns-in-Ok-open_first g c =
     let handles = c.in-Ok-open_first.handles.items in
     let sizes = c.in-Ok.ensures.sizes in
-    let opened = subst (λ (s : Sizes). HaveOne (opening_with g.K.Kind.bare s) handles × (length handles ≡ s.threads)) c.hold_again.ensures
+    let opened = subst (λ (s : Sizes). HaveOne (opening_with g.K.Kind.bare s) handles × (length handles ≡ s.threads))
+    c.hold_again.ensures
     c.in-Ok-open_first.ensures in (
       sizes.0,
       record {

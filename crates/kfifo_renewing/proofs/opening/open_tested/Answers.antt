@@ -17,4 +17,5 @@ returns-in-Err-clause-generations g c most =
 pub returns-in-Ok-clause-ok : goal.returns-in-Ok-clause-ok
 returns-in-Ok-clause-ok g c =
     let handles = c.in-Ok.handles.items in
-    subst (λ (s : Sizes). HaveOne (opening_with g.K.Kind.bare s) handles × (length handles ≡ s.threads)) c.hold_again.ensures c.in-Ok.ensures
+    subst (λ (s : Sizes). HaveOne (opening_with g.K.Kind.bare s) handles × (length handles ≡ s.threads))
+    c.hold_again.ensures c.in-Ok.ensures

@@ -7,5 +7,6 @@ pub returns : goal.returns
 returns g c found n is above below =
     let same : c.in-Some.other ≡ n = cc (c.in-Some.is, is) in
     subst (HasNumber c.args.joined.now) same
-    (subst (λ b. MatchBool b (HasNumber c.args.joined.now c.in-Some.other) (HasNumber c.args.joined.now c.in-Some.other → ⊥)) found
+    (subst (λ b. MatchBool b (HasNumber c.args.joined.now c.in-Some.other) (HasNumber c.args.joined.now c.in-Some.other
+    → ⊥)) found
     c.has_number.ensures)

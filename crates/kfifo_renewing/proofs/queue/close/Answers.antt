@@ -14,6 +14,7 @@ returns g c =
         gathers.1,
         gathers.2,
         gathers.3,
-        subst (λ (hs : List (HeldIn g.row.T.Denot)). ClosesEach hs c.in_ok-left.left.items) gathers.4 c.in_ok-left.ensures,
+        subst (λ (hs : List (HeldIn g.row.T.Denot)). ClosesEach hs c.in_ok-left.left.items) gathers.4
+            c.in_ok-left.ensures,
       ),
     )

@@ -17,15 +17,16 @@ loop-joined-preserved g c =
     let next = c.in-Some.ensures.steps.0 in
     record {
       same = refl;
-      rest = (all-next (λ (p : PartView T). IsOpenedAs (opening_with false c.args.sizes.now) p.handle) here c.next.new.self.rest.items
-          c.loop-joined.joined-iterator.rest.items next i.rest).1;
+      rest = (all-next (λ (p : PartView T). IsOpenedAs (opening_with false c.args.sizes.now) p.handle) here
+          c.next.new.self.rest.items c.loop-joined.joined-iterator.rest.items next i.rest).1;
       left = (
         done ++ here ∷ [],
         i.left.1 ∙ ap (λ l. done ++ l) next ∙ sym (append_assoc done (here ∷ []) c.next.new.self.rest.items),
         subst (λ (hs : List (HeldIn T)). ClosesEach hs c.append.new.self.items)
             (sym (map-append (λ (p : PartView T). held_in p) done (here ∷ [])))
             (subst (ClosesEach (held_by done ++ held_in here ∷ [])) (sym c.in_ok-append.ensures.items)
-            (closes-more (held_by done) c.loop-joined.left.items (held_in here) c.in_ok-values.values.items i.left.2 c.in_ok-values.ensures)),
+            (closes-more (held_by done) c.loop-joined.left.items (held_in here) c.in_ok-values.values.items i.left.2
+            c.in_ok-values.ensures)),
       );
     }
 

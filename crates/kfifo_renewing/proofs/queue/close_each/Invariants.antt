@@ -7,7 +7,8 @@ use Rattle.kfifo_renewing.proofs.queue.close_each.Given as goal
 abbrev pub invariant-loop-joined : goal.invariant-loop-joined
 invariant-loop-joined g l = record {
   same : l.sizes ≡ l.fn.sizes;
-  rest : All (λ (p : PartView g.row.T.Denot). IsOpenedAs (opening_with false l.fn.sizes) p.handle) l.joined-iterator.rest.items;
+  rest : All (λ (p : PartView g.row.T.Denot). IsOpenedAs (opening_with false l.fn.sizes) p.handle)
+      l.joined-iterator.rest.items;
   left : (done : List (PartView g.row.T.Denot)) × (l.fn.all.items ≡ done ++ l.joined-iterator.rest.items)
       × ClosesEach (held_by done) l.left.items;
 }

@@ -10,7 +10,8 @@ use Rattle.kfifo_renewing.proofs.queue.close_one.Goals as goal
 
 pub close_with-requires-clause-others : goal.close_with-requires-clause-others
 close_with-requires-clause-others g c =
-    subst (λ (q : OpenQueue). All (λ (p : Pooled g.row.T.Denot). IsPassOf q p.held.pass.pass) c.in_ok-queue.others.items)
+    subst (λ (q : OpenQueue). All (λ (p : Pooled g.row.T.Denot). IsPassOf q p.held.pass.pass)
+    c.in_ok-queue.others.items)
     (sym c.in_ok-queue.ensures.queue) c.in_ok-queue.ensures.of
 
 pub returns : goal.returns
@@ -22,7 +23,8 @@ returns g c =
     c.into_parts-generation.ensures.handle ∙ ap (λ (p : PartView g.row.T.Denot). p.handle) c.into_part.ensures in
     let of : IsPassOf q h.held.pass.pass = subst (λ (p : Pooled g.row.T.Denot). IsPassOf q p.held.pass.pass) handle_is
     (subst (λ (o : OpenQueue). IsPassOf o c.into_parts-generation.result.1.held.pass.pass)
-    (sym (c.in_ok-queue.ensures.queue ∙ ap (λ (v : Numbered). v.queue) c.in-Some.ensures)) c.into_parts-generation.ensures.of) in
+    (sym (c.in_ok-queue.ensures.queue ∙ ap (λ (v : Numbered). v.queue) c.in-Some.ensures))
+    c.into_parts-generation.ensures.of) in
     record {
       queue = q;
       of = of;
@@ -32,6 +34,7 @@ returns g c =
           (c.thread-thread.ensures ∙ ap (λ (p : PayPassView g.row.T.Denot). p.pass.thread) c.pass.ensures
           ∙ ap (λ (p : Pooled g.row.T.Denot). p.held.pass.pass.thread) handle_is)
           ∙ ap (other_threads h.held.pass.pass.thread) (ap (λ (o : Opening). o.threads) (sym c.requires ∙ of.1));
-      closes = subst (λ (p : Pooled g.row.T.Denot). PayCloses q p.held.pass (map (λ (o : Pooled g.row.T.Denot). o.held.pass) others)
+      closes = subst (λ (p : Pooled g.row.T.Denot). PayCloses q p.held.pass
+          (map (λ (o : Pooled g.row.T.Denot). o.held.pass) others)
           c.in_ok-left.left.items) handle_is c.in_ok-left.ensures.ok;
     }

@@ -24,7 +24,9 @@ pub returns-clause-of : goal.returns-clause-of
 returns-clause-of g c =
     let all = c.in_ok-shared.all.items in
     let plain = subst
-    (λ (bare : Bool). All (λ (p : PartView g.row.T.Denot). IsOpenedAs (opening_with bare c.in_ok-shared.shared.value.sizes) p.handle) all)
+    (λ (bare : Bool). All
+    (λ (p : PartView g.row.T.Denot). IsOpenedAs (opening_with bare c.in_ok-shared.shared.value.sizes) p.handle) all)
     c.in_ok-shared.ensures.shared.1 c.in_ok-shared.ensures.of in
-    subst (λ (sizes : Sizes). All (λ (p : PartView g.row.T.Denot). IsOpenedAs (opening_with g.K.Kind.bare sizes) p.handle) all)
+    subst (λ (sizes : Sizes). All (λ (p : PartView g.row.T.Denot). IsOpenedAs (opening_with g.K.Kind.bare sizes)
+    p.handle) all)
     (sym (c.sizes-sizes.ensures ∙ ap (λ (l : Lineage). l.sizes) c.in-Some-into_inner.ensures)) plain

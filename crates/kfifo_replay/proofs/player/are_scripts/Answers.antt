@@ -42,7 +42,8 @@ returns-then-scripts c =
     elim c.if-not-is_empty.branch [
       | then-not-is_empty w ↦
           let some : 0 < length c.args.scripts.now = some_if (length c.args.scripts.now) w.if-not-is_empty.ensures in
-          let few : length c.args.scripts.now ≤ 64 = leb-true (length c.args.scripts.now) 64 (sym w.value-is ∙ c.if-scripts.true) in
+          let few : length c.args.scripts.now ≤ 64 =
+          leb-true (length c.args.scripts.now) 64 (sym w.value-is ∙ c.if-scripts.true) in
           are_if c.args.shape.now c.args.scripts.now c.is_each_script.result some few c.is_each_script.ensures
       | else-not-is_empty w ↦ absurd (cc)
     ]

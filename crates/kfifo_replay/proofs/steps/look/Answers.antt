@@ -15,7 +15,8 @@ pub returns : goal.returns
 returns c =
     let does : c.access-access.result ≡ access c.args.linearizer.now.shape c.in-Some.place =
     c.access-access.ensures ∙ ap (λ s. access s c.in-Some.place) c.requires.shape in
-    let index : accessed c.access-access.result ≡ accessed (access c.args.linearizer.now.shape c.in-Some.place) = ap accessed does in
+    let index : accessed c.access-access.result ≡ accessed (access c.args.linearizer.now.shape c.in-Some.place) =
+    ap accessed does in
     record {
       place = sym c.place_before.ensures.place ∙ c.in-Some.is;
       does = does;

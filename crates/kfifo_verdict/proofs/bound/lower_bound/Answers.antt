@@ -11,7 +11,8 @@ returns c =
     let most = c.most_at_once.result in
     let P : List Presence → Type 0 = λ w. IsMostAtOnce soonest w most in
     let S : List ℕ → Type 0 = λ w. IsMostAtOnce w c.deref-3.result.now most in
-    lower_bound_found c.args.calls.now ps soonest most c.requires c.in_ok-items.ensures.presences c.in_ok-soonest.ensures
+    lower_bound_found c.args.calls.now ps soonest most c.requires c.in_ok-items.ensures.presences
+    c.in_ok-soonest.ensures
     (subst P c.deref-3.ensures.value (subst S c.deref-4.ensures.value c.most_at_once.ensures))
 
 pub overflow_add-result : goal.overflow_add-result

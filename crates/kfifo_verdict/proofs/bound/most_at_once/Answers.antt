@@ -15,7 +15,8 @@ overflow_add-count c =
     let s = c.args.soonest.now in
     let ps = c.args.presences.now in
     let m = c.loop-moment.moment in
-    let whole = begun_at s ps c.args.changes.now m c.loop-moment.count c.index.result.now c.requires c.loop-moment-test.true
+    let whole = begun_at s ps c.args.changes.now m c.loop-moment.count c.index.result.now c.requires
+    c.loop-moment-test.true
     c.loop-moment.invariant.count c.index.ensures in
     let few = count_few (counts_at s ps m) (length ps) in
     omega (arith, whole, few)
@@ -25,7 +26,8 @@ overflow_sub-count c =
     let s = c.args.soonest.now in
     let ps = c.args.presences.now in
     let m = c.loop-moment.moment in
-    let whole = begun_at s ps c.args.changes.now m c.loop-moment.count c.index.result.now c.requires c.loop-moment-test.true
+    let whole = begun_at s ps c.args.changes.now m c.loop-moment.count c.index.result.now c.requires
+    c.loop-moment-test.true
     c.loop-moment.invariant.count c.index.ensures in
     let rest = ended_at s ps c.args.changes.now m c.index-in-loop-moment.result.now c.requires c.loop-moment-test.true
     c.index-in-loop-moment.ensures in
@@ -36,12 +38,13 @@ loop-moment-preserved c =
     let s = c.args.soonest.now in
     let ps = c.args.presences.now in
     let m = c.loop-moment.moment in
-    let whole = begun_at s ps c.args.changes.now m c.loop-moment.count c.index.result.now c.requires c.loop-moment-test.true
+    let whole = begun_at s ps c.args.changes.now m c.loop-moment.count c.index.result.now c.requires
+    c.loop-moment-test.true
     c.loop-moment.invariant.count c.index.ensures in
     let rest = ended_at s ps c.args.changes.now m c.index-in-loop-moment.result.now c.requires c.loop-moment-test.true
     c.index-in-loop-moment.ensures in
     record {
       count = omega (arith, whole, rest);
-      most = most_more s ps m c.loop-moment.most (c.loop-moment.count + c.index.result.now) c.max-most.result c.loop-moment.invariant.most whole
-          c.max-most.ensures;
+      most = most_more s ps m c.loop-moment.most (c.loop-moment.count + c.index.result.now) c.max-most.result
+          c.loop-moment.invariant.most whole c.max-most.ensures;
     }

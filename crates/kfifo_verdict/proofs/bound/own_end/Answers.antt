@@ -7,7 +7,8 @@ use Rattle.kfifo_verdict.specs.Finding.{IsStart, no_presence}
 use Rattle.kfifo_verdict.proofs.Bounding.{own_found, own_none, own_other}
 use Rattle.kfifo_verdict.proofs.Telling.{got_inside}
 use Rattle.kfifo_verdict.proofs.bound.own_end.Goals as goal
-use Rattle.kfifo_verdict.proofs.bound.own_end.Goals.{then-get-calls+in-Some+else-put-q, then-get-calls+in_default, else-get-calls}
+use Rattle.kfifo_verdict.proofs.bound.own_end.Goals.{then-get-calls+in-Some+else-put-q, then-get-calls+in_default}
+use Rattle.kfifo_verdict.proofs.bound.own_end.Goals.{else-get-calls}
 
 pub returns-then-put-q : goal.returns-then-put-q
 returns-then-put-q c =
@@ -32,7 +33,10 @@ returns c =
     let G : ℕ → Type 0 = λ w. Gets h x w in
     let got = subst G (sym at) there in
     elim c.if-get-calls.branch [
-      | then-get-calls+in-Some+else-put-q w ↦ own_other h q w.in-Some.put c.index.result.now.gone w.in-Some.ensures w.if-put-q.false x single got
+      | then-get-calls+in-Some+else-put-q w ↦ own_other h q w.in-Some.put c.index.result.now.gone w.in-Some.ensures
+          w.if-put-q.false x single got
       | then-get-calls+in_default w ↦ (rw w.in_default.is at w.single_put.ensures) x q single got
-      | else-get-calls w ↦ (let lt = got_inside h x c.index.result.now.gone got in let le = w.if-get-calls.false in absurd (omega (arith, lt, le)))
+      | else-get-calls w
+          ↦ (let lt = got_inside h x c.index.result.now.gone got in let le =
+          w.if-get-calls.false in absurd (omega (arith, lt, le)))
     ])

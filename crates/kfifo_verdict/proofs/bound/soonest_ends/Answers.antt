@@ -1,4 +1,5 @@
-use Rattle.std.proofs.Common.{ℕ, ◌≡◌, ◌+◌, ◌-◌, get_or, set, sym, ◌∙◌, ap, subst, inl, inr, arith, get_or-set_other, get_or-set_same}
+use Rattle.std.proofs.Common.{ℕ, ◌≡◌, ◌+◌, ◌-◌, get_or, set, sym, ◌∙◌, ap, subst, inl, inr, arith, get_or-set_other}
+use Rattle.std.proofs.Common.{get_or-set_same}
 use Rattle.std.proofs.lemmas.Bool.{cases_eq}
 use Rattle.std.proofs.Math.ListN.{length-set}
 use Rattle.kfifo_verdict.specs.Bound.{IsSoonest}
@@ -16,7 +17,8 @@ loop-q-preserved c =
     let sized = c.loop-q.invariant.sized in
     let last : q + 1 ≡ c.loop-q.q = omega (arith, test) in
     let S : ℕ → Type 0 = λ w. IsSoonest h w c.loop-q.least in
-    let here = soonest_more h q c.own_end.result c.loop-q.least least c.own_end.ensures (subst S (sym last) c.loop-q.invariant.least) c.min-least.ensures in
+    let here = soonest_more h q c.own_end.result c.loop-q.least least c.own_end.ensures
+    (subst S (sym last) c.loop-q.invariant.least) c.min-least.ensures in
     record {
       within = omega (arith, within);
       sized = omega (arith, sized, length-set l q least);
@@ -24,7 +26,8 @@ loop-q-preserved c =
       filled = λ i from to. elim (cases_eq i q) [
         | inl same ↦ (
             let at : get_or (set l q least) i 0 ≡ least =
-            ap (λ w. get_or (set l q least) w 0) same ∙ get_or-set_same l q least 0 (omega (arith, sized, last, within)) in
+            ap (λ w. get_or (set l q least) w 0) same
+            ∙ get_or-set_same l q least 0 (omega (arith, sized, last, within)) in
             let P : ℕ → Type 0 = λ w. IsSoonest h i w in
             let Q : ℕ → Type 0 = λ w. IsSoonest h w least in
             subst P (sym at) (subst Q (sym same) here)

@@ -18,7 +18,8 @@ returns-then-next-put-clause-counted c =
     let size = c.loop-p.invariant.skips.sized in
     let at = c.index-next.ensures ∙ get_or_default skips p _ 0 (omega (arith, here, size)) in
     let past = c.if-next-put.true in
-    inl (c.loop-p.invariant.counted ∙ sym (count_skip_to ps c.args.n c.args.put c.args.after p c.args.put skips c.loop-p.invariant.skips
+    inl (c.loop-p.invariant.counted ∙ sym (count_skip_to ps c.args.n c.args.put c.args.after p c.args.put skips
+    c.loop-p.invariant.skips
     c.requires.later here c.loop-p.invariant.within (omega (arith, at, past))))
 
 pub loop-p-preserved : goal.loop-p-preserved
@@ -37,7 +38,8 @@ loop-p-preserved c =
     let below = c.if-next-put.false in
     let few = c.loop-p.invariant.few in
     let same : c.loop-p.count ≡ count_below t next =
-    c.loop-p.invariant.counted ∙ sym (count_skip_to ps c.args.n c.args.put c.args.after p next skips c.loop-p.invariant.skips
+    c.loop-p.invariant.counted
+    ∙ sym (count_skip_to ps c.args.n c.args.put c.args.after p next skips c.loop-p.invariant.skips
     c.requires.later here (omega (arith, at, ahead)) (omega (arith, at))) in
     elim c.if-outlasts.branch [
       | then-outlasts w ↦ (

@@ -15,9 +15,11 @@ loop-n-preserved c =
     let end = c.len-n-end.ensures in
     let here : n < length stays = omega (arith, test, end) in
     let inside : n < length h = omega (arith, here, size) in
-    longest_more h c.args.presences.now stays c.loop-n.longest.items c.push.new.self.items c.loop-n.best c.index.result.now
+    longest_more h c.args.presences.now stays c.loop-n.longest.items c.push.new.self.items c.loop-n.best
+    c.index.result.now
     c.longer-best.result n c.requires.history b inside
-    (c.index.ensures ∙ get_or_default stays n _ no_stay here) c.longer-best.ensures c.in_ok-push.ensures.items c.loop-n.invariant
+    (c.index.ensures ∙ get_or_default stays n _ no_stay here) c.longer-best.ensures c.in_ok-push.ensures.items
+    c.loop-n.invariant
 
 pub returns-clause-stays : goal.returns-clause-stays
 returns-clause-stays c =
@@ -26,7 +28,8 @@ returns-clause-stays c =
     let test = c.loop-n-test.false in
     let most = c.loop-n.auto.n-end in
     let all : c.loop-n.n ≡ length c.args.calls.now = omega (arith, size, end, test, most) in
-    longest_all c.args.calls.now c.args.presences.now c.loop-n.longest.items c.loop-n.best c.loop-n.n c.requires.presences
+    longest_all c.args.calls.now c.args.presences.now c.loop-n.longest.items c.loop-n.best c.loop-n.n
+    c.requires.presences
     c.loop-n.invariant all
 
 pub returns-clause-longest : goal.returns-clause-longest
@@ -36,5 +39,6 @@ returns-clause-longest c =
     let test = c.loop-n-test.false in
     let most = c.loop-n.auto.n-end in
     let all : c.loop-n.n ≡ length c.args.calls.now = omega (arith, size, end, test, most) in
-    longest_held c.args.calls.now c.args.presences.now c.loop-n.longest.items c.loop-n.best c.loop-n.n c.requires.presences
+    longest_held c.args.calls.now c.args.presences.now c.loop-n.longest.items c.loop-n.best c.loop-n.n
+    c.requires.presences
     c.loop-n.invariant all

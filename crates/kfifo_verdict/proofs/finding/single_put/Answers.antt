@@ -8,7 +8,8 @@ use Rattle.kfifo_verdict.specs.Finding.{IsTally, has_item, first_of}
 use Rattle.kfifo_verdict.proofs.Refuting.{put_inside}
 use Rattle.kfifo_verdict.proofs.Telling.{single_from, single_put_once, single_got_once, got_once, put_last, same_item}
 use Rattle.kfifo_verdict.proofs.finding.single_put.Goals as goal
-use Rattle.kfifo_verdict.proofs.finding.single_put.Goals.{else-put-eq1-via-then-put-eq1+else-tally_of-eq1, else-put-eq1-via-else-put-eq1}
+use Rattle.kfifo_verdict.proofs.finding.single_put.Goals.{else-put-eq1-via-then-put-eq1+else-tally_of-eq1}
+use Rattle.kfifo_verdict.proofs.finding.single_put.Goals.{else-put-eq1-via-else-put-eq1}
 
 pub returns-then-tally_of-eq1 : goal.returns-then-tally_of-eq1
 returns-then-tally_of-eq1 c =
@@ -23,8 +24,8 @@ returns-then-tally_of-eq1 c =
     let puts = put_last h item c.tally_of-put.result put c.if-put-eq1.true in
     let once = c.if-tally_of-eq1.true in (
       item,
-      single_from h item c.tally_of-put.result.last c.tally_of-put.result c.tally_of.result put got puts c.if-put-eq1.true
-          (omega (arith, once)),
+      single_from h item c.tally_of-put.result.last c.tally_of-put.result c.tally_of.result put got puts
+          c.if-put-eq1.true (omega (arith, once)),
       is,
       put_inside h item c.tally_of-put.result.last puts,
     )
@@ -43,7 +44,8 @@ returns-else-put-eq1 c = λ x p s gets.
     elim c.else-put-eq1.branch [
       | else-put-eq1-via-then-put-eq1+else-tally_of-eq1 w ↦ (
           let got = subst G (sym w.tally_of.ensures) (c.requires.items.gets item) in
-          w.if-tally_of-eq1.false (got_once h item n w.tally_of.result got is (single_got_once h item p w.tally_of.result got single))
+          w.if-tally_of-eq1.false
+          (got_once h item n w.tally_of.result got is (single_got_once h item p w.tally_of.result got single))
           )
       | else-put-eq1-via-else-put-eq1 w ↦ w.if-put-eq1.false (single_put_once h item p c.tally_of-put.result put single)
     ]

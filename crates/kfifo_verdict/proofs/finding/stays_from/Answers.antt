@@ -20,14 +20,18 @@ loop-p-preserved c =
           let lt = w.if-start-len.true in
           let here : start < length c.loop-p.stays.items = omega (arith, lt, long) in
           let inside : start < length h = omega (arith, lt, long, size) in
-          let p_inside : p < length h = (let test = c.loop-p-test.true in let many = c.requires.presences.0 in omega (arith, test, many)) in
-          bucketed_more h ps p start c.loop-p.stays.items c.if-start-len.stays.items w.index.result.now w.longer.result c.loop-p.invariant
+          let p_inside : p < length h =
+          (let test = c.loop-p-test.true in let many = c.requires.presences.0 in omega (arith, test, many)) in
+          bucketed_more h ps p start c.loop-p.stays.items c.if-start-len.stays.items w.index.result.now w.longer.result
+          c.loop-p.invariant
           (c.requires.presences.1 p p_inside) refl inside p_inside
-          (w.index.ensures ∙ get_or_default c.loop-p.stays.items start _ no_stay here) w.longer.ensures (ap (λ v. v.items) w.stays-is)
+          (w.index.ensures ∙ get_or_default c.loop-p.stays.items start _ no_stay here) w.longer.ensures
+          (ap (λ v. v.items) w.stays-is)
           )
       | else-start-len w ↦ (
           let le = w.if-start-len.false in
           let past : length h ≤ start = omega (arith, le, long, size) in
-          subst P (ap (λ v. v.items) (sym w.stays-is)) (bucketed_skip h ps p c.loop-p.stays.items c.loop-p.invariant past)
+          subst P (ap (λ v. v.items) (sym w.stays-is)) (bucketed_skip h ps p c.loop-p.stays.items c.loop-p.invariant
+          past)
           )
     ]

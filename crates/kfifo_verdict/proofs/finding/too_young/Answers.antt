@@ -9,7 +9,8 @@ pub loop-n-preserved : goal.loop-n-preserved
 loop-n-preserved c = record {
   none = no_more (GotTooYoung c.args.k c.args.calls.now) c.loop-n.n c.loop-n.invariant.none
       (rw c.in_default.is at c.in_ok-puts.ensures.young);
-  skips = skips_later c.args.items.now.presences.items c.loop-n.n c.too_young_at.new.skips.items c.in_ok-puts.ensures.skips;
+  skips = skips_later c.args.items.now.presences.items c.loop-n.n c.too_young_at.new.skips.items
+      c.in_ok-puts.ensures.skips;
 }
 
 pub returns : goal.returns

@@ -27,9 +27,12 @@ returns-clause-young c =
     let put = c.in-Some.put in
     let after = c.first_after-after.result in
     let B : Call → Type 0 = λ w. IsStart h w.end after in
-    let C : List Presence → Type 0 = λ w. IsCountedTo c.args.k (count_below (lasts_at w put after) put) c.count_older.result in
-    let F : List Presence → Type 0 = λ w. AreFirst (lasts_at w put after) c.args.k put c.in_ok-first_older.field-0.items in
-    young_found h ps n put after c.args.k c.count_older.result c.in_ok-first_older.field-0.items c.requires.items.presences
+    let C : List Presence
+    → Type 0 = λ w. IsCountedTo c.args.k (count_below (lasts_at w put after) put) c.count_older.result in
+    let F : List Presence
+    → Type 0 = λ w. AreFirst (lasts_at w put after) c.args.k put c.in_ok-first_older.field-0.items in
+    young_found h ps n put after c.args.k c.count_older.result c.in_ok-first_older.field-0.items
+    c.requires.items.presences
     (subst B (read h n _ c.requires.inside) c.first_after-after.ensures) c.in-Some.ensures
     (subst C c.deref.ensures.value c.count_older.ensures.counted) c.if-count_older-k.false
     (subst F c.deref-2.ensures.value c.in_ok-first_older.ensures)

@@ -12,7 +12,8 @@ returns-in-Some c =
     let small : c.loop-k.k ≤ 64 = omega (arith, test) in
     record {
       lower = lower;
-      refuted = λ k positive lt. bound_refutes c.args.history.now c.in_ok-at_least.at_least k c.calls.ensures.valid lower positive lt;
+      refuted = λ k positive lt. bound_refutes c.args.history.now c.in_ok-at_least.at_least k c.calls.ensures.valid
+          lower positive lt;
       upper = (c.if-at_least-k.true, small, (c.in-Some.field-0.items, rw c.in-Some.is at c.in_ok-witness.ensures));
     }
 
@@ -22,6 +23,7 @@ returns c =
     let lower = subst P c.calls.ensures.calls c.in_ok-at_least.ensures in
     record {
       lower = lower;
-      refuted = λ k positive lt. bound_refutes c.args.history.now c.in_ok-at_least.at_least k c.calls.ensures.valid lower positive lt;
+      refuted = λ k positive lt. bound_refutes c.args.history.now c.in_ok-at_least.at_least k c.calls.ensures.valid
+          lower positive lt;
       upper = tt;
     }

@@ -1,7 +1,7 @@
 use Rattle.std.proofs.Common.{ltb, rules}
 use Rattle.std.proofs.lemmas.List.Sorted.{IsPartitionPoint-from_clause, IsPartitionedBy-ltb}
 use Rattle.kfifo_verdict.proofs.Moments.{by_first}
-use Rattle.kfifo_verdict.proofs.Leaving.{begun_below}
+use Rattle.kfifo_verdict.proofs.EmptyWhileLeft.{begun_below}
 use Rattle.kfifo_verdict.proofs.left.begun_before.Goals as goal
 
 pub returns : goal.returns

@@ -1,7 +1,7 @@
 use Rattle.std.proofs.Common.{leb, rules}
 use Rattle.std.proofs.lemmas.List.Sorted.{IsPartitionPoint-from_clause, IsPartitionedBy-leb}
 use Rattle.kfifo_verdict.proofs.Moments.{by_first}
-use Rattle.kfifo_verdict.proofs.Leaving.{begun_until}
+use Rattle.kfifo_verdict.proofs.EmptyWhileLeft.{begun_until}
 use Rattle.kfifo_verdict.proofs.left.begun_by.Goals as goal
 
 pub returns : goal.returns

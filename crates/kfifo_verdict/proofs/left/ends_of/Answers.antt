@@ -1,7 +1,7 @@
 use Rattle.std.proofs.Common.{ℕ, List, ◌≡◌, ◌+◌, ◌<◌, ◌≤◌, max, length, sym, ◌∙◌, ap, subst, arith}
 use Rattle.std.proofs.lemmas.List.{get_or_default}
 use Rattle.kfifo_verdict.specs.Left.{AreEnds}
-use Rattle.kfifo_verdict.proofs.Leaving.{ends_skip, ends_more}
+use Rattle.kfifo_verdict.proofs.EmptyWhileLeft.{ends_skip, ends_more}
 use Rattle.kfifo_verdict.proofs.left.ends_of.Goals as goal
 use Rattle.kfifo_verdict.proofs.left.ends_of.Goals.{then-start-len, else-start-len}
 
@@ -19,8 +19,10 @@ loop-i-preserved c =
           let lt = w.if-start-len.true in
           let here : s.start < length c.loop-i.far.items = omega (arith, lt, long) in
           let inside : s.start < length h = omega (arith, here, size) in
-          ends_more h puts i c.loop-i.far.items c.if-start-len.far.items s w.max.result c.loop-i.invariant c.span_of-span.ensures inside
-          (w.max.ensures ∙ ap (λ w. max w s.gone) (w.index.ensures ∙ get_or_default c.loop-i.far.items s.start _ 0 here))
+          ends_more h puts i c.loop-i.far.items c.if-start-len.far.items s w.max.result c.loop-i.invariant
+          c.span_of-span.ensures inside
+          (w.max.ensures ∙ ap (λ w. max w s.gone) (w.index.ensures ∙ get_or_default c.loop-i.far.items s.start _ 0
+          here))
           (ap (λ v. v.items) w.far-is)
           )
       | else-start-len w ↦ (

@@ -1,7 +1,7 @@
 use Rattle.std.proofs.Common.{ℕ, List, ◌≡◌, ◌<◌, max, length, ◌∙◌, ap, subst, arith}
 use Rattle.std.proofs.lemmas.List.{get_or_default}
 use Rattle.kfifo_verdict.specs.Left.{AreEnds}
-use Rattle.kfifo_verdict.proofs.Leaving.{most_more, far_all}
+use Rattle.kfifo_verdict.proofs.EmptyWhileLeft.{most_more, far_all}
 use Rattle.kfifo_verdict.proofs.left.far_from.Goals as goal
 
 pub loop-n-preserved : goal.loop-n-preserved
@@ -14,7 +14,8 @@ loop-n-preserved c =
     let end = c.len-n-end.ensures in
     let here : n < length ends = omega (arith, test, end) in
     let inside : n < length h = omega (arith, here, size) in
-    most_more h _ _ ends c.loop-n.far.items c.push.new.self.items c.loop-n.most c.max-most.result n c.in_ok-ends.ensures inside
+    most_more h _ _ ends c.loop-n.far.items c.push.new.self.items c.loop-n.most c.max-most.result n c.in_ok-ends.ensures
+    inside
     (c.max-most.ensures ∙ ap (λ w. max c.loop-n.most w) (c.index.ensures ∙ get_or_default ends n _ 0 here))
     c.in_ok-push.ensures.items c.loop-n.invariant
 

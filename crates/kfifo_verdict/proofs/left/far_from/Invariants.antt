@@ -1,4 +1,4 @@
-use Rattle.kfifo_verdict.proofs.Leaving.{IsMostBelow}
+use Rattle.kfifo_verdict.proofs.EmptyWhileLeft.{IsMostBelow}
 use Rattle.kfifo_verdict.proofs.left.far_from.Given as goal
 
 abbrev pub invariant-loop-n : goal.invariant-loop-n

@@ -1,5 +1,5 @@
 use Rattle.std.proofs.Common.{◌-◌, length}
-use Rattle.kfifo_verdict.proofs.Leaving.{IsLeftBelow}
+use Rattle.kfifo_verdict.proofs.EmptyWhileLeft.{IsLeftBelow}
 use Rattle.kfifo_verdict.proofs.left.has_items_left.Given as goal
 
 abbrev pub invariant-loop-empty : goal.invariant-loop-empty

@@ -10,5 +10,6 @@ loop-n-preserved c = no_more (HasItemsLeft c.args.calls.now) c.loop-n.n c.loop-n
     (λ is. false≢true (c.if-has_items_left.ensures.1 is))
 
 pub returns : goal.returns
-returns c = λ n is. let h = c.args.calls.now in let lt = ended_inside h n (found_ended h n is.empty) in let end = c.loop-n-test.false in
+returns c = λ n is. let h = c.args.calls.now in let lt = ended_inside h n (found_ended h n is.empty) in
+    let end = c.loop-n-test.false in
     c.loop-n.invariant n (omega (arith, lt, end)) is

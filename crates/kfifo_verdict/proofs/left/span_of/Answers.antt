@@ -1,6 +1,6 @@
 use Rattle.std.proofs.Common.{◌+◌, ◌-◌, arith}
 use Rattle.kfifo_verdict.specs.declared.presences.Presence.{Presence}
-use Rattle.kfifo_verdict.proofs.Leaving.{lower_before, span_is}
+use Rattle.kfifo_verdict.proofs.EmptyWhileLeft.{lower_before, span_is}
 use Rattle.kfifo_verdict.proofs.left.span_of.Goals as goal
 
 pub overflow_sub-rank : goal.overflow_sub-rank
@@ -14,5 +14,7 @@ returns c =
     let below = c.count_below.ensures in
     let gets_below = c.count_below-2.ensures in
     let s : Presence = record { start = c.begun_by.result; gone = c.gone_at.result } in
-    span_is c.args.calls.now c.args.puts.now c.args.gets.now c.args.i (c.count_below-2.result + (c.args.i - c.count_below.result)) s
-    c.requires.inside c.requires.puts c.requires.gets (omega (arith, below, gets_below)) c.begun_by.ensures c.gone_at.ensures
+    span_is c.args.calls.now c.args.puts.now c.args.gets.now c.args.i
+    (c.count_below-2.result + (c.args.i - c.count_below.result)) s
+    c.requires.inside c.requires.puts c.requires.gets (omega (arith, below, gets_below)) c.begun_by.ensures
+    c.gone_at.ensures

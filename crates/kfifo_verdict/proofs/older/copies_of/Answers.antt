@@ -5,7 +5,8 @@ use Rattle.kfifo_verdict.proofs.older.copies_of.Goals as goal
 
 pub loop-p-preserved : goal.loop-p-preserved
 loop-p-preserved c =
-    copies_more c.args.calls.now c.loop-p.p c.loop-p.copies.items c.push.new.self.items c.copy_of.result c.loop-p.invariant
+    copies_more c.args.calls.now c.loop-p.p c.loop-p.copies.items c.push.new.self.items c.copy_of.result
+    c.loop-p.invariant
     c.copy_of.ensures c.in_ok-push.ensures.items
 
 pub returns : goal.returns

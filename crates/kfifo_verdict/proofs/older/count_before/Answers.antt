@@ -1,6 +1,6 @@
 use Rattle.std.proofs.Common.{arith}
 use Rattle.kfifo_model.specs.declared.effects.Side.TheVariants.{In}
-use Rattle.kfifo_verdict.proofs.Leaving.{count_up_to}
+use Rattle.kfifo_verdict.proofs.EmptyWhileLeft.{count_up_to}
 use Rattle.kfifo_verdict.proofs.older.count_before.Goals as goal
 
 pub overflow_sub-result : goal.overflow_sub-result

@@ -13,5 +13,6 @@ returns c =
     let t = c.args.step in
     let at = c.partition_point.result in
     sym (count_at (is_up_to In x t) steps at c.partition_point.ensures.bound
-    (IsPartitionPoint-from_clause (is_up_to In x t) steps at c.partition_point.ensures.partitioned (up_to_parts In x t steps c.requires)
+    (IsPartitionPoint-from_clause (is_up_to In x t) steps at c.partition_point.ensures.partitioned
+    (up_to_parts In x t steps c.requires)
     (λ a r q k. search rules)))

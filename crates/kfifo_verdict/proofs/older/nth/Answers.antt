@@ -9,7 +9,8 @@ pub returns-then-numbers-below : goal.returns-then-numbers-below
 returns-then-numbers-below c =
     let below = c.count_below-below.ensures in
     let test = c.if-count-numbers.true in
-    nth_found c.args.calls.now c.args.side c.args.item c.args.count (c.count_below-below.result + c.args.count) c.args.numbers.now
+    nth_found c.args.calls.now c.args.side c.args.item c.args.count (c.count_below-below.result + c.args.count)
+    c.args.numbers.now
     c.requires (omega (arith, test)) c.if-numbers-below.true (omega (arith, below))
 
 pub returns-else-count-numbers : goal.returns-else-count-numbers
@@ -23,5 +24,6 @@ returns-else-count-numbers c =
           let P : ℕ → Type 0 = λ v. (place numbers (v + c.args.count)).0 ≡ x in
           w.if-numbers-below.false (subst P (sym below) is)
           )
-      | else-count-numbers-via-else-count-numbers w ↦ (let le = w.if-count-numbers.false in absurd (omega (arith, lt, le, below)))
+      | else-count-numbers-via-else-count-numbers w
+          ↦ (let le = w.if-count-numbers.false in absurd (omega (arith, lt, le, below)))
     ])

@@ -16,4 +16,5 @@ returns c =
     let before = before_is h x (call h g).first c.args.listed.now.ended_gets.items c.requires.listed.ended_gets in
     let count = c.count_before-taken.ensures ∙ (ap (λ t. count_by (is_at In x t) c.deref.result.now) first
     ∙ (ap (count_by (is_at In x (call h g).first)) c.deref.ensures.value ∙ before)) in
-    put_tells h x g c.count_before-taken.result c.nth.result (ap effect_of (sym same) ∙ sym c.in-Takes.ensures) count c.nth.ensures
+    put_tells h x g c.count_before-taken.result c.nth.result (ap effect_of (sym same) ∙ sym c.in-Takes.ensures) count
+    c.nth.ensures

@@ -13,5 +13,6 @@ returns-in-None c =
     subst P (sym c.in-Some.is)
     (start_found h end c.partition_point.result c.partition_point.ensures.bound
     (up_to_point h end.last c.partition_point.result
-    (IsPartitionPoint-from_clause (λ y. leb y.first end.last) h c.partition_point.result c.partition_point.ensures.partitioned
+    (IsPartitionPoint-from_clause (λ y. leb y.first end.last) h c.partition_point.result
+    c.partition_point.ensures.partitioned
     (IsPartitionedBy-leb (λ y. y.first) h end.last (by_first h c.requires)) (λ a r q k. search rules))))

@@ -17,5 +17,8 @@ returns-then-step-calls-2 c =
     let h = c.args.calls.now in
     let next = c.loop-next.next in
     let inside : next < length h = omega arith in
-    let P : Call → Type 0 = λ w. c.args.step < w.first in
-    (omega arith, up_to_here h next c.args.step c.requires inside c.loop-next.invariant (subst P (read h next _ inside) c.if-step-calls-2.true))
+    let P : Call → Type 0 = λ w. c.args.step < w.first in (
+      omega arith,
+      up_to_here h next c.args.step c.requires inside c.loop-next.invariant
+          (subst P (read h next _ inside) c.if-step-calls-2.true),
+    )

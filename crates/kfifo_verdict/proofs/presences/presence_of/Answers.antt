@@ -6,7 +6,7 @@ use Rattle.kfifo_model.specs.declared.effects.Side.TheVariants.{In, Out}
 use Rattle.kfifo_verdict.specs.Evidence.{IsSingle}
 use Rattle.kfifo_verdict.specs.Finding.{IsTally, IsStart, has_item, first_of}
 use Rattle.kfifo_verdict.proofs.Telling.{single_from, single_put_once, single_got_once, got_last, got_none}
-use Rattle.kfifo_verdict.proofs.Being.{same_put, known_presence, never_presence}
+use Rattle.kfifo_verdict.proofs.ItemPresence.{same_put, known_presence, never_presence}
 use Rattle.kfifo_verdict.proofs.presences.presence_of.Goals as goal
 use Rattle.kfifo_verdict.proofs.presences.presence_of.Goals.{then-tally_of-ne1-via-then-tally_of-ne1}
 use Rattle.kfifo_verdict.proofs.presences.presence_of.Goals.{then-tally_of-ne1-via-else-tally_of-ne1+then-got-gt1}
@@ -25,7 +25,8 @@ returns-then-tally_of-ne1 c =
     let S : ℕ → Type 0 = λ w. IsSingle h w p in
     let single = subst S (same_put h x item p s.puts is) s in
     elim c.then-tally_of-ne1.branch [
-      | then-tally_of-ne1-via-then-tally_of-ne1 w ↦ w.if-tally_of-ne1.true (single_put_once h item p c.tally_of.result put single)
+      | then-tally_of-ne1-via-then-tally_of-ne1 w
+          ↦ w.if-tally_of-ne1.true (single_put_once h item p c.tally_of.result put single)
       | then-tally_of-ne1-via-else-tally_of-ne1+then-got-gt1 w ↦ (
           let more = w.if-got-gt1.true in
           let le = single_got_once h item p c.tally_of-got.result got single in
@@ -47,7 +48,8 @@ returns-then-got-eq0 c =
     let B : Call → Type 0 = λ w. IsStart h w.end c.first_after.result in
     known_presence h item p _ c.requires.history
     (record {
-      single = single_from h item p c.tally_of.result c.tally_of-got.result put got is c.if-tally_of-ne1.false c.if-got-gt1.false;
+      single = single_from h item p c.tally_of.result c.tally_of-got.result put got is c.if-tally_of-ne1.false
+          c.if-got-gt1.false;
       start = subst B same c.first_after.ensures;
       gone = inl (refl, got_none h item c.tally_of-got.result got c.if-got-eq0.true);
     })
@@ -66,7 +68,8 @@ returns-else-got-eq0 c =
     let B : Call → Type 0 = λ w. IsStart h w.end c.first_after.result in
     known_presence h item p _ c.requires.history
     (record {
-      single = single_from h item p c.tally_of.result c.tally_of-got.result put got is c.if-tally_of-ne1.false c.if-got-gt1.false;
+      single = single_from h item p c.tally_of.result c.tally_of-got.result put got is c.if-tally_of-ne1.false
+          c.if-got-gt1.false;
       start = subst B same c.first_after.ensures;
       gone = inr (got_last h item c.tally_of-got.result got c.if-got-eq0.false);
     })

@@ -11,7 +11,8 @@ use Rattle.kfifo_verdict.specs.Remainder.{AreDonePuts, done_item, done_puts, is_
 use Rattle.kfifo_verdict.proofs.AtEnd.{left_more, left_skip, puts_more, puts_skip}
 use Rattle.kfifo_verdict.proofs.Younger.{count_few}
 use Rattle.kfifo_verdict.proofs.remainder.left_of.Goals as goal
-use Rattle.kfifo_verdict.proofs.remainder.left_of.Goals.{in-Some+in_ok-set_count, then-tally_of-before, else-tally_of-before, in_default}
+use Rattle.kfifo_verdict.proofs.remainder.left_of.Goals.{in-Some+in_ok-set_count, then-tally_of-before}
+use Rattle.kfifo_verdict.proofs.remainder.left_of.Goals.{else-tally_of-before, in_default}
 
 pub overflow_add-left : goal.overflow_add-left
 overflow_add-left c =
@@ -54,8 +55,10 @@ loop-n-preserved c =
           let is = said ∙ w.in-Some.is in
           let counted = w.count_in-before.ensures ∙ c.loop-n.invariant.0 x in
           let puts = puts_more h n x c.loop-n.puts w.set_count.new.puts c.loop-n.invariant.0 is
-          (w.in_ok-set_count.ensures.set ∙ ap (λ b. b + 1) w.count_in-before.ensures) w.in_ok-set_count.ensures.others in
-          let tells = tells_left h n x before c.in_ok-gets.gets w.tally_of.result c.in_ok-gets.ensures w.tally_of.ensures is counted in
+          (w.in_ok-set_count.ensures.set ∙ ap (λ b. b + 1) w.count_in-before.ensures)
+          w.in_ok-set_count.ensures.others in
+          let tells = tells_left h n x before c.in_ok-gets.gets w.tally_of.result c.in_ok-gets.ensures
+          w.tally_of.ensures is counted in
           let left : Q w.if-tally_of-before.left =
           elim w.if-tally_of-before.branch [
             | then-tally_of-before v ↦ subst Q (sym v.left-is)

@@ -35,9 +35,11 @@ loop-n-preserved c =
           let once = w.if-tally_of-ne1.false in
           let one : (tally_in puts x).count ≡ 1 = omega (arith, put, once) in
           let none = w.if-tally_of-eq0.true in
-          let tells = tells_single h puts gets n x w.tally_of-in-Some.result.count c.requires.puts c.requires.gets inside one
+          let tells = tells_single h puts gets n x w.tally_of-in-Some.result.count c.requires.puts c.requires.gets
+          inside one
           (ap (λ (t : Tally). t.count) w.tally_of-in-Some.ensures) (said ∙ w.in-Some.is) in
-          subst Q (sym w.left-is) (left_more h n c.loop-n.left c.loop-n.invariant (tells ∙ le-leb _ _ (omega (arith, none))))
+          subst Q (sym w.left-is)
+          (left_more h n c.loop-n.left c.loop-n.invariant (tells ∙ le-leb _ _ (omega (arith, none))))
           )
       | in-Some+else-tally_of-ne1+else-tally_of-eq0 w ↦ (
           let x = w.in-Some.item in
@@ -45,9 +47,11 @@ loop-n-preserved c =
           let once = w.if-tally_of-ne1.false in
           let one : (tally_in puts x).count ≡ 1 = omega (arith, put, once) in
           let some = w.if-tally_of-eq0.false in
-          let tells = tells_single h puts gets n x w.tally_of-in-Some.result.count c.requires.puts c.requires.gets inside one
+          let tells = tells_single h puts gets n x w.tally_of-in-Some.result.count c.requires.puts c.requires.gets
+          inside one
           (ap (λ (t : Tally). t.count) w.tally_of-in-Some.ensures) (said ∙ w.in-Some.is) in
-          subst Q (sym w.left-is) (left_skip h n c.loop-n.left c.loop-n.invariant (tells ∙ lt-leb _ _ (omega (arith, some))))
+          subst Q (sym w.left-is)
+          (left_skip h n c.loop-n.left c.loop-n.invariant (tells ∙ lt-leb _ _ (omega (arith, some))))
           )
       | in_default w ↦ subst Q (sym w.left-is)
           (left_skip h n c.loop-n.left c.loop-n.invariant (ap (is_left h n) (said ∙ w.in_default.is)))

@@ -12,5 +12,6 @@ returns c =
     let t = c.args.step in
     let at = c.partition_point.result in
     sym (count_at (is_until x t) steps at c.partition_point.ensures.bound
-    (IsPartitionPoint-from_clause (is_until x t) steps at c.partition_point.ensures.partitioned (until_parts x t steps c.requires)
+    (IsPartitionPoint-from_clause (is_until x t) steps at c.partition_point.ensures.partitioned
+    (until_parts x t steps c.requires)
     (λ a r q k. search rules)))

@@ -11,6 +11,7 @@ returns c =
     let n = c.args.n in
     let same = read h n _ c.requires.inside in
     let is = ap effect_of (sym same) ∙ sym c.in-Takes.ensures in
-    too_soon_both_ways h c.in-Takes.item n c.last_step-end.result c.count_of.result c.count_of-2.result c.args.begun.now c.args.ended.now
+    too_soon_both_ways h c.in-Takes.item n c.last_step-end.result c.count_of.result c.count_of-2.result c.args.begun.now
+    c.args.ended.now
     is (c.last_step-end.ensures ∙ ap (λ w. last_step w.end) same)
     c.requires.begun c.requires.ended c.count_of.ensures c.count_of-2.ensures

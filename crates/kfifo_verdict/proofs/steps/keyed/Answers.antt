@@ -5,7 +5,8 @@ use Rattle.kfifo_model.proofs.Checking.{read}
 use Rattle.kfifo_verdict.specs.Steps.{IsKey, AreKeyed}
 use Rattle.kfifo_verdict.proofs.Listing.{keyed_skip, keyed_more, of_no_item, with_no_key}
 use Rattle.kfifo_verdict.proofs.steps.keyed.Goals as goal
-use Rattle.kfifo_verdict.proofs.steps.keyed.Goals.{in-Some+in-Some-key_of+in_ok-push, in-Some+in_default-key_of, in_default}
+use Rattle.kfifo_verdict.proofs.steps.keyed.Goals.{in-Some+in-Some-key_of+in_ok-push, in-Some+in_default-key_of}
+use Rattle.kfifo_verdict.proofs.steps.keyed.Goals.{in_default}
 
 pub loop-n-preserved : goal.loop-n-preserved
 loop-n-preserved c =
@@ -21,12 +22,14 @@ loop-n-preserved c =
           let S : Call → Type 0 = λ v. IsKey key side n v (Some w.in-Some-key_of.counted) in
           subst P (ap (λ v. v.items) (sym w.steps-is))
           (keyed_more key h side n w.in-Some.item w.in-Some-key_of.counted was w.push.new.self.items c.loop-n.invariant
-          (ap effect_of (sym same) ∙ w.in-Some.ensures) (subst S same w.in-Some-key_of.ensures) w.in_ok-push.ensures.items)
+          (ap effect_of (sym same) ∙ w.in-Some.ensures) (subst S same w.in-Some-key_of.ensures)
+          w.in_ok-push.ensures.items)
           )
       | in-Some+in_default-key_of w ↦ (
           let S : Call → Type 0 = λ v. IsKey key side n v None in
           subst P (ap (λ v. v.items) (sym w.steps-is))
-          (keyed_skip key h side n was c.loop-n.invariant (with_no_key key h side n (subst S same w.in_default-key_of.ensures)))
+          (keyed_skip key h side n was c.loop-n.invariant
+          (with_no_key key h side n (subst S same w.in_default-key_of.ensures)))
           )
       | in_default w ↦ subst P (ap (λ v. v.items) (sym w.steps-is))
           (keyed_skip key h side n was c.loop-n.invariant

@@ -8,7 +8,8 @@ use Rattle.kfifo_verdict.specs.declared.tallies.ByItem.{ByItem}
 use Rattle.kfifo_verdict.specs.Finding.{IsTallied, tally_in, has_item, first_of}
 use Rattle.kfifo_verdict.proofs.Telling.{tallied_skip, tallied_more, side_here}
 use Rattle.kfifo_verdict.proofs.tallies.both_tallies.Goals as goal
-use Rattle.kfifo_verdict.proofs.tallies.both_tallies.Goals.{in-Adds+in_ok-count_call-in-Adds, in-Takes+in_ok-count_call-in-Takes, in_default}
+use Rattle.kfifo_verdict.proofs.tallies.both_tallies.Goals.{in-Adds+in_ok-count_call-in-Adds}
+use Rattle.kfifo_verdict.proofs.tallies.both_tallies.Goals.{in-Takes+in_ok-count_call-in-Takes, in_default}
 
 not_both : (e : Effect) (x y : ℕ) → e ≡ Adds x → e ≡ Takes y → ⊥
 not_both (Adds z) x y a t = absurd (cc)
@@ -28,10 +29,12 @@ loop-n-preserved c =
       | in-Adds+in_ok-count_call-in-Adds w ↦ (
           let x = w.in-Adds.item in
           let is = ap effect_of (sym same) ∙ sym w.in-Adds.ensures in
-          let counted = w.in_ok-count_call-in-Adds.ensures.counted (has_item In h x) (first_of h) (c.loop-n.invariant.puts x)
+          let counted = w.in_ok-count_call-in-Adds.ensures.counted (has_item In h x) (first_of h)
+          (c.loop-n.invariant.puts x)
           (side_here In h x n is) (ap (λ t. t.first) (sym same)) in
           record {
-            puts = subst P (sym w.puts-is) (tallied_more h In n x (tally_in c.loop-n.puts) (tally_in w.count_call.new.tallies)
+            puts = subst P (sym w.puts-is)
+                (tallied_more h In n x (tally_in c.loop-n.puts) (tally_in w.count_call.new.tallies)
                 c.loop-n.invariant.puts is counted w.in_ok-count_call-in-Adds.ensures.others);
             gets = subst G (sym w.gets-is) (tallied_skip h Out n (tally_in c.loop-n.gets) c.loop-n.invariant.gets
                 (λ y e. not_both (does h n) x y is e));
@@ -40,12 +43,14 @@ loop-n-preserved c =
       | in-Takes+in_ok-count_call-in-Takes w ↦ (
           let x = w.in-Takes.item in
           let is = ap effect_of (sym same) ∙ sym w.in-Takes.ensures in
-          let counted = w.in_ok-count_call-in-Takes.ensures.counted (has_item Out h x) (first_of h) (c.loop-n.invariant.gets x)
+          let counted = w.in_ok-count_call-in-Takes.ensures.counted (has_item Out h x) (first_of h)
+          (c.loop-n.invariant.gets x)
           (side_here Out h x n is) (ap (λ t. t.first) (sym same)) in
           record {
             puts = subst P (sym w.puts-is) (tallied_skip h In n (tally_in c.loop-n.puts) c.loop-n.invariant.puts
                 (λ y e. not_both (does h n) y x e is));
-            gets = subst G (sym w.gets-is) (tallied_more h Out n x (tally_in c.loop-n.gets) (tally_in w.count_call-in-Takes.new.tallies)
+            gets = subst G (sym w.gets-is)
+                (tallied_more h Out n x (tally_in c.loop-n.gets) (tally_in w.count_call-in-Takes.new.tallies)
                 c.loop-n.invariant.gets is counted w.in_ok-count_call-in-Takes.ensures.others);
           }
           )

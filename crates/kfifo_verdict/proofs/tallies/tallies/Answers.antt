@@ -20,9 +20,11 @@ loop-n-preserved c =
           let is = ap effect_of (sym same) ∙ w.in-Some.ensures in
           subst P (sym w.tallies-is)
           (tallied_more h side n x (tally_in c.loop-n.tallies) (tally_in w.count_call.new.tallies) c.loop-n.invariant is
-          (w.in_ok-count_call.ensures.counted (has_item side h x) (first_of h) (c.loop-n.invariant x) (side_here side h x n is)
+          (w.in_ok-count_call.ensures.counted (has_item side h x) (first_of h) (c.loop-n.invariant x)
+          (side_here side h x n is)
           (ap (λ t. t.first) (sym same))) w.in_ok-count_call.ensures.others)
           )
       | in_default w ↦ subst P (sym w.tallies-is)
-          (tallied_skip h side n (tally_in c.loop-n.tallies) c.loop-n.invariant (λ x e. w.in_default.ensures x (ap effect_of same ∙ e)))
+          (tallied_skip h side n (tally_in c.loop-n.tallies) c.loop-n.invariant
+          (λ x e. w.in_default.ensures x (ap effect_of same ∙ e)))
     ]

@@ -8,7 +8,9 @@ pub returns : goal.returns
 returns c =
     let ts = c.args.turns.now in
     let sorted = c.sort_nearly.new.triples.items in
-    let is = sorted_by_turns ts c.in_ok-numbered.numbered.items sorted c.in_ok-numbered.ensures c.sort_nearly.ensures.permutation
+    let is = sorted_by_turns ts c.in_ok-numbered.numbered.items sorted c.in_ok-numbered.ensures
+    c.sort_nearly.ensures.permutation
     c.sort_nearly.ensures.sorted in
     let P : List ℕ → Type 0 = λ w. IsByTurns ts w in
-    IfOk-weaker c.calls_of.result _ _ (λ order e. subst P (sym (e ∙ ap numbers c.as_slice.ensures.value)) is) c.calls_of.ensures
+    IfOk-weaker c.calls_of.result _ _ (λ order e. subst P (sym (e ∙ ap numbers c.as_slice.ensures.value)) is)
+    c.calls_of.ensures

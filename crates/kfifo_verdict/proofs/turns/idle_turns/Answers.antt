@@ -4,7 +4,8 @@ use Rattle.kfifo_model.proofs.Checking.{read}
 use Rattle.kfifo_verdict.specs.Plain.{IsIdleTurn}
 use Rattle.kfifo_verdict.proofs.Lining.{idle_at_start, idle_at_gap, idle_more, idle_all}
 use Rattle.kfifo_verdict.proofs.turns.idle_turns.Goals as goal
-use Rattle.kfifo_verdict.proofs.turns.idle_turns.Goals.{in-FindsNone+in_ok-gap+in-Gap, in-FindsNone+in_ok-gap+in_default-2+in-Whole-1}
+use Rattle.kfifo_verdict.proofs.turns.idle_turns.Goals.{in-FindsNone+in_ok-gap+in-Gap}
+use Rattle.kfifo_verdict.proofs.turns.idle_turns.Goals.{in-FindsNone+in_ok-gap+in_default-2+in-Whole-1}
 use Rattle.kfifo_verdict.proofs.turns.idle_turns.Goals.{in-FindsNone+in_ok-gap+in_default-2+in-Gap-1, in_default}
 
 pub loop-n-preserved : goal.loop-n-preserved
@@ -27,7 +28,10 @@ loop-n-preserved c =
           (idle_at_start h ps rank n c.requires.history c.loop-n-test.true
           (λ e. w.in_default.not-FindsNone (c.effect.ensures ∙ same ∙ e)))
     ] in
-    idle_more h ps rank n c.loop-n.turns.items c.push.new.self.items (record { moment = c.match-effect.moment; rank = rank }) is
+    idle_more h ps rank n c.loop-n.turns.items c.push.new.self.items (record {
+      moment = c.match-effect.moment;
+      rank = rank;
+    }) is
     c.in_ok-push.ensures.items c.loop-n.invariant
 
 pub returns : goal.returns

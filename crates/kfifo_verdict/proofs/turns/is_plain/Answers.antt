@@ -6,7 +6,7 @@ use Rattle.kfifo_model.proofs.Checking.{read}
 use Rattle.kfifo_model.specs.declared.effects.Side.TheVariants.{In, Out}
 use Rattle.kfifo_verdict.specs.Evidence.{IsSingle}
 use Rattle.kfifo_verdict.specs.Finding.{IsTally, has_item, first_of}
-use Rattle.kfifo_verdict.proofs.Being.{same_put}
+use Rattle.kfifo_verdict.proofs.ItemPresence.{same_put}
 use Rattle.kfifo_verdict.proofs.Telling.{single_from, single_put_once, single_got_once}
 use Rattle.kfifo_verdict.proofs.Lining.{has_end, plain_more, plain_all}
 use Rattle.kfifo_verdict.proofs.turns.is_plain.Goals as goal
@@ -52,7 +52,8 @@ loop-n-preserved c =
           let put = subst P (sym w.tally_of.ensures) (c.requires.puts item) in
           let got = subst G (sym w.tally_of-else-tally_of-ne1.ensures) (c.requires.gets item) in
           let S : ℕ → Type 0 = λ v. IsSingle h v n in
-          subst S (same_put h item x n is a) (single_from h item n w.tally_of.result w.tally_of-else-tally_of-ne1.result put got is
+          subst S (same_put h item x n is a) (single_from h item n w.tally_of.result w.tally_of-else-tally_of-ne1.result
+          put got is
           w.if-tally_of-ne1.false w.if-tally_of-gt1.false)
           )
       | in_default w ↦ absurd (w.in_default.not-Adds x (c.effect.ensures ∙ sym same ∙ a))

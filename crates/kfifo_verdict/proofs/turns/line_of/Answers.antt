@@ -7,7 +7,7 @@ returns c =
     let h = c.args.calls.now in
     let ps = c.args.presences.now in
     record {
-      places = places_moved h ps (length h) c.in_ok-line.line.items c.sort_nearly.new.triples.items c.sort_nearly.ensures.permutation
-          c.in_ok-line.ensures;
+      places = places_moved h ps (length h) c.in_ok-line.line.items c.sort_nearly.new.triples.items
+          c.sort_nearly.ensures.permutation c.in_ok-line.ensures;
       sorted = c.sort_nearly.ensures.sorted;
     }

@@ -10,4 +10,5 @@ pub returns : goal.returns
 returns c =
     let test = c.loop-n-test.false in
     let end = c.loop-n.auto.n-end in
-    numbered_all c.args.turns.now c.loop-n.n (length c.args.turns.now) c.loop-n.numbered.items (omega (arith, test, end)) c.loop-n.invariant
+    numbered_all c.args.turns.now c.loop-n.n (length c.args.turns.now) c.loop-n.numbered.items
+    (omega (arith, test, end)) c.loop-n.invariant

@@ -3,7 +3,8 @@ use Rattle.std.proofs.lemmas.Result.{IfOk-weaker}
 use Rattle.kfifo_verdict.proofs.Types.{Presence, Turn}
 use Rattle.kfifo_verdict.specs.Finding.{ArePresences}
 use Rattle.kfifo_verdict.specs.Plain.{IsLine, AreTurns}
-use Rattle.kfifo_verdict.proofs.Turning.{IsScene, legal_by_turns}
+use Rattle.kfifo_verdict.proofs.Turning.{legal_by_turns}
+use Rattle.kfifo_verdict.proofs.Scenes.{IsScene}
 use Rattle.kfifo_verdict.proofs.turns.plain_order.Goals as goal
 
 pub returns : goal.returns
@@ -23,4 +24,5 @@ returns c =
     } in
     let is_line = subst L (sym c.as_slice-line.ensures.value) c.in_ok-places.ensures in
     let turns = subst T (sym c.as_slice.ensures.value) c.with_items-turns.ensures in
-    IfOk-weaker c.by_turns.result _ _ (λ order b. legal_by_turns h ps line ts scene is_line turns order.items b) c.by_turns.ensures
+    IfOk-weaker c.by_turns.result _ _ (λ order b. legal_by_turns h ps line ts scene is_line turns order.items b)
+    c.by_turns.ensures

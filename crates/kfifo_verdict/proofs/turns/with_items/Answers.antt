@@ -48,8 +48,8 @@ loop-i-preserved c =
           (set ts p put, refl, inr (omega (arith, le, long, same, size), ap (λ v. v.items) w.turns-is)))
     ] in
     record {
-      turns = turns_more h ps line i last ts c.if-gone-len.turns.items c.requires.plain c.requires.presences c.requires.line
-          c.loop-i-test.true latest (subst S g is) c.loop-i.invariant.turns;
+      turns = turns_more h ps line i last ts c.if-gone-len.turns.items c.requires.plain c.requires.presences
+          c.requires.line c.loop-i-test.true latest (subst S g is) c.loop-i.invariant.turns;
       latest = so_far ps line i last latest;
     }
 
@@ -57,5 +57,6 @@ pub returns : goal.returns
 returns c =
     let test = c.loop-i-test.false in
     let end = c.loop-i.auto.i-end in
-    turns_all c.args.calls.now c.args.presences.now c.args.line.now c.loop-i.i (length c.args.line.now) c.loop-i.turns.items
+    turns_all c.args.calls.now c.args.presences.now c.args.line.now c.loop-i.i (length c.args.line.now)
+    c.loop-i.turns.items
     (omega (arith, test, end)) c.loop-i.invariant.turns

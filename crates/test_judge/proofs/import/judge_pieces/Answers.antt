@@ -10,4 +10,5 @@ log_to_judge-requires-clause-reading c =
     (text, c.in_ok-take-2.ensures.ok text [] after_first)
 
 pub log_to_judge-requires-clause-most : goal.log_to_judge-requires-clause-most
-log_to_judge-requires-clause-most c = c.in_ok-take-2.ensures.same ∙ c.in_ok-take.ensures.same ∙ c.new-reader.ensures.most
+log_to_judge-requires-clause-most c = c.in_ok-take-2.ensures.same ∙ c.in_ok-take.ensures.same
+    ∙ c.new-reader.ensures.most

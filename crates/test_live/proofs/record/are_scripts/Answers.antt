@@ -7,6 +7,8 @@ use Rattle.test_live.proofs.record.are_scripts.Goals as goal
 
 pub returns : goal.returns
 returns c = λ is.
-    let each : All (λ (script : Vec Begin Global). All (IsCall c.args.shape.now) script.items) c.args.scripts.now = search rules in
-    All-map (λ (script : List Begin). All (IsCall c.args.shape.now) script) (λ (script : Vec Begin Global). script.items) c.args.scripts.now
+    let each : All (λ (script : Vec Begin Global). All (IsCall c.args.shape.now) script.items) c.args.scripts.now =
+    search rules in
+    All-map (λ (script : List Begin). All (IsCall c.args.shape.now) script)
+    (λ (script : Vec Begin Global). script.items) c.args.scripts.now
     each

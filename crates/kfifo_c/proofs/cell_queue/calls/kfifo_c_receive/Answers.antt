@@ -9,7 +9,8 @@ use Rattle.kfifo_c.proofs.ByKind.{no_seat}
 use Rattle.kfifo_c.proofs.cell_queue.calls.kfifo_c_receive.Goals as goal
 
 -- what is no Got leaves the variable as it is
-unchanged : (old : CellAt) (taken : Taken CellAt) → ((x : CellAt) → taken ≡ K.Got x → ⊥) → old ≡ cell_after old (Some taken)
+unchanged : (old : CellAt) (taken : Taken CellAt) → ((x : CellAt) → taken ≡ K.Got x → ⊥)
+    → old ≡ cell_after old (Some taken)
 unchanged old (K.Got x) other = absurd (other x refl)
 unchanged old K.Empty other = refl
 unchanged old K.Busy other = refl
@@ -29,7 +30,8 @@ returns-in-Got-clause-answer c = (
     c.seat_mut.ensures.value,
     refl,
     tt,
-    subst (λ (a : Taken CellAt). ReceivesOldest a c.seat_mut.result.now c.receive-taken.new.self) c.in-Got.is c.receive-taken.ensures,
+    subst (λ (a : Taken CellAt). ReceivesOldest a c.seat_mut.result.now c.receive-taken.new.self) c.in-Got.is
+        c.receive-taken.ensures,
   ),
 )
 

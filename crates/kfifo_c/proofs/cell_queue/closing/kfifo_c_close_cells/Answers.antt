@@ -13,7 +13,8 @@ returns-clause-done c = λ _.
     let all = c.may_close.ensures.may.0 c.if-not-may_close.false in
     let closed = c.in-Ok-close_cells.ensures in
     let last : closed.0 ≡ all.last = closing_last (cells_behind c.args.passes.now) all closed.1 closed.0
-    (sym (c.in-Ok-take_all.ensures.taken ∙ ap seats_in (ap (map cells_in) c.may_close.ensures.same)) ∙ closed.2) in record {
+    (sym (c.in-Ok-take_all.ensures.taken ∙ ap seats_in (ap (map cells_in) c.may_close.ensures.same)) ∙ closed.2) in
+    record {
       all = all;
       held = closed.3;
       gathers = subst (λ (seat : CellSeated). Gathers seat closed.3) last closed.4;

@@ -21,12 +21,12 @@ seat_mut-seat-requires c =
     (last.0, ap (λ h. h.held.value) c.in-Some.ensures.item.1 ∙ last.1)
 
 pub returns-then-count-threads-clause-same : goal.returns-then-count-threads-clause-same
-returns-then-count-threads-clause-same c = put_back c.args.handles.now (length c.args.handles.now - 1) _ c.in-Some.last.now
-    (sym c.seat_mut-seat.ensures.value ∙ ap (λ h. h.held.value) c.in-Some.ensures.item.1)
+returns-then-count-threads-clause-same c = put_back c.args.handles.now (length c.args.handles.now - 1) _
+    c.in-Some.last.now (sym c.seat_mut-seat.ensures.value ∙ ap (λ h. h.held.value) c.in-Some.ensures.item.1)
 
 pub returns-then-count-threads-clause-fields : goal.returns-then-count-threads-clause-fields
-returns-then-count-threads-clause-fields c = same_fields c.args.handles.now (length c.args.handles.now - 1) _ c.in-Some.last.now
-    (ap fields_of c.in-Some.ensures.item.1)
+returns-then-count-threads-clause-fields c = same_fields c.args.handles.now (length c.args.handles.now - 1) _
+    c.in-Some.last.now (ap fields_of c.in-Some.ensures.item.1)
 
 pub returns-then-count-threads-clause-may : goal.returns-then-count-threads-clause-may
 returns-then-count-threads-clause-may c = (
@@ -36,9 +36,12 @@ returns-then-count-threads-clause-may c = (
       let few : 0 < length hs = c.in-Some.ensures.item.3.0 in
       let last = last_step cells hs (length hs - 1) c.in-Some.last.now c.in-Some.last.now seat seat
       (sym c.are_open.ensures ∙ c.if-not-are_open.false) (omega (arith, few))
-      (sym (ap (λ h. h.held.value) c.in-Some.ensures.item.1) ∙ c.seat_mut-seat.ensures.value) c.seat_mut-seat.ensures.value in
-      let back = put_back hs (length hs - 1) c.in-Some.last.now c.in-Some.last.now (ap (λ h. h.held.value) c.in-Some.ensures.item.1) in
-      absurd (not_all cells hs (length hs - 1) c.in-Some.last.now seat seat last (λ e. c.if-count-threads.true (e ∙ sym c.threads.ensures))
+      (sym (ap (λ h. h.held.value) c.in-Some.ensures.item.1) ∙ c.seat_mut-seat.ensures.value)
+      c.seat_mut-seat.ensures.value in
+      let back = put_back hs (length hs - 1) c.in-Some.last.now c.in-Some.last.now
+      (ap (λ h. h.held.value) c.in-Some.ensures.item.1) in
+      absurd (not_all cells hs (length hs - 1) c.in-Some.last.now seat seat last
+      (λ e. c.if-count-threads.true (e ∙ sym c.threads.ensures))
       (subst (λ os. AreAll (map cells_in os)) (sym back) m)),
 )
 
@@ -56,9 +59,12 @@ returns-clause-may c =
     let few : 0 < length hs = c.in-Some.ensures.item.3.0 in
     let last = last_step cells hs (length hs - 1) c.in-Some.last.now c.in-Some.last.now seat seat
     (sym c.are_open.ensures ∙ c.if-not-are_open.false) (omega (arith, few))
-    (sym (ap (λ h. h.held.value) c.in-Some.ensures.item.1) ∙ c.seat_mut-seat.ensures.value) c.seat_mut-seat.ensures.value in
-    let back = put_back hs (length hs - 1) c.in-Some.last.now c.in-Some.last.now (ap (λ h. h.held.value) c.in-Some.ensures.item.1) in (
+    (sym (ap (λ h. h.held.value) c.in-Some.ensures.item.1) ∙ c.seat_mut-seat.ensures.value)
+    c.seat_mut-seat.ensures.value in
+    let back = put_back hs (length hs - 1) c.in-Some.last.now c.in-Some.last.now
+    (ap (λ h. h.held.value) c.in-Some.ensures.item.1) in (
       λ _. subst (λ os. AreAll (map cells_in os)) back
-          (are_all cells hs (length hs - 1) c.in-Some.last.now seat seat last (c.if-count-threads.false ∙ c.threads.ensures)),
+          (are_all cells hs (length hs - 1) c.in-Some.last.now seat seat last
+          (c.if-count-threads.false ∙ c.threads.ensures)),
       λ m. refl,
     )

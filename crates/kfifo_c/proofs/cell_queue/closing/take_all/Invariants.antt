@@ -7,7 +7,8 @@ use Rattle.kfifo_c.proofs.cell_queue.closing.take_all.Given as goal
 abbrev pub invariant-loop-handle : goal.invariant-loop-handle
 invariant-loop-handle l = record {
   rest : (k : ℕ) (d : Handle) → l.handle-index ≤ k → get_or l.handles k d ≡ get_or l.initial.handles k d;
-  closed : (k : ℕ) (d : Handle) → k < l.handle-index → WasClosed 3 (get_or l.initial.handles k d) (get_or l.handles k d);
+  closed : (k : ℕ) (d : Handle) → k < l.handle-index
+      → WasClosed 3 (get_or l.initial.handles k d) (get_or l.handles k d);
   seats : l.taken.items ≡ seats_in (take l.handle-index (cells_behind l.initial.handles));
   few : length l.taken.items ≤ l.handle-index;
   room : length l.initial.handles ≤ vec_capacity l.taken;

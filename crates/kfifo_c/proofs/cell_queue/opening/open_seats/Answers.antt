@@ -14,7 +14,8 @@ returns-in-Err-clause-refused c =
 pub seat_all-requires : goal.seat_all-requires
 seat_all-requires c = λ i d below.
     let have = c.in-Ok.ensures.ok.0 in
-    let opened : (get_or c.in-Ok.handles.items i d).opened ≡ opening_with true (sizes_again c.args.sizes) = (have.3 i d below).0 ∙ have.2 in
+    let opened : (get_or c.in-Ok.handles.items i d).opened ≡ opening_with true (sizes_again c.args.sizes) =
+    (have.3 i d below).0 ∙ have.2 in
     sym (ap (λ (o : Opening). o.threads) opened)
 
 pub returns-in-Ok-seat_all-clause-ok : goal.returns-in-Ok-seat_all-clause-ok
@@ -27,7 +28,8 @@ returns-in-Ok-seat_all-clause-ok c =
 pub returns-in-Ok-seat_all-clause-refused : goal.returns-in-Ok-seat_all-clause-refused
 returns-in-Ok-seat_all-clause-refused c =
     let e = c.in-Ok.ensures in
-    refuses_none c.args.sizes c.args.renewals c.in-Ok.handles c.in-Ok-seat_all.seats (e.reserve, e.threads, e.tokens, e.generations)
+    refuses_none c.args.sizes c.args.renewals c.in-Ok.handles c.in-Ok-seat_all.seats
+    (e.reserve, e.threads, e.tokens, e.generations)
 
 pub returns-in-Err-seat_all-clause-refused : goal.returns-in-Err-seat_all-clause-refused
 returns-in-Err-seat_all-clause-refused c =

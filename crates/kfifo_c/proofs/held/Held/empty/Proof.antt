@@ -27,8 +27,12 @@ empty_spec 𝓤 𝓛 𝓜 𝓡 wired =
     let κs = z.0.0 in let Post : Val → SProp 𝓤 = (walk_of 𝓛 ended hs c).post z in
     qed 𝓛 ((‵ ftrue ⊛ ‵ ftrue) ∷ raw ((c κs z.0.3).requires z.1) ∷ []) ∵ keep ! [] $
     enter ! 𝓣.C 𝓣.Λ fn [] Post $ alloc_all ! (λ l. pass_all ! refl tt $
-    sets ! (agg ! (and_then ! (lit ! tt) (no_more !))) refl (tt, (record { fits = lit< tt }, tt)) $ returns ! (look_at ! 0 refl)
+    sets ! (agg ! (and_then ! (lit ! tt) (no_more !))) refl (tt, (record { fits = lit< tt }, tt)) $
+    returns ! (look_at ! 0 refl)
     $ free_all ! refl $ keep ! [] $ nothing ! $
     held_in ! null_ptr None $ use0 𝓛 (raw (fact 𝓤 (None ≡ None))) (fact_i 𝓤 (None ≡ None) (emp 𝓤) refl) $
     nothing ! $ nothing ! $ move ! (0 ∷ 1 ∷ 3 ∷ 2 ∷ [])
-    $ by ! (leaves 𝓛 ended hs c z (lone_val (denote.RawPtr.ptr_val null_ptr)) (record { at = null_ptr; value = None }) tt tt)))
+    $ by ! (leaves 𝓛 ended hs c z (lone_val (denote.RawPtr.ptr_val null_ptr)) (record {
+      at = null_ptr;
+      value = None;
+    }) tt tt)))

@@ -13,7 +13,8 @@ returns c =
       put_start = c.dequeue_from.new.self.enqueue_start;
       get_start = c.dequeue_from.new.self.dequeue_start;
     } in
-    subst (λ (s : Seated). MayDequeue c.args.start c.args.turns s × CalledFrom (Dequeue c.args.start c.args.turns) c.dequeue_from.result s after)
+    subst (λ (s : Seated). MayDequeue c.args.start c.args.turns s × CalledFrom (Dequeue c.args.start c.args.turns)
+    c.dequeue_from.result s after)
     c.self.view_is (
       record {
         start_below = below;

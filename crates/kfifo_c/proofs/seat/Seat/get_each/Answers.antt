@@ -13,13 +13,16 @@ loop-i-preserved c = record {
 
 pub returns-in_default-clause-each : goal.returns-in_default-clause-each
 returns-in_default-clause-each c =
-    let took : Took Gets Got c.loop-i.i c.args.items.now c.loop-i.items (Some c.get-answer.result) c.args.self.now c.get-answer.new.self =
-    takes-stop Gets Got c.loop-i.i c.args.items.now c.loop-i.items _ _ _ c.get-answer.result (omega arith) c.get-answer.ensures
+    let took : Took Gets Got c.loop-i.i c.args.items.now c.loop-i.items (Some c.get-answer.result) c.args.self.now
+    c.get-answer.new.self =
+    takes-stop Gets Got c.loop-i.i c.args.items.now c.loop-i.items _ _ _ c.get-answer.result (omega arith)
+    c.get-answer.ensures
     c.in_default.not-Got c.loop-i.invariant.each in
     (Some c.get-answer.result, took.out, c.status.ensures, took.written, took.is, took.each)
 
 pub returns-clause-each : goal.returns-clause-each
 returns-clause-each c =
-    let took : Took Gets Got (length c.args.items.now) c.args.items.now c.loop-i.items None c.args.self.now c.loop-i.self =
+    let took : Took Gets Got (length c.args.items.now) c.args.items.now c.loop-i.items None c.args.self.now
+    c.loop-i.self =
     takes-all Gets Got c.loop-i.i c.args.items.now c.loop-i.items _ _ (omega arith) c.loop-i.invariant.each in
     (None, took.out, refl, took.written, c.loop-i.auto.items ∙ took.is, took.each)

@@ -6,8 +6,8 @@ use Rattle.kfifo_c.proofs.seat.Seat.put_each.Goals as goal
 
 pub loop-i-preserved : goal.loop-i-preserved
 loop-i-preserved c = record {
-  each = gives-more Puts Done c.args.items.now c.loop-i.i _ _ _ c.put-answer.result c.loop-i-test.true c.put-answer.ensures
-      c.in-Done.is c.loop-i.invariant.each;
+  each = gives-more Puts Done c.args.items.now c.loop-i.i _ _ _ c.put-answer.result c.loop-i-test.true
+      c.put-answer.ensures c.in-Done.is c.loop-i.invariant.each;
   queue = c.put-answer.ensures.called.queue ∙ c.loop-i.invariant.queue;
 }
 
@@ -20,4 +20,5 @@ returns-in_default-clause-each c = (
 )
 
 pub returns-clause-each : goal.returns-clause-each
-returns-clause-each c = (None, refl, gives-all Puts Done c.args.items.now c.loop-i.i _ _ (omega arith) c.loop-i.invariant.each)
+returns-clause-each c =
+    (None, refl, gives-all Puts Done c.args.items.now c.loop-i.i _ _ (omega arith) c.loop-i.invariant.each)

@@ -28,7 +28,8 @@ returns-in-Got-clause-answer c = (
     c.seat_mut.ensures.value,
     refl,
     tt,
-    subst (λ (a : Taken ℕ). TakesFromOldest a c.seat_mut.result.now c.take-taken.new.self) c.in-Got.is c.take-taken.ensures,
+    subst (λ (a : Taken ℕ). TakesFromOldest a c.seat_mut.result.now c.take-taken.new.self) c.in-Got.is
+        c.take-taken.ensures,
   ),
 )
 

@@ -16,7 +16,8 @@ pub seat_all-requires : goal.seat_all-requires
 seat_all-requires c = λ i d below.
     let have = c.in-Ok.ensures.ok.0 in let shape = c.args.sizes.shape in let again = c.holding_again.result in
     let same = c.holding_again.ensures in
-    let opened : (get_or c.in-Ok.handles.items i d).opened ≡ opening_with false (sizes_again c.args.sizes) = (have.3 i d below).0 ∙ have.2 in (
+    let opened : (get_or c.in-Ok.handles.items i d).opened ≡ opening_with false (sizes_again c.args.sizes) =
+    (have.3 i d below).0 ∙ have.2 in (
       holds shape again same.0 same.1 same.2 same.3 same.4 ∙ sym (ap (λ (o : Opening). o.shape) opened),
       sym (ap (λ (o : Opening). o.threads) opened),
     )
@@ -31,7 +32,8 @@ returns-in-Ok-seat_all-clause-ok c =
 pub returns-in-Ok-seat_all-clause-refused : goal.returns-in-Ok-seat_all-clause-refused
 returns-in-Ok-seat_all-clause-refused c =
     let e = c.in-Ok.ensures in
-    refuses_none c.args.sizes c.args.renewals c.in-Ok.handles c.in-Ok-seat_all.seats (e.reserve, e.threads, e.tokens, e.generations)
+    refuses_none c.args.sizes c.args.renewals c.in-Ok.handles c.in-Ok-seat_all.seats
+    (e.reserve, e.threads, e.tokens, e.generations)
 
 pub returns-in-Err-seat_all-clause-refused : goal.returns-in-Err-seat_all-clause-refused
 returns-in-Err-seat_all-clause-refused c =

@@ -6,7 +6,8 @@ use Rattle.kfifo_c.proofs.value_queue.opening.seat_all.Goals as goal
 
 pub new-requires : goal.new-requires
 new-requires c =
-    (All-pop (λ h. (c.args.shape ≡ h.opened.shape) × (c.args.threads ≡ h.opened.threads)) _ _ (Some c.in-Some.handle) c.in-Some.ensures.items
+    (All-pop (λ h. (c.args.shape ≡ h.opened.shape) × (c.args.threads ≡ h.opened.threads)) _ _ (Some c.in-Some.handle)
+    c.in-Some.ensures.items
     c.loop-handle.invariant.sizes).1
 
 pub loop-handle-preserved : goal.loop-handle-preserved
@@ -15,8 +16,8 @@ loop-handle-preserved c =
     let seat : c.in_ok-seat.seat.value ≡ c.in-Some.handle = c.in_ok-seat.ensures.ok ∙ c.new.ensures in
     let made = reverse (map (λ s. s.value) c.loop-handle.seats.items) in
     record {
-      sizes = (All-pop (λ h. (c.args.shape ≡ h.opened.shape) × (c.args.threads ≡ h.opened.threads)) _ _ (Some c.in-Some.handle)
-          c.in-Some.ensures.items c.loop-handle.invariant.sizes).0;
+      sizes = (All-pop (λ h. (c.args.shape ≡ h.opened.shape) × (c.args.threads ≡ h.opened.threads)) _ _
+          (Some c.in-Some.handle) c.in-Some.ensures.items c.loop-handle.invariant.sizes).0;
       made = ap (λ l. rest ++ reverse (map (λ s. s.value) l)) c.in_ok-push.ensures.items
           ∙ ap (λ l. rest ++ l) (reverse_mapped (λ s. s.value) c.loop-handle.seats.items c.in_ok-seat.seat)
           ∙ ap (λ s. rest ++ s ∷ made) seat

@@ -7,8 +7,10 @@ use Rattle.kfifo_cli_arguments.proofs.commands.draw.with_evidence.Goals as goal
 pub returns : goal.returns
 returns c =
     let numbers = small_numbers 0 4294967295 in
-    let evidence = help_rule c.flag.result c.help-evidence.result _ _ (c.flag.ensures.rule, c.flag.ensures.own) c.help-evidence.ensures in
-    let text = text_rule c.option.result c.value_name.result (codes "around") _ (c.option.ensures.rule, c.option.ensures.own)
+    let evidence = help_rule c.flag.result c.help-evidence.result _ _ (c.flag.ensures.rule, c.flag.ensures.own)
+    c.help-evidence.ensures in
+    let text = text_rule c.option.result c.value_name.result (codes "around") _
+    (c.option.ensures.rule, c.option.ensures.own)
     c.value_name.ensures in
     let given = c.value_parser-2.ensures.given in
     let range : c.value_parser.result ≡ numbers = c.value_parser.ensures in

@@ -7,11 +7,14 @@ use Rattle.kfifo_cli_arguments.proofs.commands.draw.with_style.Goals as goal
 pub returns : goal.returns
 returns c =
     let numbers = small_numbers 200 16000 in
-    let text = help_rule c.flag.result c.help-text.result _ _ (c.flag.ensures.rule, c.flag.ensures.own) c.help-text.ensures in
-    let word = text_rule c.option.result c.value_name.result (codes "width") _ (c.option.ensures.rule, c.option.ensures.own)
+    let text = help_rule c.flag.result c.help-text.result _ _ (c.flag.ensures.rule, c.flag.ensures.own)
+    c.help-text.ensures in
+    let word = text_rule c.option.result c.value_name.result (codes "width") _
+    (c.option.ensures.rule, c.option.ensures.own)
     c.value_name.ensures in
     let given = c.value_parser-2.ensures.given in
-    let range : c.range.result ≡ numbers = rw (c.value_parser.ensures, c.new.ensures.end, c.new.ensures.start) at c.range.ensures in
+    let range : c.range.result ≡ numbers = rw (c.value_parser.ensures, c.new.ensures.end, c.new.ensures.start) at
+    c.range.ensures in
     let number = number_rule c.value_name.result c.value_parser-2.result (codes "width") given.0 numbers word
     c.value_parser-2.ensures.others given.1 (given.2 ∙ range) in
     let width = help_rule c.value_parser-2.result c.help-width.result _ _ number c.help-width.ensures in

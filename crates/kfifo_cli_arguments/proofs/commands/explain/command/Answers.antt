@@ -9,7 +9,8 @@ returns c =
     (c.new.ensures.rule, c.new.ensures.optional.1) c.value_name.ensures c.action.ensures
     c.num_args.ensures.0 c.num_args.ensures.1 c.required.ensures in
     let words = help_rule c.required.result c.help-words.result _ _ given c.help-words.ensures in
-    let bare = bare_command c.new-2.result c.about.result c.after_help.result c.after_long_help.result (codes "explain") _ _ _
+    let bare = bare_command c.new-2.result c.about.result c.after_help.result c.after_long_help.result (codes "explain")
+    _ _ _
     c.new-2.ensures.app c.new-2.ensures.local
     c.about.ensures c.after_help.ensures c.after_long_help.ensures in
     IfOk-weaker c.arg.result _ _ (λ r h.

@@ -6,9 +6,12 @@ use Rattle.kfifo_cli_arguments.proofs.commands.judge.command.Goals as goal
 
 pub returns : goal.returns
 returns c =
-    let show = help_rule c.flag.result c.help-show.result _ _ (c.flag.ensures.rule, c.flag.ensures.own) c.help-show.ensures in
-    let json = help_rule c.flag-2.result c.help-json.result _ _ (c.flag-2.ensures.rule, c.flag-2.ensures.own) c.help-json.ensures in
-    let bare = bare_command c.new.result c.about.result c.after_help.result c.after_long_help-command.result (codes "judge") _ _ _
+    let show = help_rule c.flag.result c.help-show.result _ _ (c.flag.ensures.rule, c.flag.ensures.own)
+    c.help-show.ensures in
+    let json = help_rule c.flag-2.result c.help-json.result _ _ (c.flag-2.ensures.rule, c.flag-2.ensures.own)
+    c.help-json.ensures in
+    let bare = bare_command c.new.result c.about.result c.after_help.result c.after_long_help-command.result
+    (codes "judge") _ _ _
     c.new.ensures.app c.new.ensures.local
     c.about.ensures c.after_help.ensures c.after_long_help-command.ensures in
     let placed = c.in_ok-command.ensures.0 ∙ ap (with_places (codes "1")) bare.0 in

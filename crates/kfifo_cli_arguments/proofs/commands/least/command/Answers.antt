@@ -6,7 +6,8 @@ use Rattle.kfifo_cli_arguments.proofs.commands.least.command.Goals as goal
 
 pub returns : goal.returns
 returns c =
-    let bare = bare_command c.new.result c.about.result c.after_help.result c.after_long_help-command.result (codes "least") _ _ _
+    let bare = bare_command c.new.result c.about.result c.after_help.result c.after_long_help-command.result
+    (codes "least") _ _ _
     c.new.ensures.app c.new.ensures.local
     c.about.ensures c.after_help.ensures c.after_long_help-command.ensures in
     let tried = c.in_ok-command.ensures.0 ∙ ap with_tries bare.0 in

@@ -7,25 +7,32 @@ use Rattle.kfifo_cli_arguments.proofs.commands.replay.command.Goals as goal
 pub returns : goal.returns
 returns c =
     let threads = small_numbers 0 63 in
-    let picks_text = text_rule c.option.result c.value_name.result (codes "picks") _ (c.option.ensures.rule, c.option.ensures.own)
+    let picks_text = text_rule c.option.result c.value_name.result (codes "picks") _
+    (c.option.ensures.rule, c.option.ensures.own)
     c.value_name.ensures in
     let picks = help_rule c.value_name.result c.help-picks.result _ _ picks_text c.help-picks.ensures in
-    let stop_text = text_rule c.option-2.result c.value_name-2.result (codes "stop") _ (c.option-2.ensures.rule, c.option-2.ensures.own)
+    let stop_text = text_rule c.option-2.result c.value_name-2.result (codes "stop") _
+    (c.option-2.ensures.rule, c.option-2.ensures.own)
     c.value_name-2.ensures in
     let stop_given = c.value_parser-2.ensures.given in
-    let stop_range : c.range.result ≡ threads = rw (c.value_parser.ensures, c.new.ensures.end, c.new.ensures.start) at c.range.ensures in
-    let stop_number = number_rule c.value_name-2.result c.value_parser-2.result (codes "stop") stop_given.0 threads stop_text
+    let stop_range : c.range.result ≡ threads = rw (c.value_parser.ensures, c.new.ensures.end, c.new.ensures.start) at
+    c.range.ensures in
+    let stop_number = number_rule c.value_name-2.result c.value_parser-2.result (codes "stop") stop_given.0 threads
+    stop_text
     c.value_parser-2.ensures.others stop_given.1 (stop_given.2 ∙ stop_range) in
     let stop = help_rule c.value_parser-2.result c.help-stop.result _ _ stop_number c.help-stop.ensures in
-    let points = help_rule c.flag.result c.help-points.result _ _ (c.flag.ensures.rule, c.flag.ensures.own) c.help-points.ensures in
-    let trace_flag = help_rule c.flag-2.result c.help-trace.result _ _ (c.flag-2.ensures.rule, c.flag-2.ensures.own) c.help-trace.ensures in
+    let points = help_rule c.flag.result c.help-points.result _ _ (c.flag.ensures.rule, c.flag.ensures.own)
+    c.help-points.ensures in
+    let trace_flag = help_rule c.flag-2.result c.help-trace.result _ _ (c.flag-2.ensures.rule, c.flag-2.ensures.own)
+    c.help-trace.ensures in
     let record_flag = help_rule c.flag-3.result c.help-record.result _ _ (c.flag-3.ensures.rule, c.flag-3.ensures.own)
     c.help-record.ensures in
     let words = script_rule c.new-2.result c.value_name-3.result c.action.result c.num_args.result c.required.result _
     (c.new-2.ensures.rule, c.new-2.ensures.optional.1) c.value_name-3.ensures c.action.ensures
     c.num_args.ensures.0 c.num_args.ensures.1 c.required.ensures in
     let scripts = help_rule c.required.result c.help-scripts.result _ _ words c.help-scripts.ensures in
-    let bare = bare_command c.new-3.result c.about.result c.after_help.result c.after_long_help-command.result (codes "replay") _ _ _
+    let bare = bare_command c.new-3.result c.about.result c.after_help.result c.after_long_help-command.result
+    (codes "replay") _ _ _
     c.new-3.ensures.app c.new-3.ensures.local
     c.about.ensures c.after_help.ensures c.after_long_help-command.ensures in
     let sized = c.in_ok-command.ensures.0 ∙ ap with_sizes bare.0 in

@@ -10,7 +10,8 @@ returns c =
     (c.new.ensures.rule, c.new.ensures.optional.1) c.value_name.ensures c.action.ensures
     c.num_args.ensures.0 c.num_args.ensures.1 c.required.ensures in
     let script = help_rule c.required.result c.help-script.result _ _ words c.help-script.ensures in
-    let bare = bare_command c.new-2.result c.about.result c.after_help.result c.after_long_help-command.result (codes "run") _ _ _
+    let bare = bare_command c.new-2.result c.about.result c.after_help.result c.after_long_help-command.result
+    (codes "run") _ _ _
     c.new-2.ensures.app c.new-2.ensures.local
     c.about.ensures c.after_help.ensures c.after_long_help-command.ensures in
     let sized = c.in_ok-command.ensures.0 ∙ ap with_sizes bare.0 in

@@ -5,7 +5,8 @@ use Rattle.kfifo_cli_commands.proofs.commands.check.answer.Goals as goal
 
 pub returns-in_err-order-clause-err : goal.returns-in_err-order-clause-err
 returns-in_err-order-clause-err g c =
-    let refusal : IsCheckRefusal c.args.options (g.S.Source.remaining c.args.input.now) (g.S.Source.failed c.args.input.now)
+    let refusal : IsCheckRefusal c.args.options (g.S.Source.remaining c.args.input.now)
+    (g.S.Source.failed c.args.input.now)
     (g.S.Source.failed c.args.input.now) c.in_err-order.field-0.0 =
     order_refused (g.S.Source.remaining c.args.input.now) _ _ c.args.options c.in-Some.text.now c.in_err-order.field-0.0
     (rw c.in-Some.is refl) c.in_err-order.ensures in

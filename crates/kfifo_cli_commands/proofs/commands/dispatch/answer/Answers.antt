@@ -10,7 +10,8 @@ use Rattle.kfifo_cli_commands.proofs.commands.dispatch.answer.Goals as goal
 pub returns-in_err-tasks-clause-err : goal.returns-in_err-tasks-clause-err
 returns-in_err-tasks-clause-err g c =
     let refusal : IsDispatchRefusal c.args.options c.in_err-tasks.field-0.0 =
-    unread_task c.args.options c.in_ok-shape.shape c.in_ok-shape.ensures.ok c.in_err-tasks.field-0.0 c.in_err-tasks.ensures.fault in
+    unread_task c.args.options c.in_ok-shape.shape c.in_ok-shape.ensures.ok c.in_err-tasks.field-0.0
+    c.in_err-tasks.ensures.fault in
     search (rules, refusal)
 
 pub returns-in_err-list-clause-err : goal.returns-in_err-list-clause-err
@@ -31,14 +32,17 @@ returns-clause-ok g c =
     let tasks = c.as_slice.result.now in record {
       shape = c.in_ok-shape.shape;
       tasks = tasks;
-      given = record { shape_given = c.in_ok-shape.ensures.ok; tasks_given = rw c.as_slice.ensures.value c.in_ok-tasks.ensures.tasks };
+      given = record {
+        shape_given = c.in_ok-shape.ensures.ok;
+        tasks_given = rw c.as_slice.ensures.value c.in_ok-tasks.ensures.tasks;
+      };
       admitted = admitted tasks c.args.options.workers
           (λ h. let bad = c.in_ok-list.ensures.many.1 h in cc)
           (λ h. let bad = c.in_ok-list.ensures.repeated.1 h in cc)
           (λ h. let bad = c.in_ok-list.ensures.workers.1 h in cc);
       list = c.in_ok-list.list.items;
       list_is = c.in_ok-list.ensures.ok;
-      run = subst (λ (seed : ℕ). HasRun SaysNothing SaysNothing c.in_ok-shape.shape c.args.options.workers seed tasks) c.from-seed.ensures
-          c.in_ok-list.ensures.run;
+      run = subst (λ (seed : ℕ). HasRun SaysNothing SaysNothing c.in_ok-shape.shape c.args.options.workers seed tasks)
+          c.from-seed.ensures c.in_ok-list.ensures.run;
       text_is = c.in_ok-text.ensures ∙ ap (flat_map finished_line) c.as_slice-2.ensures.value;
     }

@@ -8,24 +8,31 @@ use Rattle.kfifo_cli_commands.proofs.commands.draw.answer.Goals as goal
 pub returns-in_err-cut-clause-err : goal.returns-in_err-cut-clause-err
 returns-in_err-cut-clause-err g c =
     let at = g.S.Source.failed c.args.input.now in
-    let refusal : IsDrawRefusal c.args.options (read_from c.args.options.file (g.S.Source.remaining c.args.input.now)) at at c.in_err-cut.field-0.0 =
-    cut_refused (read_from c.args.options.file (g.S.Source.remaining c.args.input.now)) at at c.args.options c.in_err-cut.field-0.0 c.in_err-cut.ensures in
+    let refusal : IsDrawRefusal c.args.options (read_from c.args.options.file (g.S.Source.remaining c.args.input.now))
+    at at c.in_err-cut.field-0.0 =
+    cut_refused (read_from c.args.options.file (g.S.Source.remaining c.args.input.now)) at at c.args.options
+    c.in_err-cut.field-0.0 c.in_err-cut.ensures in
     search (rules, refusal)
 
 pub returns-in_err-cut-clause-silent : goal.returns-in_err-cut-clause-silent
 returns-in_err-cut-clause-silent g c =
     let at = g.S.Source.failed c.args.input.now in
-    let refusal : IsDrawRefusal c.args.options (read_from c.args.options.file (g.S.Source.remaining c.args.input.now)) at at c.in_err-cut.field-0.0 =
-    cut_refused (read_from c.args.options.file (g.S.Source.remaining c.args.input.now)) at at c.args.options c.in_err-cut.field-0.0 c.in_err-cut.ensures in
+    let refusal : IsDrawRefusal c.args.options (read_from c.args.options.file (g.S.Source.remaining c.args.input.now))
+    at at c.in_err-cut.field-0.0 =
+    cut_refused (read_from c.args.options.file (g.S.Source.remaining c.args.input.now)) at at c.args.options
+    c.in_err-cut.field-0.0 c.in_err-cut.ensures in
     let told : c.in_err-cut.field-0.0 ≢ Output =
-    refusal_told (read_from c.args.options.file (g.S.Source.remaining c.args.input.now)) at at c.args.options c.in_err-cut.field-0.0 refusal in
+    refusal_told (read_from c.args.options.file (g.S.Source.remaining c.args.input.now)) at at c.args.options
+    c.in_err-cut.field-0.0 refusal in
     search (rules, told)
 
 pub returns-in_err-order-clause-err : goal.returns-in_err-order-clause-err
 returns-in_err-order-clause-err g c =
     let at = g.S.Source.failed c.args.input.now in
-    let refusal : IsDrawRefusal c.args.options (read_from c.args.options.file (g.S.Source.remaining c.args.input.now)) at at c.in_err-order.field-0.0 =
-    order_refused (read_from c.args.options.file (g.S.Source.remaining c.args.input.now)) at at c.args.options c.in_err-order.field-0.0 c.in_err-order.ensures.err in
+    let refusal : IsDrawRefusal c.args.options (read_from c.args.options.file (g.S.Source.remaining c.args.input.now))
+    at at c.in_err-order.field-0.0 =
+    order_refused (read_from c.args.options.file (g.S.Source.remaining c.args.input.now)) at at c.args.options
+    c.in_err-order.field-0.0 c.in_err-order.ensures.err in
     search (rules, refusal)
 
 pub returns-in_err-calls-clause-err : goal.returns-in_err-calls-clause-err
@@ -35,7 +42,8 @@ returns-in_err-calls-clause-err g c =
     let after = g.S.Source.failed c.read_calls_given.new.input in
     let fault = c.in_err-calls.field-0.0.fault in
     let refusal : IsDrawRefusal c.args.options input before after fault =
-    calls_refused input before after c.args.options c.in_ok-cut.cut c.in_ok-cut.ensures fault c.in_err-calls.ensures.err in
+    calls_refused input before after c.args.options c.in_ok-cut.cut c.in_ok-cut.ensures fault
+    c.in_err-calls.ensures.err in
     search (rules, refusal)
 
 pub returns-in_err-calls-clause-silent : goal.returns-in_err-calls-clause-silent
@@ -45,7 +53,8 @@ returns-in_err-calls-clause-silent g c =
     let after = g.S.Source.failed c.read_calls_given.new.input in
     let fault = c.in_err-calls.field-0.0.fault in
     let told : fault ≢ Output = refusal_told input before after c.args.options fault
-    (calls_refused input before after c.args.options c.in_ok-cut.cut c.in_ok-cut.ensures fault c.in_err-calls.ensures.err) in
+    (calls_refused input before after c.args.options c.in_ok-cut.cut c.in_ok-cut.ensures fault
+    c.in_err-calls.ensures.err) in
     search (rules, told)
 
 pub returns-in_err-text-clause-err : goal.returns-in_err-text-clause-err

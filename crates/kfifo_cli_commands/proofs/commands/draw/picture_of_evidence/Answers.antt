@@ -19,8 +19,10 @@ returns-in_err-text c =
     let cut_to : IsPartOf (Some (named_by c.args.history.now found)) c.args.cut part =
     subst (λ (calls : List ℕ). IsPartOf (Some calls) c.args.cut part)
     (c.as_slice-2.ensures.value ∙ c.in_ok-named.ensures) c.part_of-part-2.ensures in
-    let refused : IsNotDrawn c.args.k true c.args.cut c.args.history.now c.args.logged.now (picture_fault c.in_err-text.field-0.0) =
-    found_refused c.args.k c.args.cut c.args.history.now c.args.logged.now part found c.in_err-text.field-0.0 sought cut_to
+    let refused : IsNotDrawn c.args.k true c.args.cut c.args.history.now c.args.logged.now
+    (picture_fault c.in_err-text.field-0.0) =
+    found_refused c.args.k c.args.cut c.args.history.now c.args.logged.now part found c.in_err-text.field-0.0 sought
+    cut_to
     c.in_err-text.ensures in
     search (rules, refused)
 
@@ -46,9 +48,18 @@ returns-in_default c =
     let none : HasNoEvidence k h =
     subst (λ (o : Option Evidence). IsSought true k h o) c.in_default.is c.in_ok-found.ensures.first in
     elim c.match-marked.branch [
-      | in-Ok w ↦ subst (λ r. MatchResult r (λ _. IsPictureOf HasFew k true cut h logged) (IsNotDrawn k true cut h logged)) (sym w.result-is)
-          (record { found = None; sought = none; part = part; cut_to = c.part_of-part.ensures; drawn = w.in-Ok.ensures })
-      | in-Err w ↦ subst (λ r. MatchResult r (λ _. IsPictureOf HasFew k true cut h logged) (IsNotDrawn k true cut h logged)) (sym w.result-is)
+      | in-Ok w ↦ subst (λ r. MatchResult r (λ _. IsPictureOf HasFew k true cut h logged)
+          (IsNotDrawn k true cut h logged)) (sym w.result-is)
+          (record {
+            found = None;
+            sought = none;
+            part = part;
+            cut_to = c.part_of-part.ensures;
+            drawn = w.in-Ok.ensures;
+          })
+      | in-Err w ↦
+          subst (λ r. MatchResult r (λ _. IsPictureOf HasFew k true cut h logged) (IsNotDrawn k true cut h logged))
+          (sym w.result-is)
           (none_refused k cut h logged part w.in-Err.fault w.fault_without_evidence.result none c.part_of-part.ensures
           w.in-Err.ensures w.fault_without_evidence.ensures.memory w.fault_without_evidence.ensures.lacks
           w.fault_without_evidence.ensures.many)

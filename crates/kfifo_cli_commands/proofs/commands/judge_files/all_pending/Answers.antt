@@ -13,9 +13,11 @@ loop-name-preserved c =
     let name = get_or c.args.options.files.now n (record { ref_ptr = (0, 0); now = [] }) in
     let file : Pending = record { name = name; spare = c.in_ok-spare.spare } in
     let spare : IsSpare c.args.options file =
-    subst (λ (fault : Fault). IsFaultLine c.args.options.json name.now fault (string_bytes c.in_ok-spare.spare)) c.from.ensures
+    subst (λ (fault : Fault). IsFaultLine c.args.options.json name.now fault (string_bytes c.in_ok-spare.spare))
+    c.from.ensures
     c.in_ok-spare.ensures in
     rw c.in_ok-push.ensures.items record {
-      names = names_more c.loop-name.pending.items c.args.options.files.now n _ file c.loop-name-test.true c.loop-name.invariant.names refl;
+      names = names_more c.loop-name.pending.items c.args.options.files.now n _ file c.loop-name-test.true
+          c.loop-name.invariant.names refl;
       spares = All-push (IsSpare c.args.options) c.loop-name.pending.items file c.loop-name.invariant.spares spare;
     }

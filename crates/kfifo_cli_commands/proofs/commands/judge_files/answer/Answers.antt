@@ -10,7 +10,8 @@ use Rattle.kfifo_cli_commands.proofs.commands.judge_files.answer.Goals as goal
 
 pub print_lines-requires : goal.print_lines-requires
 print_lines-requires g c =
-    subst (λ (pending : List Pending). ArePending c.args.options pending) (sym c.as_slice.ensures.value) c.in_ok-pending.ensures
+    subst (λ (pending : List Pending). ArePending c.args.options pending) (sym c.as_slice.ensures.value)
+    c.in_ok-pending.ensures
 
 pub returns-in_err-tally-clause-broken : goal.returns-in_err-tally-clause-broken
 returns-in_err-tally-clause-broken g c = any_err c.from_residual-in_err-tally.result _ (λ fault is.
@@ -37,7 +38,13 @@ returns-clause-printed g c =
     let w = c.in_ok-tally.ensures.ok in
     let tally = c.in_ok-tally.tally in (
       w.0 ++ summary c.args.options tally,
-      record { lines = w.0; tally = tally; judged = w.1; text_is = refl; ended = ap status_number c.status.ensures.known },
+      record {
+        lines = w.0;
+        tally = tally;
+        judged = w.1;
+        text_is = refl;
+        ended = ap status_number c.status.ensures.known;
+      },
       writes_more g.W.Write.contents c.args.output.now c.print_lines.new.output c.print_summary.new.output w.0
           (summary c.args.options tally) w.2 c.in_ok-print_summary.ensures.ok,
     )

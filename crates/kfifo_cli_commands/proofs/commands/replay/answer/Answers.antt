@@ -8,7 +8,8 @@ use Rattle.kfifo_cli_commands.proofs.commands.replay.answer.Goals as goal
 pub returns-in_err-scripts-clause-err : goal.returns-in_err-scripts-clause-err
 returns-in_err-scripts-clause-err g c =
     let refusal : IsReplayRefusal c.args.options c.in_err-scripts.field-0.0 =
-    script_refused c.args.options c.in_ok-shape.shape c.in_ok-shape.ensures.ok c.k.result c.k.ensures c.in_err-scripts.field-0.0
+    script_refused c.args.options c.in_ok-shape.shape c.in_ok-shape.ensures.ok c.k.result c.k.ensures
+    c.in_err-scripts.field-0.0
     c.in_err-scripts.ensures.fault in
     search (rules, refusal)
 
@@ -39,6 +40,8 @@ returns-clause-ok g c =
 pub returns-clause-err : goal.returns-clause-err
 returns-clause-err g c =
     let unplayed = rw (c.as_slice.ensures.value, c.as_slice-2.ensures.value) at c.played.ensures.err in
-    err_to _ _ (λ fault told. played_refused c.args.options c.in_ok-shape.shape c.in_ok-shape.ensures.ok c.k.result c.k.ensures
+    err_to _ _ (λ fault told. played_refused c.args.options c.in_ok-shape.shape c.in_ok-shape.ensures.ok c.k.result
+    c.k.ensures
     (map (λ script. script.items) c.in_ok-scripts.scripts.items)
-    c.in_ok-scripts.ensures.scripts c.in_ok-groups.groups.items c.in_ok-groups.ensures fault told) c.played.result unplayed
+    c.in_ok-scripts.ensures.scripts c.in_ok-groups.groups.items c.in_ok-groups.ensures fault told) c.played.result
+    unplayed

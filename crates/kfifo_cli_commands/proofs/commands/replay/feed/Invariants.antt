@@ -8,6 +8,7 @@ abbrev pub invariant-loop-group : goal.invariant-loop-group
 invariant-loop-group g l = record {
   most : l.replay.trace.most ≡ l.fn.replay.trace.most;
   count : l.made ≡ count_of (take l.group-index l.groups);
-  stands : (shape : Shape) (scripts : List (List Begin)) (earlier : List ℕ) → StandsFor shape scripts earlier l.fn.replay
+  stands : (shape : Shape) (scripts : List (List Begin)) (earlier : List ℕ)
+      → StandsFor shape scripts earlier l.fn.replay
       → StandsFor shape scripts (earlier ++ picks_of (take l.group-index l.groups)) l.replay;
 }

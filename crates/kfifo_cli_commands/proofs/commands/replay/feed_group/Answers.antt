@@ -34,5 +34,6 @@ returns-in-Err-clause-refused g c shape scripts earlier opened =
     let within : c.loop-fed.fed + c.min-piece.result ≤ c.args.group.count =
     omega (arith, room, c.min-piece.ensures, c.loop-fed.invariant.within) in
     rw c.behind.ensures
-    (piece_stops shape scripts earlier c.loop-fed.fed c.min-piece.result c.args.group.count c.args.group.thread c.in-Err.fault
+    (piece_stops shape scripts earlier c.loop-fed.fed c.min-piece.result c.args.group.count c.args.group.thread
+    c.in-Err.fault
     c.feed_many.new.self within (c.in-Err.ensures.refused shape scripts _ stands))

@@ -7,7 +7,8 @@ abbrev pub invariant-loop-fed : goal.invariant-loop-fed
 invariant-loop-fed g l = record {
   most : l.replay.trace.most ≡ l.fn.replay.trace.most;
   within : l.fed ≤ l.group.count;
-  stands : (shape : Shape) (scripts : List (List Begin)) (earlier : List ℕ) → StandsFor shape scripts earlier l.fn.replay
+  stands : (shape : Shape) (scripts : List (List Begin)) (earlier : List ℕ)
+      → StandsFor shape scripts earlier l.fn.replay
       → StandsFor shape scripts (earlier ++ replicate l.fed l.group.thread) l.replay;
 }
 

@@ -15,7 +15,8 @@ returns-then-is_traced-clause-ok g c =
     ok_to _ _ (λ text told. (
       played.0,
       played.1,
-      traced_text o.points o.stopped c.args.shape own played.0 (string_bytes text) o.record o.trace asked (told own played.0 played.2),
+      traced_text o.points o.stopped c.args.shape own played.0 (string_bytes text) o.record o.trace asked
+          (told own played.0 played.2),
     )) c.text_of.result c.text_of.ensures.ok
 
 pub returns-then-is_traced-clause-err : goal.returns-then-is_traced-clause-err

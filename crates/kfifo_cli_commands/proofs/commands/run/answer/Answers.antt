@@ -12,7 +12,8 @@ report_of-requires c = rw (c.as_slice.ensures.value, ← c.k.ensures)
 pub returns-in_err-calls-clause-err : goal.returns-in_err-calls-clause-err
 returns-in_err-calls-clause-err c =
     let refusal : IsRunRefusal c.args.options c.in_err-calls.field-0.0 =
-    word_refused c.args.options c.in_ok-shape.shape c.k.result c.in_err-calls.field-0.0 c.in_ok-shape.ensures.ok c.k.ensures
+    word_refused c.args.options c.in_ok-shape.shape c.k.result c.in_err-calls.field-0.0 c.in_ok-shape.ensures.ok
+    c.k.ensures
     c.in_err-calls.ensures.fault in
     search (rules, refusal)
 

@@ -10,8 +10,8 @@ loop-call-preserved c =
       same = (made.same.0 ∙ kept.same.0, made.same.1 ∙ kept.same.1, made.same.2 ∙ kept.same.2);
       answers = kept.answers ++ made.runs.0 ∷ [];
       lines = _;
-      runs = run_more c.args.queue.now.opened.shape c.args.calls.now c.loop-call.call-index _ kept.answers c.args.pass.now.seen
-          c.loop-call.pass.seen
+      runs = run_more c.args.queue.now.opened.shape c.args.calls.now c.loop-call.call-index _ kept.answers
+          c.args.pass.now.seen c.loop-call.pass.seen
           c.make_call.new.pass.seen kept.lines made.runs.0 c.loop-call-test.true kept.runs made.runs.1;
       text = behind _ _ _ kept.lines _ kept.text made.runs.2;
     }

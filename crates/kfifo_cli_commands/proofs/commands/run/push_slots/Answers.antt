@@ -11,9 +11,11 @@ loop-slot-preserved c =
     record {
       same = c.load.ensures.same ∙ kept.same;
       lines = λ world reached.
-          let worlds : found.0 ≡ world = one_world c.args.queue.now.opened.shape c.args.pass.now c.loop-slot.pass found.0 world kept.same
+          let worlds : found.0 ≡ world = one_world c.args.queue.now.opened.shape c.args.pass.now c.loop-slot.pass
+          found.0 world kept.same
           found.1 reached in
-          let word : c.of_bits-word.result ≡ word_at world (slot_at c.args.queue.now.opened.shape.k c.args.segment c.loop-slot.slot) =
+          let word : c.of_bits-word.result
+          ≡ word_at world (slot_at c.args.queue.now.opened.shape.k c.args.segment c.loop-slot.slot) =
           cc (c.of_bits-word.ensures, found.2, worlds, c.slot_index.ensures.value, c.shape-shape.ensures) in
           slot_more c.args.queue.now.opened.shape.k world c.args.segment c.loop-slot.slot c.of_bits-word.result _ _ _
           (kept.lines world reached) c.in_ok-push_slot.ensures word;

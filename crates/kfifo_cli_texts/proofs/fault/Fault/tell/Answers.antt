@@ -18,7 +18,8 @@ returns-then-not-tell g c =
     let b = c.write.new.self in
     let d = c.tell.new.faults in
     rw (← c.line.ensures)
-    (second_breaks C a b d (codes "kfifo: ") _ (codes "\n") (it_wrote C c.write.result a b _ (search rules) c.write.ensures)
+    (second_breaks C a b d (codes "kfifo: ") _ (codes "\n")
+    (it_wrote C c.write.result a b _ (search rules) c.write.ensures)
     (it_broke C c.tell.result b d _ (search rules) c.tell.ensures))
 
 pub returns : goal.returns
@@ -29,5 +30,6 @@ returns g c =
     let d = c.tell.new.faults in
     let e = c.write-2.new.self in
     rw (← c.line.ensures)
-    (third C c.write-2.result a b d e (codes "kfifo: ") _ (codes "\n") (it_wrote C c.write.result a b _ (search rules) c.write.ensures)
+    (third C c.write-2.result a b d e (codes "kfifo: ") _ (codes "\n")
+    (it_wrote C c.write.result a b _ (search rules) c.write.ensures)
     (it_wrote C c.tell.result b d _ (search rules) c.tell.ensures) c.write-2.ensures)

@@ -28,5 +28,6 @@ returns g c =
     let d = c.write_number.new.self in
     let e = c.write_number-2.new.self in
     rw (← c.as_bytes.ensures.value)
-    (third C c.write_number-2.result a b d e c.as_bytes.result.now _ _ (it_wrote C c.write.result a b _ (search rules) c.write.ensures)
+    (third C c.write_number-2.result a b d e c.as_bytes.result.now _ _
+    (it_wrote C c.write.result a b _ (search rules) c.write.ensures)
     (it_wrote C c.write_number.result b d _ (search rules) c.write_number.ensures) c.write_number-2.ensures)

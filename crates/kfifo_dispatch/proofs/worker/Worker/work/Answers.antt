@@ -17,8 +17,8 @@ loop-call-preserved g c =
     let after = g.P.Station.known c.take_once.new.self.pass in
     let same = c.take_once.ensures.same in
     record {
-      may = may_still c.args.queue.now before after c.loop-call.self.starts c.take_once.new.self.starts c.loop-call.self.turns
-          c.take_once.new.self.turns i.may same.0 same.1 same.2;
+      may = may_still c.args.queue.now before after c.loop-call.self.starts c.take_once.new.self.starts
+          c.loop-call.self.turns c.take_once.new.self.turns i.may same.0 same.1 same.2;
       same = same_trans (g.P.Station.known c.args.self.now.pass) before after i.same same.0;
       turns = same.2 ∙ i.turns;
       ends =
@@ -29,4 +29,5 @@ loop-call-preserved g c =
 pub returns-clause-works : goal.returns-clause-works
 returns-clause-works g c =
     let all : c.loop-call.call ≡ 65536 = omega (arith, c.loop-call.auto.call-end, c.loop-call-test.false) in
-    at_end (g.P.Station.passes c.args.gate.now) _ g.P.Station.takes g.P.Station.gives _ _ _ _ _ _ _ _ c.loop-call.invariant.ends all
+    at_end (g.P.Station.passes c.args.gate.now) _ g.P.Station.takes g.P.Station.gives _ _ _ _ _ _ _ _
+    c.loop-call.invariant.ends all

@@ -11,7 +11,8 @@ invariant-loop-call g l = record {
   same : IsSamePass (g.P.Station.known l.fn.self.pass) (g.P.Station.known l.self.pass);
   turns : l.self.turns ≡ l.fn.self.turns;
   ends : Ends (g.P.Station.passes l.gate)
-      (λ s. TellsOf (g.G.WorkGate.told l.gate) g.L.Tasks.tasks (g.P.Station.known s).thread) g.P.Station.takes g.P.Station.gives l.fn.self.turns 65536 l.fn.self.pass l.fn.self.starts l.call
+      (λ s. TellsOf (g.G.WorkGate.told l.gate) g.L.Tasks.tasks (g.P.Station.known s).thread) g.P.Station.takes
+      g.P.Station.gives l.fn.self.turns 65536 l.fn.self.pass l.fn.self.starts l.call
       l.self.pass l.self.starts
       (map (λ (d : JobView). d.place) l.kept.items);
 }

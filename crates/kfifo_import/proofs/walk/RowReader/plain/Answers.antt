@@ -11,7 +11,8 @@ returns-then-end-text c = record {
   within = c.plain_end-end.ensures.within;
   taken = λ more whole rest s.
       rw c.in_ok-extend_from_slice.ensures.items
-      (run_at _ _ _ _ _ _ c.args.text.now more whole rest c.args.at c.plain_end-end.result c.requires.inside c.plain_end-end.ensures.from
+      (run_at _ _ _ _ _ _ c.args.text.now more whole rest c.args.at c.plain_end-end.result c.requires.inside
+      c.plain_end-end.ensures.from
       c.requires.plain c.plain_end-end.ensures.plain s);
 }
 
@@ -27,7 +28,8 @@ returns c =
       within = omega (arith, within, c.if-end-text.false);
       taken = λ more whole rest s.
           let bytes = old.field.items ++ part text c.args.at end in
-          let run : StandsAt spots.Plain (fields_of old.row) (partial_of old.row) bytes old.line old.front whole rest (drop end text ++ more) =
+          let run : StandsAt spots.Plain (fields_of old.row) (partial_of old.row) bytes old.line old.front whole rest
+          (drop end text ++ more) =
           run_at _ _ _ _ _ _ text more whole rest c.args.at end c.requires.inside c.plain_end-end.ensures.from
           c.requires.plain c.plain_end-end.ensures.plain s in
           let here = rw (s.none, next_byte text more end (omega (arith, within, c.if-end-text.false))) at run in

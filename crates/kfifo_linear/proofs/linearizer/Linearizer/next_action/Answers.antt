@@ -19,7 +19,8 @@ pub of-requires-clause-word : goal.of-requires-clause-word
 of-requires-clause-word c =
     let index : c.index.result ≡ accessed (access c.self.inside.state.shape c.in-Some.running) =
     c.index.ensures ∙ ap accessed (c.access.ensures ∙ ap (λ s. access s c.in-Some.running) c.shape-shape.ensures) in
-    let word : c.of_bits.result ≡ word_at c.self.inside.state.world (accessed (access c.self.inside.state.shape c.in-Some.running)) =
+    let word : c.of_bits.result
+    ≡ word_at c.self.inside.state.world (accessed (access c.self.inside.state.shape c.in-Some.running)) =
     c.of_bits.ensures ∙ c.word-word.ensures ∙ ap (word_at c.self.inside.state.world) index in
     let f : Follower = follower c.self.inside.state.shape c.self.inside.state.world c.self.inside.notes in
     rw (c.shape-shape.ensures, word) (finds_ends c.self.inside.state.shape c.in-Some.running _
@@ -30,7 +31,8 @@ unfolding Rattle.kfifo_machine.specs.Machine.found
 returns-in-Some c =
     let index : c.index.result ≡ accessed (access c.self.inside.state.shape c.in-Some.running) =
     c.index.ensures ∙ ap accessed (c.access.ensures ∙ ap (λ s. access s c.in-Some.running) c.shape-shape.ensures) in
-    let word : c.of_bits.result ≡ word_at c.self.inside.state.world (accessed (access c.self.inside.state.shape c.in-Some.running)) =
+    let word : c.of_bits.result
+    ≡ word_at c.self.inside.state.world (accessed (access c.self.inside.state.shape c.in-Some.running)) =
     c.of_bits.ensures ∙ c.word-word.ensures ∙ ap (word_at c.self.inside.state.world) index in
     c.of.ensures ∙ ap (λ s. action s c.in-Some.running c.of_bits.result) c.shape-shape.ensures
     ∙ ap (action c.self.inside.state.shape c.in-Some.running) word

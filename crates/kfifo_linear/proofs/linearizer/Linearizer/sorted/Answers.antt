@@ -11,8 +11,10 @@ pub returns-clause-calls : goal.returns-clause-calls
 returns-clause-calls c threads room events h few =
     let f : Follower = follower c.self.inside.state.shape c.self.inside.state.world c.self.inside.notes in
     let moved : IsPermutation (points_below f.notes (length f.notes.calls)) c.sort_unstable.new.self.items =
-    subst (λ ps. IsPermutation ps c.sort_unstable.new.self.items) c.in_ok-points.ensures c.sort_unstable.ensures.permutation in
-    order_is f threads room events c.sort_unstable.new.self.items (subst (Follows threads room events) (sym c.self.view_is) h) few moved
+    subst (λ ps. IsPermutation ps c.sort_unstable.new.self.items) c.in_ok-points.ensures
+    c.sort_unstable.ensures.permutation in
+    order_is f threads room events c.sort_unstable.new.self.items
+    (subst (Follows threads room events) (sym c.self.view_is) h) few moved
     c.sort_unstable.ensures.sorted
     ∙ ap (λ (g : Follower). order_of g.shape threads events) c.self.view_is
 
@@ -20,7 +22,10 @@ pub returns-clause-points : goal.returns-clause-points
 returns-clause-points c threads room events h =
     let f : Follower = follower c.self.inside.state.shape c.self.inside.state.world c.self.inside.notes in
     let moved : IsPermutation (points_below f.notes (length f.notes.calls)) c.sort_unstable.new.self.items =
-    subst (λ ps. IsPermutation ps c.sort_unstable.new.self.items) c.in_ok-points.ensures c.sort_unstable.ensures.permutation in
-    points_follow f threads room events c.sort_unstable.new.self.items (subst (Follows threads room events) (sym c.self.view_is) h) moved
+    subst (λ ps. IsPermutation ps c.sort_unstable.new.self.items) c.in_ok-points.ensures
+    c.sort_unstable.ensures.permutation in
+    points_follow f threads room events c.sort_unstable.new.self.items
+    (subst (Follows threads room events) (sym c.self.view_is) h) moved
     c.sort_unstable.ensures.sorted
-    ∙ ap (λ (g : Follower). map (point (ledger_after_all g.shape threads events)) (numbers c.sort_unstable.new.self.items)) c.self.view_is
+    ∙ ap (λ (g : Follower). map (point (ledger_after_all g.shape threads events))
+    (numbers c.sort_unstable.new.self.items)) c.self.view_is

@@ -2,7 +2,7 @@ use Rattle.std.proofs.Common.{arith}
 use Rattle.std.proofs.lemmas.Bool.Decides.{nat_tests}
 use Rattle.kfifo_live.specs.Rounds.{dequeue_at}
 use Rattle.kfifo_machine.specs.declared.place.DequeuePhase.TheVariants as P
-use Rattle.kfifo_live.proofs.Whole.{comes, comes_by, goes_to}
+use Rattle.kfifo_live.proofs.CompleteExecutions.{comes, comes_by, goes_to}
 use Rattle.kfifo_live.proofs.dequeue.Dequeue.close_segment.Goals as goal
 
 pub returns-then-ne : goal.returns-then-ne
@@ -12,5 +12,5 @@ pub take-requires : goal.take-requires
 take-requires g c = goes_to c.requires c.move_tail.ensures (grind (arith, nat_tests))
 
 pub returns : goal.returns
-returns g c = comes_by (dequeue_at c.args.self (P.Take c.args.ends c.args.index c.args.filled)) c.requires c.move_tail.ensures
-    (grind (arith, nat_tests)) c.take.ensures
+returns g c = comes_by (dequeue_at c.args.self (P.Take c.args.ends c.args.index c.args.filled)) c.requires
+    c.move_tail.ensures (grind (arith, nat_tests)) c.take.ensures

@@ -1,6 +1,6 @@
 -- Each look at the put item begins where the one before it could not hold the head.
 use Rattle.std.proofs.Common.{arith}
-use Rattle.kfifo_live.proofs.Whole.{onward_here, onward_on}
+use Rattle.kfifo_live.proofs.CompleteExecutions.{onward_here, onward_on}
 use Rattle.kfifo_live.proofs.enqueue.Enqueue.keep.Goals as goal
 
 pub holds-init : goal.holds-init

@@ -2,7 +2,7 @@ use Rattle.std.proofs.Common.{arith, refl}
 use Rattle.std.proofs.lemmas.Bool.Decides.{nat_tests}
 use Rattle.kfifo_machine.specs.declared.place.EnqueuePhase.TheVariants as P
 use Rattle.kfifo_live.specs.Rounds.{enqueue_at}
-use Rattle.kfifo_live.proofs.Whole.{awaits, comes, comes_by, goes_to}
+use Rattle.kfifo_live.proofs.CompleteExecutions.{awaits, comes, comes_by, goes_to}
 use Rattle.kfifo_live.proofs.enqueue.Enqueue.leave_segment.Goals as goal
 
 pub returns-then-ne : goal.returns-then-ne
@@ -20,7 +20,8 @@ returns-then-version-last g c = comes c.requires c.load_ends.ensures (grind (ari
 
 pub move_tail-requires-clause-next : goal.move_tail-requires-clause-next
 move_tail-requires-clause-next g c = awaits
-    (goes_to {later = enqueue_at c.args.self (P.MoveTail c.args.ends)} c.requires c.load_ends.ensures (grind (arith, nat_tests))) refl
+    (goes_to {later = enqueue_at c.args.self (P.MoveTail c.args.ends)} c.requires c.load_ends.ensures
+    (grind (arith, nat_tests))) refl
 
 pub returns : goal.returns
 returns g c =

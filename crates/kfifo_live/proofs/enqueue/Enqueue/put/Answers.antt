@@ -2,7 +2,7 @@ use Rattle.std.proofs.Common.{arith}
 use Rattle.std.proofs.lemmas.Bool.Decides.{nat_tests}
 use Rattle.kfifo_live.specs.Rounds.{enqueue_at}
 use Rattle.kfifo_machine.specs.declared.place.EnqueuePhase.TheVariants as P
-use Rattle.kfifo_live.proofs.Whole.{comes, comes_by, goes_to}
+use Rattle.kfifo_live.proofs.CompleteExecutions.{comes, comes_by, goes_to}
 use Rattle.kfifo_live.proofs.enqueue.Enqueue.put.Goals as goal
 
 pub returns-then-ne-clause-comes : goal.returns-then-ne-clause-comes
@@ -12,5 +12,6 @@ pub keep-requires : goal.keep-requires
 keep-requires g c = goes_to c.requires c.compare_exchange.ensures (grind (arith, nat_tests))
 
 pub returns-clause-comes : goal.returns-clause-comes
-returns-clause-comes g c = comes_by (enqueue_at c.args.self (P.ReloadSlot c.args.ends c.args.index c.pack-filled.result)) c.requires
+returns-clause-comes g c =
+    comes_by (enqueue_at c.args.self (P.ReloadSlot c.args.ends c.args.index c.pack-filled.result)) c.requires
     c.compare_exchange.ensures (grind (arith, nat_tests)) c.keep.ensures.comes

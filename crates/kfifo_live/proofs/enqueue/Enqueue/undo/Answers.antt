@@ -1,6 +1,6 @@
 use Rattle.std.proofs.Common.{arith}
 use Rattle.std.proofs.lemmas.Bool.Decides.{nat_tests}
-use Rattle.kfifo_live.proofs.Whole.{comes}
+use Rattle.kfifo_live.proofs.CompleteExecutions.{comes}
 use Rattle.kfifo_live.proofs.enqueue.Enqueue.undo.Goals as goal
 
 pub returns-then-ne : goal.returns-then-ne

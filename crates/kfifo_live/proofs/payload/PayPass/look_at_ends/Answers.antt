@@ -6,7 +6,7 @@ use Rattle.kfifo_live.specs.Pass.{Finds, pass_view}
 use Rattle.kfifo_live.specs.Payloads.{PayPassView, pay_pass_view}
 use Rattle.kfifo_live.specs.Seals.{KeepsTokens}
 use Rattle.kfifo_live.proofs.Passes.{finds}
-use Rattle.kfifo_live.proofs.Pays.{pay_hand, pay_pass}
+use Rattle.kfifo_live.proofs.TokenMoves.{pay_hand, pay_pass}
 use Rattle.kfifo_live.proofs.PaySeals.{looked_hand, looked_keeps}
 use Rattle.kfifo_live.proofs.payload.PayPass.look_at_ends.Goals as goal
 
@@ -24,12 +24,15 @@ returns g c =
     record {
       same = (
         c.observe.ensures.same.0 ∙ ap (λ (k : PayPassView g.row.T.Denot). k.pass.table) was,
-        ap (λ (v : View g.row.T.Denot). v.opened) looks.afterwards ∙ ap (λ (k : PayPassView g.row.T.Denot). k.pass.opened) was,
+        ap (λ (v : View g.row.T.Denot). v.opened) looks.afterwards
+            ∙ ap (λ (k : PayPassView g.row.T.Denot). k.pass.opened) was,
         ap (λ (k : PayPassView g.row.T.Denot). k.pass.thread) was,
       );
       finds =
-          subst (λ (k : PayPassView g.row.T.Denot). Finds k.pass (pass_view now.table_id thread now.me.0) ENDS_INDEX c.of_bits.result) was
-          (subst (λ w. Finds (pass_view c.self.inside.seat.table_id thread c.self.inside.seat.me.0) (pass_view now.table_id thread now.me.0)
+          subst (λ (k : PayPassView g.row.T.Denot). Finds k.pass (pass_view now.table_id thread now.me.0) ENDS_INDEX
+          c.of_bits.result) was
+          (subst (λ w. Finds (pass_view c.self.inside.seat.table_id thread c.self.inside.seat.me.0)
+          (pass_view now.table_id thread now.me.0)
           ENDS_INDEX w) (sym c.of_bits.ensures)
           (finds _ _ thread ENDS_INDEX c.observe.result c.self.inside.seat.me now.me c.self.invariant.pass looks));
       keeps = subst (λ (k : PayPassView g.row.T.Denot). KeepsTokens k (pay_pass_view now.table_id thread now.me.0)) was

@@ -8,11 +8,13 @@ use Rattle.kfifo_live.specs.InHand.{pass_in}
 use Rattle.kfifo_live.specs.Schedule.{gifts_of, hand_of, seen_of, with_seen}
 use Rattle.kfifo_live.specs.Payloads.{PayPassView, TakesOut, TookWhatWasPut, pay_pass_view}
 use Rattle.kfifo_live.proofs.Passes.{promised}
-use Rattle.kfifo_live.proofs.Pays.{dequeues_as, laid, one_payload, pay_hand, pay_pass, same_pass, slot_held, taken_payload, took_as, with_slot}
+use Rattle.kfifo_live.proofs.TokenMoves.{dequeues_as, laid, one_payload, pay_hand, pay_pass, same_pass, slot_held}
+use Rattle.kfifo_live.proofs.TokenMoves.{taken_payload, took_as, with_slot}
 use Rattle.kfifo_live.proofs.payload.PayPass.take.Goals as goal
 
 pub empty_slot-payload-requires-clause-token : goal.empty_slot-payload-requires-clause-token
-empty_slot-payload-requires-clause-token g c = ((c.in-Got.ensures.gets _ _ (pay_hand c.self.invariant)).taken c.in-Got.token refl).0
+empty_slot-payload-requires-clause-token g c =
+    ((c.in-Got.ensures.gets _ _ (pay_hand c.self.invariant)).taken c.in-Got.token refl).0
 
 pub empty_slot-payload-requires-clause-holds : goal.empty_slot-payload-requires-clause-holds
 empty_slot-payload-requires-clause-holds g c =
@@ -48,8 +50,10 @@ invariant_of-self g c =
     let empty = c.empty_slot-payload.ensures in
     let emptied = with_slot None (did.taken c.in-Got.token refl).0 did.hand empty.same.1 empty.holds in
     let k = c.keep_token.ensures in
-    let opened = ap (λ (v : View g.row.T.Denot). v.opened) k.laid.0 ∙ ap (λ (v : View g.row.T.Denot). v.opened) empty.same.1 ∙ did.opened in
-    pay_pass c.self.invariant (laid (c.in-Got.token ∷ (hand_of c.empty_slot-payload.new.seat.me.0).at_home) emptied k.laid.0 k.laid.1) opened
+    let opened = ap (λ (v : View g.row.T.Denot). v.opened) k.laid.0
+    ∙ ap (λ (v : View g.row.T.Denot). v.opened) empty.same.1 ∙ did.opened in
+    pay_pass c.self.invariant (laid (c.in-Got.token ∷ (hand_of c.empty_slot-payload.new.seat.me.0).at_home) emptied
+    k.laid.0 k.laid.1) opened
     (ap (λ xs. c.in-Got.token ∷ xs) emptied.at_home
     ∙ sym (ap reverse k.stacked ∙ reverse-append c.self.inside.at_home.items (c.in-Got.token ∷ []))) k.same.1
 
@@ -58,8 +62,10 @@ returns-in-Got-clause-same g c =
     let did = c.in-Got.ensures.gets _ _ (pay_hand c.self.invariant) in
     let empty = c.empty_slot-payload.ensures in
     let k = c.keep_token.ensures in
-    let opened = ap (λ (v : View g.row.T.Denot). v.opened) k.laid.0 ∙ ap (λ (v : View g.row.T.Denot). v.opened) empty.same.1 ∙ did.opened in (
-      k.same.0 ∙ empty.same.0 ∙ c.dequeue_token.ensures.same ∙ ap (λ (k : PayPassView g.row.T.Denot). k.pass.table) c.self.view_is,
+    let opened = ap (λ (v : View g.row.T.Denot). v.opened) k.laid.0
+    ∙ ap (λ (v : View g.row.T.Denot). v.opened) empty.same.1 ∙ did.opened in (
+      k.same.0 ∙ empty.same.0 ∙ c.dequeue_token.ensures.same ∙ ap (λ (k : PayPassView g.row.T.Denot). k.pass.table)
+          c.self.view_is,
       opened ∙ ap (λ (k : PayPassView g.row.T.Denot). k.pass.opened) c.self.view_is,
       ap (λ (k : PayPassView g.row.T.Denot). k.pass.thread) c.self.view_is,
     )
@@ -74,15 +80,25 @@ returns-in-Got-clause-takes g c =
     let found = taken_payload did c.self.invariant.with_payloads in
     let is = found.1 ∙ ap Some (one_payload (c.in-Got.token - 1) found.0 c.empty_slot-payload.result
     (slot_held taken.0 did.hand ∙ ap (λ x. (c.in-Got.token - 1, x) ∷ []) found.1) empty.payload) in
-    let hand : Hand g.row.T.Denot = record { at_home = c.in-Got.token ∷ (hand_of c.empty_slot-payload.new.seat.me.0).at_home; out = 0; payload = None } in
-    let same = same_pass c.self.inside.thread c.dequeue_token.new.seat c.keep_token.new.seat {hand = hand} (k.same.0 ∙ empty.same.0)
+    let hand : Hand g.row.T.Denot =
+    record {
+      at_home = c.in-Got.token ∷ (hand_of c.empty_slot-payload.new.seat.me.0).at_home;
+      out = 0;
+      payload = None;
+    } in
+    let same = same_pass c.self.inside.thread c.dequeue_token.new.seat c.keep_token.new.seat {hand = hand}
+    (k.same.0 ∙ empty.same.0)
     (k.laid.0 ∙ (λ i. with_seen (empty.same.1 i) (seen_of (empty.same.1 i)) (gifts_of (empty.same.1 i)) hand)) in
     let view = pay_pass_view c.keep_token.new.seat.table_id c.self.inside.thread c.keep_token.new.seat.me.0 in
-    subst (λ (x : PayPassView g.row.T.Denot). TakesOut c.args.start c.args.turns (K.Got c.empty_slot-payload.result) x view) c.self.view_is (
+    subst (λ (x : PayPassView g.row.T.Denot). TakesOut c.args.start c.args.turns (K.Got c.empty_slot-payload.result) x
+    view) c.self.view_is (
       c.in-Got.token,
-      ap (λ (v : View g.row.T.Denot). (hand_of v).at_home) k.laid.0 ∙ ap (λ xs. c.in-Got.token ∷ xs) (emptied.at_home ∙ sym c.self.invariant.stacked),
+      ap (λ (v : View g.row.T.Denot). (hand_of v).at_home) k.laid.0
+          ∙ ap (λ xs. c.in-Got.token ∷ xs) (emptied.at_home ∙ sym c.self.invariant.stacked),
       ap (beside c.in-Got.token) same.1 ∙ taken.2 ∙ is,
-      took_as same.0 same.1 (subst (λ x. TookWhatWasPut c.in-Got.token x (pass_in c.self.inside.thread c.dequeue_token.new.seat)) is taken.3),
+      took_as same.0 same.1
+          (subst (λ x. TookWhatWasPut c.in-Got.token x (pass_in c.self.inside.thread c.dequeue_token.new.seat)) is
+          taken.3),
       dequeues_as (refl, same.0) (refl, same.1) did.dequeue,
     )
 
@@ -104,7 +120,8 @@ returns-in-Empty g c =
         did.opened ∙ ap (λ (k : PayPassView g.row.T.Denot). k.pass.opened) c.self.view_is,
         ap (λ (k : PayPassView g.row.T.Denot). k.pass.thread) c.self.view_is,
       );
-      takes = subst (λ (x : PayPassView g.row.T.Denot). TakesOut c.args.start c.args.turns K.Empty x view) c.self.view_is
+      takes = subst (λ (x : PayPassView g.row.T.Denot). TakesOut c.args.start c.args.turns K.Empty x view)
+          c.self.view_is
           (did.hand.at_home ∙ sym c.self.invariant.stacked, dequeues_as (refl, refl) (refl, refl) did.dequeue);
       promise = promised _ c.dequeue_token.new.seat.me (invariant_of-self-in-Empty g c).pass;
     }

@@ -6,7 +6,8 @@ use Rattle.kfifo_live.proofs.payload.PayPass.take_or_seal.Goals as goal
 pub seal_from-requires-clause-seen : goal.seal_from-requires-clause-seen
 seal_from-requires-clause-seen g c =
     let look = c.look_at_ends-ends.ensures in
-    was_seen c.args.self.now c.look_at_ends-ends.new.self c.take.new.self c.args.start c.args.turns look.same look.finds look.keeps c.in-Empty.ensures.takes.1
+    was_seen c.args.self.now c.look_at_ends-ends.new.self c.take.new.self c.args.start c.args.turns look.same look.finds
+    look.keeps c.in-Empty.ensures.takes.1
     c.take.ensures.same
 
 pub returns-then-seal_from : goal.returns-then-seal_from
@@ -17,14 +18,16 @@ returns-then-seal_from g c =
     let later = c.seal_from.ensures.same in
     record {
       same = same_since c.args.self.now.pass c.look_at_ends-ends.new.self.pass c.seal_from.new.self.pass look.same
-          (same_since c.look_at_ends-ends.new.self.pass c.take.new.self.pass c.seal_from.new.self.pass c.take.ensures.same later);
+          (same_since c.look_at_ends-ends.new.self.pass c.take.new.self.pass c.seal_from.new.self.pass
+          c.take.ensures.same later);
       takes = (
         c.take.new.self,
-        takes_since c.args.self.now c.look_at_ends-ends.new.self c.take.new.self c.args.start c.args.turns look.same look.finds look.keeps K.Empty takes,
+        takes_since c.args.self.now c.look_at_ends-ends.new.self c.take.new.self c.args.start c.args.turns look.same
+            look.finds look.keeps K.Empty takes,
         record { ends = c.look_at_ends-ends.result; seal = seal; keeps = c.seal_from.ensures.keeps },
       );
-      sealed = λ _. sealed_since c.args.self.now c.look_at_ends-ends.new.self c.take.new.self c.args.start c.args.turns look.same look.finds look.keeps
-          c.seal_from.new.self takes.1 c.take.ensures.same later seal;
+      sealed = λ _. sealed_since c.args.self.now c.look_at_ends-ends.new.self c.take.new.self c.args.start c.args.turns
+          look.same look.finds look.keeps c.seal_from.new.self takes.1 c.take.ensures.same later seal;
       promise = c.seal_from.ensures.promise;
     }
 
@@ -34,11 +37,14 @@ returns-else-seal_from g c =
     let takes = c.in-Empty.ensures.takes in
     record {
       same = same_since c.args.self.now.pass c.look_at_ends-ends.new.self.pass c.seal_from.new.self.pass look.same
-          (same_since c.look_at_ends-ends.new.self.pass c.take.new.self.pass c.seal_from.new.self.pass c.take.ensures.same c.seal_from.ensures.same);
+          (same_since c.look_at_ends-ends.new.self.pass c.take.new.self.pass c.seal_from.new.self.pass
+          c.take.ensures.same c.seal_from.ensures.same);
       takes = (
         c.take.new.self,
-        takes_since c.args.self.now c.look_at_ends-ends.new.self c.take.new.self c.args.start c.args.turns look.same look.finds look.keeps K.Empty takes,
-        open_since c.args.self.now c.look_at_ends-ends.new.self c.take.new.self c.args.start c.args.turns look.same look.finds look.keeps c.seal_from.new.self takes.1
+        takes_since c.args.self.now c.look_at_ends-ends.new.self c.take.new.self c.args.start c.args.turns look.same
+            look.finds look.keeps K.Empty takes,
+        open_since c.args.self.now c.look_at_ends-ends.new.self c.take.new.self c.args.start c.args.turns look.same
+            look.finds look.keeps c.seal_from.new.self takes.1
             (c.seal_from.ensures.«open» c.if-seal_from.false) c.seal_from.ensures.keeps,
       );
       sealed = λ e. absurd (cc);
@@ -49,8 +55,10 @@ pub returns-in-Got : goal.returns-in-Got
 returns-in-Got g c =
     let look = c.look_at_ends-ends.ensures in
     record {
-      same = same_since c.args.self.now.pass c.look_at_ends-ends.new.self.pass c.take.new.self.pass look.same c.take.ensures.same;
-      takes = takes_since c.args.self.now c.look_at_ends-ends.new.self c.take.new.self c.args.start c.args.turns look.same look.finds look.keeps (K.Got c.in-Got.payload) c.in-Got.ensures.takes;
+      same = same_since c.args.self.now.pass c.look_at_ends-ends.new.self.pass c.take.new.self.pass look.same
+          c.take.ensures.same;
+      takes = takes_since c.args.self.now c.look_at_ends-ends.new.self c.take.new.self c.args.start c.args.turns
+          look.same look.finds look.keeps (K.Got c.in-Got.payload) c.in-Got.ensures.takes;
       sealed = λ e. absurd (cc);
       promise = c.take.ensures.promise;
     }
@@ -59,8 +67,10 @@ pub returns-in-Busy : goal.returns-in-Busy
 returns-in-Busy g c =
     let look = c.look_at_ends-ends.ensures in
     record {
-      same = same_since c.args.self.now.pass c.look_at_ends-ends.new.self.pass c.take.new.self.pass look.same c.take.ensures.same;
-      takes = takes_since c.args.self.now c.look_at_ends-ends.new.self c.take.new.self c.args.start c.args.turns look.same look.finds look.keeps K.Busy c.in-Busy.ensures.takes;
+      same = same_since c.args.self.now.pass c.look_at_ends-ends.new.self.pass c.take.new.self.pass look.same
+          c.take.ensures.same;
+      takes = takes_since c.args.self.now c.look_at_ends-ends.new.self c.take.new.self c.args.start c.args.turns
+          look.same look.finds look.keeps K.Busy c.in-Busy.ensures.takes;
       sealed = λ e. absurd (cc);
       promise = c.take.ensures.promise;
     }
@@ -69,8 +79,10 @@ pub returns-in-Worn : goal.returns-in-Worn
 returns-in-Worn g c =
     let look = c.look_at_ends-ends.ensures in
     record {
-      same = same_since c.args.self.now.pass c.look_at_ends-ends.new.self.pass c.take.new.self.pass look.same c.take.ensures.same;
-      takes = takes_since c.args.self.now c.look_at_ends-ends.new.self c.take.new.self c.args.start c.args.turns look.same look.finds look.keeps K.Worn c.in-Worn.ensures.takes;
+      same = same_since c.args.self.now.pass c.look_at_ends-ends.new.self.pass c.take.new.self.pass look.same
+          c.take.ensures.same;
+      takes = takes_since c.args.self.now c.look_at_ends-ends.new.self c.take.new.self c.args.start c.args.turns
+          look.same look.finds look.keeps K.Worn c.in-Worn.ensures.takes;
       sealed = λ e. absurd (cc);
       promise = c.take.ensures.promise;
     }

@@ -3,7 +3,7 @@ use Rattle.kfifo_live.specs.Payloads.{GivesOn, PayPassView, IsPayPass, pay_pass_
 use Rattle.kfifo_live.specs.Schedule.{both_parts}
 use Rattle.kfifo_live.proofs.Types.{View}
 use Rattle.kfifo_live.proofs.Passes.{returned, promised}
-use Rattle.kfifo_live.proofs.Pays.{met_pass, met_gives, met_gives_from}
+use Rattle.kfifo_live.proofs.TokenMoves.{met_pass, met_gives, met_gives_from}
 use Rattle.kfifo_live.proofs.payload.PayQueue.meet.Goals as goal
 
 pub invariant_of-second : goal.invariant_of-second
@@ -29,7 +29,8 @@ returns-clause-first g c =
     (c.join_seats.ensures.both ∙ ap (both_parts c.second.inside.seat.me.0) lent) c.observe.ensures.looks.afterwards
     c.give_rest-rest.ensures.given.1 (c.join_seats-2.ensures.both
     ∙ ap (λ (v : View g.row.T.Denot). both_parts v c.give_rest-rest.result.me.0) c.give_all-whole.ensures.kept) in
-    (λ i. pay_pass_view ((c.join_seats-2.ensures.same.0 ∙ c.give_all-whole.ensures.same.0) i) c.first.inside.thread (back i))
+    (λ i. pay_pass_view ((c.join_seats-2.ensures.same.0 ∙ c.give_all-whole.ensures.same.0) i) c.first.inside.thread
+    (back i))
     ∙ c.first.view_is
 
 pub returns-clause-promise : goal.returns-clause-promise
@@ -46,7 +47,8 @@ returns-clause-gifts g c =
     let kept = c.give_rest-rest.ensures.kept in
     let now = pay_pass_view c.give_rest-rest.new.seat.table_id c.second.inside.thread c.give_rest-rest.new.seat.me.0 in
     let P : PayPassView g.row.T.Denot → Type 0 = λ old. GivesOn old now in (
-      subst P c.first.view_is (met_gives_from c.give_all-whole.result.me.0 c.second.invariant slots both looks kept c.first.inside.thread
+      subst P c.first.view_is (met_gives_from c.give_all-whole.result.me.0 c.second.invariant slots both looks kept
+          c.first.inside.thread
           c.first.inside.seat.me c.first.invariant.pass.alone c.give_all-whole.ensures.given.1 _ _),
       subst P c.second.view_is (met_gives c.give_all-whole.result.me.0 c.second.invariant slots both looks kept _ _),
     )

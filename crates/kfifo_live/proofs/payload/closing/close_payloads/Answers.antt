@@ -27,8 +27,10 @@ pick_payloads-requires g c =
     let tokens : c.as_slice-2.result.now ≡ items_left q.opened.shape words =
     c.as_slice-2.ensures.value ∙ c.in_ok-tokens.ensures
     ∙ (λ i. items_left (c.requires.key i) ((c.as_slice.ensures.value ∙ c.in_ok-words.ensures) i)) in
-    subst (λ (x : List (Option g.row.T.Denot) × List ℕ). HavePayloads x.0 x.1) (λ i. (sym c.empty_slots-slots.ensures i, sym tokens i))
-    (left_payloads q c.pass.inside.seat.table_id slots c.args.others.items c.pass.invariant same c.join_all-seat.ensures.all
+    subst (λ (x : List (Option g.row.T.Denot) × List ℕ). HavePayloads x.0 x.1)
+    (λ i. (sym c.empty_slots-slots.ensures i, sym tokens i))
+    (left_payloads q c.pass.inside.seat.table_id slots c.args.others.items c.pass.invariant same
+    c.join_all-seat.ensures.all
     c.close_with-closed.ensures.values.2)
 
 pub returns-clause-ok : goal.returns-clause-ok
@@ -42,6 +44,8 @@ returns-clause-ok g c =
     c.as_slice-2.ensures.value ∙ c.in_ok-tokens.ensures
     ∙ (λ i. items_left (c.requires.key i) ((c.as_slice.ensures.value ∙ c.in_ok-words.ensures) i)) in
     let are = c.in_ok-payloads.ensures ∙ (λ i. map (in_slot (c.empty_slots-slots.ensures i)) (tokens i)) in
-    subst (λ (k : PayPassView g.row.T.Denot). PayCloses q k c.args.others.items c.in_ok-payloads.payloads.items) c.pass.view_is
-    (pay_closes q c.pass.inside.seat.table_id slots c.args.others.items c.pass.invariant same c.join_all-seat.ensures.all
+    subst (λ (k : PayPassView g.row.T.Denot). PayCloses q k c.args.others.items c.in_ok-payloads.payloads.items)
+    c.pass.view_is
+    (pay_closes q c.pass.inside.seat.table_id slots c.args.others.items c.pass.invariant same
+    c.join_all-seat.ensures.all
     c.close_with-closed.ensures.values.2 c.in_ok-payloads.payloads.items are)

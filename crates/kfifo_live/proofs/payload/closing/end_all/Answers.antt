@@ -12,7 +12,8 @@ loop-pass-preserved g c =
           (λ i. c.in_ok-push.ensures.items i ++ rest)
           ∙ (λ i. (c.loop-pass.ended.items ++ c.into_ended.ensures i ∷ []) ++ rest)
           ∙ append_assoc c.loop-pass.ended.items (c.in-Some.pass ∷ []) rest
-          ∙ ap (λ (ps : List (PayPassView g.row.T.Denot)). c.loop-pass.ended.items ++ ps) (sym c.in-Some.ensures.steps.0)
+          ∙ ap (λ (ps : List (PayPassView g.row.T.Denot)). c.loop-pass.ended.items ++ ps)
+          (sym c.in-Some.ensures.steps.0)
           ∙ c.loop-pass.invariant.made;
     }
 

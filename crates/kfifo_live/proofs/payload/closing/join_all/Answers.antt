@@ -12,15 +12,19 @@ use Rattle.kfifo_live.proofs.payload.closing.join_all.Goals as goal
 
 pub join_seats-requires-clause-other : goal.join_seats-requires-clause-other
 join_seats-requires-clause-other g c =
-    let of = All-pop (λ (p : PayPassView g.row.T.Denot). IsPassOf (queue_of c.args.seat.table_id c.args.seat.me.0.opened) p.pass) _ _
-    (Some c.in-Some.pass) c.in-Some.ensures.items c.loop-pass.invariant.all_of in
-    (ap (λ (k : PayPassView g.row.T.Denot). k.pass.table) c.pass.view_is ∙ of.1.0 ∙ c.requires.table.0, c.pass.invariant.0.held)
+    let of = All-pop
+    (λ (p : PayPassView g.row.T.Denot). IsPassOf (queue_of c.args.seat.table_id c.args.seat.me.0.opened) p.pass) _ _
+    (Some c.in-Some.pass) c.in-Some.ensures.items c.loop-pass.invariant.all_of in (
+      ap (λ (k : PayPassView g.row.T.Denot). k.pass.table) c.pass.view_is ∙ of.1.0 ∙ c.requires.table.0,
+      c.pass.invariant.0.held,
+    )
 
 pub loop-pass-preserved : goal.loop-pass-preserved
 loop-pass-preserved g c =
     let i = c.loop-pass.invariant in
     let items = c.in-Some.ensures.items in
-    let of = All-pop (λ (p : PayPassView g.row.T.Denot). IsPassOf (queue_of c.args.seat.table_id c.args.seat.me.0.opened) p.pass) _ _
+    let of = All-pop
+    (λ (p : PayPassView g.row.T.Denot). IsPassOf (queue_of c.args.seat.table_id c.args.seat.me.0.opened) p.pass) _ _
     (Some c.in-Some.pass) items i.all_of in
     let both = c.join_seats.ensures.both in record {
       table = c.join_seats.ensures.same.0 ∙ i.table;
@@ -43,7 +47,8 @@ loop-pass-preserved g c =
           (ap (λ (k : PayPassView g.row.T.Denot). k.pass.opened) c.pass.view_is ∙ of.1.1)
           (sym (ap (λ (k : PayPassView g.row.T.Denot). k.pass.thread) c.pass.view_is))
           (sym (ap (λ (k : PayPassView g.row.T.Denot). k.pass.seen) c.pass.view_is)) in
-          i.idle (subst (λ (ps : List (PayPassView g.row.T.Denot)). AllIdle o (passes_of ps)) (sym items) (pays_idle_push o _ _ others mine));
+          i.idle (subst (λ (ps : List (PayPassView g.row.T.Denot)). AllIdle o (passes_of ps)) (sym items)
+          (pays_idle_push o _ _ others mine));
     }
 
 pub returns-clause-all : goal.returns-clause-all
@@ -52,5 +57,7 @@ returns-clause-all g c =
     let none : c.loop-pass.passes.items ≡ [] = search rules in record {
       opened = i.opened;
       all_end = λ all gifts b h. i.covers all gifts b h (subst (AllByRecursion (EndsIn all gifts)) (sym none) tt);
-      all_idle = i.idle (subst (λ (ps : List (PayPassView g.row.T.Denot)). AllIdle c.args.seat.me.0.opened (passes_of ps)) (sym none) tt);
+      all_idle = i.idle
+          (subst (λ (ps : List (PayPassView g.row.T.Denot)). AllIdle c.args.seat.me.0.opened (passes_of ps))
+          (sym none) tt);
     }

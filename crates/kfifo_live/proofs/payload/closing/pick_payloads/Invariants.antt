@@ -8,5 +8,6 @@ invariant-loop-token g l = record {
   room : length l.tokens ≤ vec_capacity l.payloads;
   size : length l.payloads.items ≡ l.token-index;
   have : HavePayloads l.slots.items (drop l.token-index l.tokens);
-  picked : map Some l.payloads.items ++ map (in_slot l.slots.items) (drop l.token-index l.tokens) ≡ map (in_slot l.fn.slots.items) l.tokens;
+  picked : map Some l.payloads.items ++ map (in_slot l.slots.items) (drop l.token-index l.tokens)
+      ≡ map (in_slot l.fn.slots.items) l.tokens;
 }

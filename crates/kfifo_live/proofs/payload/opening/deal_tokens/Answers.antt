@@ -4,13 +4,14 @@ use Rattle.kfifo_live.specs.Schedule.{GiftsFit, seen_of, gifts_of, hand_of, coun
 use Rattle.kfifo_live.specs.Pass.{queue_of}
 use Rattle.kfifo_live.specs.Payloads.{pay_pass_view}
 use Rattle.kfifo_live.proofs.NewPasses.{new_pass, cut_first}
-use Rattle.kfifo_live.proofs.Pays.{few_in_all, new_pay_passes-snoc}
+use Rattle.kfifo_live.proofs.TokenMoves.{few_in_all, new_pay_passes-snoc}
 use Rattle.kfifo_live.proofs.payload.opening.deal_tokens.Goals as goal
 
 pub give_rest-rest-requires-clause-some : goal.give_rest-rest-requires-clause-some
 give_rest-rest-requires-clause-some g c =
     let v = c.loop-thread.seat.me.0 in
-    let cut = cut_first _ _ _ v (first_part v) (other_parts v) c.loop-thread-test.true c.loop-thread.invariant.view refl refl in
+    let cut = cut_first _ _ _ v (first_part v) (other_parts v) c.loop-thread-test.true c.loop-thread.invariant.view refl
+    refl in
     let some = cut.2 in
     omega (arith, some)
 
@@ -35,7 +36,8 @@ invariant_of-push g c =
       stacked = ap (λ (v : View g.row.T.Denot). (hand_of v).at_home) cut.0
           ∙ ap (λ n. count_up (c.loop-thread.thread * n + 1) n) c.requires.opened.1 ∙ sym mine.0;
       some_tokens = subst (λ n. 0 < n) (sym tokens) c.requires.few.1;
-      few_tokens = subst (λ n. n ≤ 65536) (sym all) (few_in_all c.args.threads c.args.tokens few_threads c.requires.few.2);
+      few_tokens =
+          subst (λ n. n ≤ 65536) (sym all) (few_in_all c.args.threads c.args.tokens few_threads c.requires.few.2);
       has_room = omega (arith, all, room);
       with_payloads = ap (λ (x : Opening). x.bare) opened ∙ c.requires.bare;
       in_turn = subst (λ (v : View g.row.T.Denot). GiftsFit v.opened (seen_of v) (gifts_of v)) (sym cut.0)

@@ -1,5 +1,5 @@
-use Rattle.std.proofs.Common.{◌≡◌, ℕ, suc, ◌+◌, ◌-◌, ◌*◌, ◌<◌, ◌≤◌, [], ◌∷◌, length, reverse, ap, ◌∙◌, arith, rules, suc-mul}
-use Rattle.std.proofs.Common.{mul-le-mul_right}
+use Rattle.std.proofs.Common.{◌≡◌, ℕ, suc, ◌+◌, ◌-◌, ◌*◌, ◌<◌, ◌≤◌, [], ◌∷◌, length, reverse, ap, ◌∙◌, arith, rules}
+use Rattle.std.proofs.Common.{suc-mul, mul-le-mul_right}
 use Rattle.std.proofs.lemmas.List.{reverse-append, length-append}
 use Rattle.kfifo_live.specs.Schedule.{count_up}
 use Rattle.kfifo_live.proofs.payload.opening.own_tokens.Goals as goal
@@ -40,7 +40,8 @@ loop-index-preserved c =
           ∙ ap (λ (x : ℕ × ℕ). x.0 ∷ count_up x.1 c.loop-index.index)
           (λ k. (
             (let e : last - c.loop-index.index ≡ last - (c.loop-index.index + 1) + 1 = omega (arith, below) in e) k,
-            (let e : last - c.loop-index.index + 1 ≡ suc (last - (c.loop-index.index + 1) + 1) = omega (arith, below) in e) k,
+            (let e : last - c.loop-index.index + 1 ≡ suc (last - (c.loop-index.index + 1) + 1) =
+                omega (arith, below) in e) k,
           ))
           ∙ ap (count_up (last - (c.loop-index.index + 1) + 1))
           (let e : suc c.loop-index.index ≡ c.loop-index.index + 1 = omega arith in e);
@@ -58,5 +59,9 @@ returns c =
     let more : (c.args.thread + 1) * c.args.tokens ≡ c.args.thread * c.args.tokens + c.args.tokens =
     ap (λ n. n * c.args.tokens) (let e : c.args.thread + 1 ≡ suc c.args.thread = omega arith in e)
     ∙ (let s = suc-mul c.args.thread c.args.tokens in omega (arith, s)) in
-    let first : (c.args.thread + 1) * c.args.tokens - c.args.tokens + 1 ≡ c.args.thread * c.args.tokens + 1 = omega (arith, more) in
-    (i.stacked ∙ ap (λ n. count_up ((c.args.thread + 1) * c.args.tokens - n + 1) n) all ∙ ap (λ n. count_up n c.args.tokens) first, i.room)
+    let first : (c.args.thread + 1) * c.args.tokens - c.args.tokens + 1 ≡ c.args.thread * c.args.tokens + 1 =
+    omega (arith, more) in (
+      i.stacked ∙ ap (λ n. count_up ((c.args.thread + 1) * c.args.tokens - n + 1) n) all
+          ∙ ap (λ n. count_up n c.args.tokens) first,
+      i.room,
+    )

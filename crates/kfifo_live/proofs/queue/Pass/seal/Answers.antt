@@ -35,14 +35,18 @@ returns-then-seal_from-clause-sealed c = λ _.
     let all = c.seal_from.new.self.seen in
     let reached : world_after o looked.seen ≡ Some f.world =
     ap (λ (x : Opening). world_after x looked.seen) c.word.ensures.same.1 ∙ f.reached in
-    let whole : CompleteExecution o.shape o.threads looked.thread (Dequeue c.args.start c.args.turns) Empty looked.seen made.seen =
-    subst (λ (a : Answer). CompleteExecution o.shape o.threads looked.thread (Dequeue c.args.start c.args.turns) a looked.seen made.seen)
+    let whole : CompleteExecution o.shape o.threads looked.thread (Dequeue c.args.start c.args.turns) Empty looked.seen
+    made.seen =
+    subst (λ (a : Answer). CompleteExecution o.shape o.threads looked.thread (Dequeue c.args.start c.args.turns) a
+    looked.seen made.seen)
     c.in-Empty.is c.dequeue-answer.ensures.call.run in
     let from : SealsFrom o made.thread c.of_bits-ends.result made.seen all =
     subst (λ (x : Opening). SealsFrom x made.thread c.of_bits-ends.result made.seen all) c.dequeue-answer.ensures.same.1
     (c.seal_from.ensures.sealed c.if-seal_from.true) in
-    subst (λ (x : Opening). SealedEmpty x.shape x.threads all) (sym (c.seal_from.ensures.same.1 ∙ c.dequeue-answer.ensures.same.1))
-    (sealed_empty o looked.thread (Dequeue c.args.start c.args.turns) looked.seen made.seen all c.of_bits-ends.result f.world reached
+    subst (λ (x : Opening). SealedEmpty x.shape x.threads all)
+    (sym (c.seal_from.ensures.same.1 ∙ c.dequeue-answer.ensures.same.1))
+    (sealed_empty o looked.thread (Dequeue c.args.start c.args.turns) looked.seen made.seen all c.of_bits-ends.result
+    f.world reached
     (c.of_bits-ends.ensures ∙ f.word_is) whole from)
 
 same_answer : (a b : Answer) → ◌≡◌ {A = Sealing} (Open a) (Open b) → a ≡ b
@@ -63,7 +67,8 @@ dequeues {start} {turns} {a} {b} {old} {looked} {made} {new} {ends} looks call s
 pub returns-else-seal_from-clause-open : goal.returns-else-seal_from-clause-open
 returns-else-seal_from-clause-open c = λ answer is.
     dequeues c.word.ensures.finds c.dequeue-answer.ensures.call c.word.ensures.same.2 is
-    (subst (λ (t : ℕ). Begins t c.dequeue-answer.new.self.seen c.seal_from.new.self.seen) c.dequeue-answer.ensures.same.2
+    (subst (λ (t : ℕ). Begins t c.dequeue-answer.new.self.seen c.seal_from.new.self.seen)
+    c.dequeue-answer.ensures.same.2
     (c.seal_from.ensures.«open» c.if-seal_from.false).others)
 
 pub returns-in_default : goal.returns-in_default
@@ -75,7 +80,8 @@ returns-in_default c = record {
   );
   sealed = λ e. absurd (cc);
   «open» = λ answer is.
-      dequeues {new = c.dequeue-answer.new.self} c.word.ensures.finds c.dequeue-answer.ensures.call c.word.ensures.same.2 is
+      dequeues {new = c.dequeue-answer.new.self} c.word.ensures.finds c.dequeue-answer.ensures.call
+      c.word.ensures.same.2 is
       (begins_whole c.word.new.self.thread c.dequeue-answer.new.self.seen);
   promise = c.dequeue-answer.ensures.promise;
 }

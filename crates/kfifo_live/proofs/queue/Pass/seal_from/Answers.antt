@@ -13,8 +13,8 @@ seal_ends-requires-clause-seen c =
     subst (λ (k : PassView). WasSeen k.opened c.args.ends k.seen) (sym c.self.view_is) c.requires.seen
 
 pub invariant_of-self : goal.invariant_of-self
-invariant_of-self c = pass_on _ _ c.self.inside.seat.me c.seal_ends.new.seat.me c.self.invariant c.seal_ends.ensures.same.1
-    c.seal_ends.ensures.idle c.seal_ends.ensures.gifts.1
+invariant_of-self c = pass_on _ _ c.self.inside.seat.me c.seal_ends.new.seat.me c.self.invariant
+    c.seal_ends.ensures.same.1 c.seal_ends.ensures.idle c.seal_ends.ensures.gifts.1
 
 pub returns : goal.returns
 returns c =
@@ -31,6 +31,7 @@ returns c =
       sealed = λ won. subst (λ (k : PassView). SealsFrom k.opened k.thread c.args.ends k.seen now) was
           (subst (λ t. SealsFrom me.0.opened t c.args.ends (seen_of me.0) now) mine (c.seal_ends.ensures.sealed won));
       «open» = λ lost. subst (λ (k : PassView). FailsToSeal k.opened k.thread c.args.ends k.seen now) was
-          (subst (λ t. FailsToSeal me.0.opened t c.args.ends (seen_of me.0) now) mine (c.seal_ends.ensures.«open» lost));
+          (subst (λ t. FailsToSeal me.0.opened t c.args.ends (seen_of me.0) now) mine
+          (c.seal_ends.ensures.«open» lost));
       promise = promised _ c.seal_ends.new.seat.me (invariant_of-self c);
     }

@@ -9,10 +9,12 @@ pub returns-clause-legal : goal.returns-clause-legal
 returns-clause-legal c = has_legal_order c.args.shape c.args.threads (omega (arith, c.if-threads-gt-MAX_THREADS.false))
 
 pub returns-clause-few_overtake : goal.returns-clause-few_overtake
-returns-clause-few_overtake c = few_overtake c.args.shape c.args.threads (omega (arith, c.if-threads-gt-MAX_THREADS.false))
+returns-clause-few_overtake c =
+    few_overtake c.args.shape c.args.threads (omega (arith, c.if-threads-gt-MAX_THREADS.false))
 
 pub returns-clause-few_certainly_overtake : goal.returns-clause-few_certainly_overtake
-returns-clause-few_certainly_overtake c = few_certainly c.args.shape c.args.threads (omega (arith, c.if-threads-gt-MAX_THREADS.false))
+returns-clause-few_certainly_overtake c =
+    few_certainly c.args.shape c.args.threads (omega (arith, c.if-threads-gt-MAX_THREADS.false))
 
 pub returns-clause-zeroed : goal.returns-clause-zeroed
 returns-clause-zeroed c = zeroed c.in_ok-opened.opened.0.opened

@@ -5,15 +5,20 @@ use Rattle.std.proofs.lemmas.Bool.{and_from}
 use Rattle.kfifo_machine.specs.declared.place.Next.TheVariants.{Goes}
 use Rattle.kfifo_machine.specs.declared.place.Running.TheVariants as R
 use Rattle.kfifo_machine.specs.declared.place.DequeuePhase.TheVariants as P
-use Rattle.kfifo_live.proofs.Whole.{awaits, comes, comes_as, runs_on, stands_on}
+use Rattle.kfifo_live.proofs.CompleteExecutions.{awaits, comes, comes_as, runs_on, stands_on}
 use Rattle.kfifo_live.proofs.ring.Ring.dequeue.Goals as goal
 
 pub begin-ends-requires-clause-first : goal.begin-ends-requires-clause-first
 begin-ends-requires-clause-first g c =
-    record { place = R.Dequeue c.args.start c.args.turns P.LoadEnds; goes = grind (arith, nat_tests, and_from); next_is = refl }
+    record {
+      place = R.Dequeue c.args.start c.args.turns P.LoadEnds;
+      goes = grind (arith, nat_tests, and_from);
+      next_is = refl;
+    }
 
 pub rounds-init : goal.rounds-init
-rounds-init g c = c.begin-ends.ensures (R.Dequeue c.args.start c.args.turns P.LoadEnds) (grind (arith, nat_tests, and_from))
+rounds-init g c = c.begin-ends.ensures (R.Dequeue c.args.start c.args.turns P.LoadEnds)
+    (grind (arith, nat_tests, and_from))
 
 pub round-requires : goal.round-requires
 round-requires g c = stands_on c.requires.rests.of c.rounds.invariant
@@ -41,6 +46,7 @@ rounds-smaller g c =
 
 pub rounds-preserved : goal.rounds-preserved
 rounds-preserved g c =
-    let again = runs_on c.rounds.invariant (comes_as {later = Goes (R.Dequeue c.args.start (c.rounds.left - 1) P.LoadEnds)}
+    let again = runs_on c.rounds.invariant
+    (comes_as {later = Goes (R.Dequeue c.args.start (c.rounds.left - 1) P.LoadEnds)}
     c.in_default.ensures (grind (arith, nat_tests))) in
     runs_on again (comes (stands_on c.requires.rests.of again) c.load_ends-ends.ensures refl)

@@ -11,8 +11,8 @@ ghosts-begin g a = record { begin = a.begin }
 
 -- from its first step on the call has come to this round's scan
 abbrev pub invariant-rounds : goal.invariant-rounds
-invariant-rounds g l = Runs (Some (B.Dequeue l.fn.start l.fn.turns)) l.fn.seat (Goes (R.Dequeue l.fn.start l.left (P.ScanHead l.ends 0)))
-    l.seat
+invariant-rounds g l = Runs (Some (B.Dequeue l.fn.start l.fn.turns)) l.fn.seat
+    (Goes (R.Dequeue l.fn.start l.left (P.ScanHead l.ends 0))) l.seat
 
 abbrev pub decreases-rounds : goal.decreases-rounds
 decreases-rounds g l = l.left

@@ -1,6 +1,6 @@
 use Rattle.std.proofs.Common.{None, Some, refl}
 use Rattle.kfifo_live.proofs.Keeps.{goes}
-use Rattle.kfifo_live.proofs.Whole.{stepped, within_table}
+use Rattle.kfifo_live.proofs.CompleteExecutions.{stepped, within_table}
 use Rattle.kfifo_live.proofs.ring.Ring.load.Goals as goal
 
 pub load-requires : goal.load-requires

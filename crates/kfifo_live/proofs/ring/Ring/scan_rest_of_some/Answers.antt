@@ -2,7 +2,7 @@
 use Rattle.std.proofs.Common.{◌≡◌, ◌+◌, ◌-◌, ◌<◌, arith, refl}
 use Rattle.kfifo_machine.specs.declared.place.Found.TheVariants.{Nothing}
 use Rattle.kfifo_live.proofs.Scans.{upper_row, lower_row, row_ends, row_left}
-use Rattle.kfifo_live.proofs.Whole.{comes_as, stands_on, runs_on}
+use Rattle.kfifo_live.proofs.CompleteExecutions.{comes_as, stands_on, runs_on}
 use Rattle.kfifo_live.proofs.ring.Ring.scan_rest_of_some.Goals as goal
 
 pub scan_row_by_two-requires : goal.scan_row_by_two-requires
@@ -20,7 +20,8 @@ pub returns-then-upper-eq0 : goal.returns-then-upper-eq0
 returns-then-upper-eq0 g c scan stands =
     let r = c.requires in
     let all : 1 + (c.args.limit - 1) ≡ c.args.limit = omega arith in
-    let rest = lower_row scan c.args.origin (c.args.limit - 1) 1 r.origin r.segment r.start (omega arith) (omega arith) (omega arith)
+    let rest = lower_row scan c.args.origin (c.args.limit - 1) 1 r.origin r.segment r.start (omega arith) (omega arith)
+    (omega arith)
     r.limit.1 in
     comes_as (c.scan_row_by_two.ensures rest stands) (row_ends rest all c.scan_row_by_two.result)
 
@@ -30,7 +31,8 @@ scan_row-requires g c =
     record {
       row = (
         upper_row r.scan.0 c.args.origin _
-            ((((c.args.origin + c.args.start) + 1) + c.min-upper.result) - ((c.args.origin + c.args.start) + 1)) r.origin refl r.segment
+            ((((c.args.origin + c.args.start) + 1) + c.min-upper.result) - ((c.args.origin + c.args.start) + 1))
+            r.origin refl r.segment
             (omega arith) (omega arith) (omega arith),
         r.scan.1,
       );
@@ -40,7 +42,8 @@ pub returns-in-Slot : goal.returns-in-Slot
 returns-in-Slot g c scan stands =
     let r = c.requires in
     c.in-Slot.ensures (upper_row scan c.args.origin _
-    ((((c.args.origin + c.args.start) + 1) + c.min-upper.result) - ((c.args.origin + c.args.start) + 1)) r.origin refl r.segment
+    ((((c.args.origin + c.args.start) + 1) + c.min-upper.result) - ((c.args.origin + c.args.start) + 1)) r.origin refl
+    r.segment
     (omega arith) (omega arith) (omega arith)) stands
 
 pub returns-then-upper-limit : goal.returns-then-upper-limit
@@ -53,18 +56,21 @@ returns-then-upper-limit g c scan stands =
 pub scan_row_by_two-requires-2 : goal.scan_row_by_two-requires-2
 scan_row_by_two-requires-2 g c =
     let r = c.requires in
-    let less : 1 + ((((c.args.origin + c.args.start) + 1) + c.min-upper.result) - ((c.args.origin + c.args.start) + 1)) < c.args.limit =
+    let less : 1 + ((((c.args.origin + c.args.start) + 1) + c.min-upper.result) - ((c.args.origin + c.args.start) + 1))
+    < c.args.limit =
     omega arith in
     let all : (1 + ((((c.args.origin + c.args.start) + 1) + c.min-upper.result) - ((c.args.origin + c.args.start) + 1)))
     + (c.args.limit - 1 - c.min-upper.result) ≡ c.args.limit = omega arith in
     let row = upper_row r.scan.0 c.args.origin _
-    ((((c.args.origin + c.args.start) + 1) + c.min-upper.result) - ((c.args.origin + c.args.start) + 1)) r.origin refl r.segment
+    ((((c.args.origin + c.args.start) + 1) + c.min-upper.result) - ((c.args.origin + c.args.start) + 1)) r.origin refl
+    r.segment
     (omega arith) (omega arith) (omega arith) in
     let upper = comes_as (c.in_default.ensures row r.scan.1) (row_left row less) in
     record {
       row = (
         lower_row r.scan.0 c.args.origin (c.args.limit - 1 - c.min-upper.result)
-            (1 + ((((c.args.origin + c.args.start) + 1) + c.min-upper.result) - ((c.args.origin + c.args.start) + 1))) r.origin r.segment
+            (1 + ((((c.args.origin + c.args.start) + 1) + c.min-upper.result) - ((c.args.origin + c.args.start) + 1)))
+            r.origin r.segment
             r.start (omega arith) (omega arith) all r.limit.1,
         stands_on r.scan.1.of upper,
       );
@@ -73,14 +79,17 @@ scan_row_by_two-requires-2 g c =
 pub returns : goal.returns
 returns g c scan stands =
     let r = c.requires in
-    let less : 1 + ((((c.args.origin + c.args.start) + 1) + c.min-upper.result) - ((c.args.origin + c.args.start) + 1)) < c.args.limit =
+    let less : 1 + ((((c.args.origin + c.args.start) + 1) + c.min-upper.result) - ((c.args.origin + c.args.start) + 1))
+    < c.args.limit =
     omega arith in
     let all : (1 + ((((c.args.origin + c.args.start) + 1) + c.min-upper.result) - ((c.args.origin + c.args.start) + 1)))
     + (c.args.limit - 1 - c.min-upper.result) ≡ c.args.limit = omega arith in
     let row = upper_row scan c.args.origin _ ((((c.args.origin + c.args.start) + 1) + c.min-upper.result)
     - ((c.args.origin + c.args.start) + 1)) r.origin refl r.segment (omega arith) (omega arith) (omega arith) in
     let rest = lower_row scan c.args.origin (c.args.limit - 1 - c.min-upper.result)
-    (1 + ((((c.args.origin + c.args.start) + 1) + c.min-upper.result) - ((c.args.origin + c.args.start) + 1))) r.origin r.segment
+    (1 + ((((c.args.origin + c.args.start) + 1) + c.min-upper.result) - ((c.args.origin + c.args.start) + 1))) r.origin
+    r.segment
     r.start (omega arith) (omega arith) all r.limit.1 in
     let upper = comes_as (c.in_default.ensures row stands) (row_left row less) in
-    runs_on upper (comes_as (c.scan_row_by_two-2.ensures rest (stands_on stands.of upper)) (row_ends rest all c.scan_row_by_two-2.result))
+    runs_on upper (comes_as (c.scan_row_by_two-2.ensures rest (stands_on stands.of upper))
+    (row_ends rest all c.scan_row_by_two-2.result))

@@ -2,10 +2,11 @@
 use Rattle.std.proofs.Common.{◌≡◌, ℕ, ◌+◌, ◌-◌, ◌<◌, ap, subst, arith, sym, ◌∙◌}
 use Rattle.kfifo_machine.specs.declared.place.Access.TheVariants.{Load}
 use Rattle.kfifo_live.specs.Step.{Onward}
-use Rattle.kfifo_live.proofs.Whole.{awaits, onward_comes, onward_step}
+use Rattle.kfifo_live.proofs.CompleteExecutions.{awaits, onward_comes, onward_step}
 use Rattle.kfifo_live.proofs.Scans.{onward_first, row_at, row_found, row_goes_on, row_over}
 use Rattle.kfifo_live.proofs.ring.Ring.scan_row_by_two.Goals as goal
-use Rattle.kfifo_live.proofs.ring.Ring.scan_row_by_two.Goals.{then-count-eq1+else-is_wanted+else-index-end, else-count-eq1}
+use Rattle.kfifo_live.proofs.ring.Ring.scan_row_by_two.Goals.{then-count-eq1+else-is_wanted+else-index-end}
+use Rattle.kfifo_live.proofs.ring.Ring.scan_row_by_two.Goals.{else-count-eq1}
 
 pub pairs-init : goal.pairs-init
 pairs-init g c =
@@ -20,7 +21,12 @@ pairs-init g c =
             (sym w.is_wanted.ensures ∙ w.if-is_wanted.false));
       }
       | else-count-eq1 w ↦ rw (w.seat-is, w.index-is)
-          record { from = omega arith; inside = omega arith; even = omega arith; stands = λ row stands. onward_first row stands }
+          record {
+            from = omega arith;
+            inside = omega arith;
+            even = omega arith;
+            stands = λ row stands. onward_first row stands;
+          }
     ]
 
 pub load-next-requires : goal.load-next-requires
@@ -67,7 +73,8 @@ pairs-preserved g c =
           (row_goes_on row c.pairs.index c.load-word-in-pairs.result i.from more
           (sym c.is_wanted-in-pairs.ensures ∙ c.if-is_wanted-2.false)) in
           let same : (c.pairs.index + 1) + 1 ≡ c.pairs.index + 2 = omega arith in
-          subst (λ (n : ℕ). Onward c.args.self c.args.seat.now (row.scan.looking (row.offset + (n - c.args.first))) c.load-next.new.seat)
+          subst (λ (n : ℕ). Onward c.args.self c.args.seat.now (row.scan.looking (row.offset + (n - c.args.first)))
+          c.load-next.new.seat)
           same (onward_step on c.load-next.ensures
           (row_goes_on row (c.pairs.index + 1) c.load-next.result (omega arith) (omega arith)
           (sym c.is_wanted-in-pairs-2.ensures ∙ c.if-is_wanted-3.false))));

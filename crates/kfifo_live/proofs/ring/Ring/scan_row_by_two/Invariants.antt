@@ -9,7 +9,8 @@ invariant-pairs g l = record {
   from : l.fn.first ≤ l.index;
   inside : l.index < l.fn.first + l.fn.count;
   even : (l.fn.first + l.fn.count - l.index) % 2 ≡ 0;
-  stands : (row : Row l.self.shape.now g.W.Wanted.stops l.fn.first l.fn.count) → Stands l.self l.fn.seat (row.scan.looking row.offset)
+  stands : (row : Row l.self.shape.now g.W.Wanted.stops l.fn.first l.fn.count)
+      → Stands l.self l.fn.seat (row.scan.looking row.offset)
       → Onward l.self l.fn.seat (row.scan.looking (row.offset + (l.index - l.fn.first))) l.seat;
 }
 

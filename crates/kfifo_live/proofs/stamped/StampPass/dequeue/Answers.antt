@@ -7,7 +7,8 @@ use Rattle.kfifo_live.proofs.Logs.{StampedRun, calls_same, log_grows, makes_stam
 use Rattle.kfifo_live.proofs.stamped.StampPass.dequeue.Goals as goal
 
 pub returns-then-is_full-clause-promise : goal.returns-then-is_full-clause-promise
-returns-then-is_full-clause-promise c = subst (λ (x : Logged). KeepsPromise x.pass.opened x.pass.seen) c.self.view_is c.self.invariant.1
+returns-then-is_full-clause-promise c = subst (λ (x : Logged). KeepsPromise x.pass.opened x.pass.seen) c.self.view_is
+    c.self.invariant.1
 
 pub draw_stamp-last-requires-clause-room : goal.draw_stamp-last-requires-clause-room
 draw_stamp-last-requires-clause-room c =
@@ -15,7 +16,8 @@ draw_stamp-last-requires-clause-room c =
     (c.is_full.ensures.room c.if-is_full.false) in
     room_left c.self.inside.pass c.draw_stamp-first.new.self c.dequeue-answer.new.self c.dequeue-answer.new.self
     (B.Dequeue c.args.start c.args.turns) c.dequeue-answer.result c.draw_stamp-first.result 0 c.self.inside.log.items
-    c.self.invariant.0 room refl c.draw_stamp-first.ensures.draws c.dequeue-answer.ensures.same c.dequeue-answer.ensures.call.run
+    c.self.invariant.0 room refl c.draw_stamp-first.ensures.draws c.dequeue-answer.ensures.same
+    c.dequeue-answer.ensures.call.run
 
 stamped : (c : goal.After-push_reserved)
     → StampedRun c.self.inside.pass c.draw_stamp-first.new.self c.dequeue-answer.new.self c.draw_stamp-last.new.self
@@ -23,7 +25,8 @@ stamped : (c : goal.After-push_reserved)
     c.self.inside.log.items
 stamped c = record {
   is = c.self.invariant.0;
-  room = subst (λ (x : Logged). length x.log < x.pass.opened.calls) (sym c.self.view_is) (c.is_full.ensures.room c.if-is_full.false);
+  room = subst (λ (x : Logged). length x.log < x.pass.opened.calls) (sym c.self.view_is)
+      (c.is_full.ensures.room c.if-is_full.false);
   no_tick = refl;
   few = c.draw_stamp-first.ensures.small.0;
   draws_first = c.draw_stamp-first.ensures.draws;
@@ -34,12 +37,18 @@ stamped c = record {
 
 pub invariant_of-self : goal.invariant_of-self
 invariant_of-self c =
-    let log = log_grows (stamped c) c.thread.result c.push_reserved.new.self.items c.thread.ensures c.push_reserved.ensures.items in
-    (log, c.draw_stamp-last.ensures.promise, omega (arith, calls_same (stamped c), c.self.invariant.2, c.push_reserved.ensures.capacity))
+    let log = log_grows (stamped c) c.thread.result c.push_reserved.new.self.items c.thread.ensures
+    c.push_reserved.ensures.items in (
+      log,
+      c.draw_stamp-last.ensures.promise,
+      omega
+          (arith, calls_same (stamped c), c.self.invariant.2, c.push_reserved.ensures.capacity),
+    )
 
 pub returns-clause-some : goal.returns-clause-some
 returns-clause-some c =
-    let made = makes_stamped (stamped c) c.thread.result c.push_reserved.new.self.items c.thread.ensures c.push_reserved.ensures.items in
+    let made = makes_stamped (stamped c) c.thread.result c.push_reserved.new.self.items c.thread.ensures
+    c.push_reserved.ensures.items in
     subst (λ (x : Logged). MakesStamped (B.Dequeue c.args.start c.args.turns) c.dequeue-answer.result x
     (logged_by c.draw_stamp-last.new.self c.push_reserved.new.self.items)) c.self.view_is made
 

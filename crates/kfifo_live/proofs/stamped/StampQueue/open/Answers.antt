@@ -9,4 +9,5 @@ returns-clause-zeroed c = zeroed c.in_ok-queue.queue.opened
 
 pub returns-clause-of : goal.returns-clause-of
 returns-clause-of c = subst (All (λ (p : Logged). IsPassOf c.in_ok-queue.queue p.pass))
-    (sym (c.in_ok-stamped.ensures ∙ ap new_logs c.in_ok-queue.ensures.1)) (logs_of_new c.in_ok-queue.queue 0 c.args.threads)
+    (sym (c.in_ok-stamped.ensures ∙ ap new_logs c.in_ok-queue.ensures.1))
+    (logs_of_new c.in_ok-queue.queue 0 c.args.threads)

@@ -20,7 +20,8 @@ pub returns : goal.returns
 returns c = (
   λ is_so. record {
     count = passes-length c.args.passes.now ∙ c.if-passes-threads.false;
-    each = λ t less. sym (any_of t c.args.passes.now) ∙ c.loop-thread.invariant t (omega (arith, less, c.loop-thread-test.false));
+    each = λ t less. sym (any_of t c.args.passes.now)
+        ∙ c.loop-thread.invariant t (omega (arith, less, c.loop-thread-test.false));
   },
   λ k. search rules,
 )

@@ -12,7 +12,8 @@ loop-stamped-preserved c =
     record {
       logs = c.in_ok-extend_from_slice.ensures.items ∙ (λ k. i.logs k ++ log k)
           ∙ sym (all_logs-snoc c.loop-stamped.yielded c.in-Some.stamped);
-      passes = c.in_ok-push.ensures.items ∙ (λ k. i.passes k ++ pass k ∷ []) ∙ sym (passes-snoc c.loop-stamped.yielded c.in-Some.stamped);
+      passes = c.in_ok-push.ensures.items ∙ (λ k. i.passes k ++ pass k ∷ [])
+          ∙ sym (passes-snoc c.loop-stamped.yielded c.in-Some.stamped);
       are_logs = AllByRecursion-push (λ p. IsLog p.pass p.log) c.loop-stamped.yielded c.in-Some.stamped i.are_logs
           (subst (λ (p : Logged). IsLog p.pass p.log) c.stamped.view_is c.stamped.invariant.0);
     }

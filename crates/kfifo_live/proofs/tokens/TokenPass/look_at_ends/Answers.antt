@@ -6,7 +6,7 @@ use Rattle.kfifo_live.specs.Pass.{Finds, pass_view}
 use Rattle.kfifo_live.specs.Payloads.{PayPassView, pay_pass_view}
 use Rattle.kfifo_live.specs.Seals.{KeepsTokens}
 use Rattle.kfifo_live.proofs.Passes.{finds}
-use Rattle.kfifo_live.proofs.Pays.{pass_of_hand}
+use Rattle.kfifo_live.proofs.TokenMoves.{pass_of_hand}
 use Rattle.kfifo_live.proofs.PaySeals.{looked_hand, looked_keeps}
 use Rattle.kfifo_live.proofs.TokenCalls.{token_pass}
 use Rattle.kfifo_live.proofs.tokens.TokenPass.look_at_ends.Goals as goal
@@ -25,14 +25,18 @@ returns g c =
     record {
       same = (
         c.observe.ensures.same.0 ∙ ap (λ (k : PayPassView g.row.T.Denot). k.pass.table) was,
-        ap (λ (v : View g.row.T.Denot). v.opened) looks.afterwards ∙ ap (λ (k : PayPassView g.row.T.Denot). k.pass.opened) was,
+        ap (λ (v : View g.row.T.Denot). v.opened) looks.afterwards
+            ∙ ap (λ (k : PayPassView g.row.T.Denot). k.pass.opened) was,
         ap (λ (k : PayPassView g.row.T.Denot). k.pass.thread) was,
       );
       finds =
-          subst (λ (k : PayPassView g.row.T.Denot). Finds k.pass (pass_view now.table_id thread now.me.0) ENDS_INDEX c.of_bits.result) was
-          (subst (λ w. Finds (pass_view c.self.inside.seat.table_id thread c.self.inside.seat.me.0) (pass_view now.table_id thread now.me.0)
+          subst (λ (k : PayPassView g.row.T.Denot). Finds k.pass (pass_view now.table_id thread now.me.0) ENDS_INDEX
+          c.of_bits.result) was
+          (subst (λ w. Finds (pass_view c.self.inside.seat.table_id thread c.self.inside.seat.me.0)
+          (pass_view now.table_id thread now.me.0)
           ENDS_INDEX w) (sym c.of_bits.ensures)
-          (finds _ _ thread ENDS_INDEX c.observe.result c.self.inside.seat.me now.me (pass_of_hand c.self.invariant.0) looks));
+          (finds _ _ thread ENDS_INDEX c.observe.result c.self.inside.seat.me now.me (pass_of_hand c.self.invariant.0)
+          looks));
       keeps = subst (λ (k : PayPassView g.row.T.Denot). KeepsTokens k (pay_pass_view now.table_id thread now.me.0)) was
           (looked_keeps c.self.invariant.0 c.observe.ensures.same.1 looks _ _);
     }

@@ -9,7 +9,7 @@ use Rattle.kfifo_live.specs.InHand.{put_by}
 use Rattle.kfifo_live.specs.Payloads.{PayPassView, pay_pass_view}
 use Rattle.kfifo_live.specs.Tokens.{Enqueues, HandsBack, Puts}
 use Rattle.kfifo_live.proofs.Passes.{promised}
-use Rattle.kfifo_live.proofs.Pays.{kept_out, pass_of_hand}
+use Rattle.kfifo_live.proofs.TokenMoves.{kept_out, pass_of_hand}
 use Rattle.kfifo_live.proofs.TokenCalls.{enqueues, same_seat, token_pass}
 use Rattle.kfifo_live.proofs.tokens.TokenPass.put.Goals as goal
 use Rattle.kfifo_live.proofs.tokens.TokenPass.put.Goals.{in-Full, in-Busy, in-Worn}
@@ -18,7 +18,8 @@ pub enqueue_token-requires-clause-hand : goal.enqueue_token-requires-clause-hand
 enqueue_token-requires-clause-hand g c =
     let out = c.hold_out-number.ensures.hand _ c.self.invariant.0 in
     let opened = c.hold_out-number.ensures.same.1 in
-    let kind = ap (λ (o : Opening). o.bare) (opened ∙ ap (λ (k : PayPassView g.row.T.Denot). k.pass.opened) c.self.view_is ∙ c.requires.of.1) ∙ c.requires.bare in
+    let kind = ap (λ (o : Opening). o.bare) (opened ∙ ap (λ (k : PayPassView g.row.T.Denot). k.pass.opened)
+    c.self.view_is ∙ c.requires.of.1) ∙ c.requires.bare in
     (_, _, _, out, subst (λ b. IsGift b None) (sym kind) refl)
 
 pub invariant_of-self : goal.invariant_of-self
@@ -34,9 +35,11 @@ returns-in_default g c =
     let opened = c.hold_out-number.ensures.same.1 in
     let did = c.in_default.ensures.puts _ _ _ out in
     let hold = c.hold_out-number.ensures.same in
-    let before = same_seat c.self.inside.thread c.self.inside.seat c.hold_out-number.new.seat (c.hold_out-number.ensures.same.0) opened
+    let before = same_seat c.self.inside.thread c.self.inside.seat c.hold_out-number.new.seat
+    (c.hold_out-number.ensures.same.0) opened
     (hold.2) (hold.3) in
-    let was : pay_pass_view c.self.inside.seat.table_id c.self.inside.thread c.self.inside.seat.me.0 ≡ c.args.self.now = c.self.view_is in
+    let was : pay_pass_view c.self.inside.seat.table_id c.self.inside.thread c.self.inside.seat.me.0 ≡ c.args.self.now =
+    c.self.view_is in
     let view = pay_pass_view c.enqueue_token.new.seat.table_id c.self.inside.thread c.enqueue_token.new.seat.me.0 in
     record {
       same = (
@@ -57,7 +60,8 @@ lay_aside-back-requires g c =
     let emptied = kept_out c.in-Err.refusal did in
     let later = did.opened ∙ opened in
     record {
-      table = c.enqueue_token.ensures.same ∙ c.hold_out-number.ensures.same.0 ∙ ap (λ (k : PayPassView g.row.T.Denot). k.pass.table) c.self.view_is ∙ c.requires.of.0;
+      table = c.enqueue_token.ensures.same ∙ c.hold_out-number.ensures.same.0
+          ∙ ap (λ (k : PayPassView g.row.T.Denot). k.pass.table) c.self.view_is ∙ c.requires.of.0;
       opened = later ∙ ap (λ (k : PayPassView g.row.T.Denot). k.pass.opened) c.self.view_is ∙ c.requires.of.1;
       hand = (c.hold_out-number.ensures.names.0, (_, emptied));
     }
@@ -80,9 +84,11 @@ returns g c =
     let emptied = kept_out c.in-Err.refusal did in
     let later = did.opened ∙ opened in
     let hold = c.hold_out-number.ensures.same in
-    let before = same_seat c.self.inside.thread c.self.inside.seat c.hold_out-number.new.seat (c.hold_out-number.ensures.same.0) opened
+    let before = same_seat c.self.inside.thread c.self.inside.seat c.hold_out-number.new.seat
+    (c.hold_out-number.ensures.same.0) opened
     (hold.2) (hold.3) in
-    let was : pay_pass_view c.self.inside.seat.table_id c.self.inside.thread c.self.inside.seat.me.0 ≡ c.args.self.now = c.self.view_is in
+    let was : pay_pass_view c.self.inside.seat.table_id c.self.inside.thread c.self.inside.seat.me.0 ≡ c.args.self.now =
+    c.self.view_is in
     let aside = c.lay_aside-back.ensures in
     let view = pay_pass_view c.lay_aside-back.new.seat.table_id c.self.inside.thread c.lay_aside-back.new.seat.me.0 in
     let after = same_seat c.self.inside.thread c.enqueue_token.new.seat c.lay_aside-back.new.seat (aside.same.0)
@@ -92,7 +98,8 @@ returns g c =
     let back : c.lay_aside-back.result ≡ c.args.token =
     aside.token ∙ (λ i. record { queue = sym c.requires.token i; number = c.hold_out-number.ensures.number i }) in
     let refuses : (refusal : Refusal) → c.in-Err.refusal ≡ refusal
-    → HandsBack c.args.token None c.args.start c.args.turns (put_by (Err refusal)) c.lay_aside-back.result c.args.self.now view =
+    → HandsBack c.args.token None c.args.start c.args.turns (put_by (Err refusal)) c.lay_aside-back.result
+    c.args.self.now view =
     λ refusal is. (
       back,
       subst (λ x. Enqueues c.args.token.number None c.args.start c.args.turns (put_by (Err x)) c.args.self.now view) is

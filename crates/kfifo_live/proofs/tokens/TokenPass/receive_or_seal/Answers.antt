@@ -7,7 +7,8 @@ use Rattle.kfifo_live.proofs.tokens.TokenPass.receive_or_seal.Goals as goal
 pub seal_from-requires-clause-seen : goal.seal_from-requires-clause-seen
 seal_from-requires-clause-seen g c =
     let look = c.look_at_ends-ends.ensures in
-    was_seen c.args.self.now c.look_at_ends-ends.new.self c.receive.new.self c.args.start c.args.turns look.same look.finds look.keeps c.in-Empty.ensures.receives.0
+    was_seen c.args.self.now c.look_at_ends-ends.new.self c.receive.new.self c.args.start c.args.turns look.same
+    look.finds look.keeps c.in-Empty.ensures.receives.0
     c.receive.ensures.same
 
 pub returns-then-seal_from : goal.returns-then-seal_from
@@ -18,14 +19,16 @@ returns-then-seal_from g c =
     let later = c.seal_from.ensures.same in
     record {
       same = same_since c.args.self.now.pass c.look_at_ends-ends.new.self.pass c.seal_from.new.self.pass look.same
-          (same_since c.look_at_ends-ends.new.self.pass c.receive.new.self.pass c.seal_from.new.self.pass c.receive.ensures.same later);
+          (same_since c.look_at_ends-ends.new.self.pass c.receive.new.self.pass c.seal_from.new.self.pass
+          c.receive.ensures.same later);
       receives = (
         c.receive.new.self,
-        token_since c.args.self.now c.look_at_ends-ends.new.self c.receive.new.self c.args.start c.args.turns look.same look.finds look.keeps A.Empty takes,
+        token_since c.args.self.now c.look_at_ends-ends.new.self c.receive.new.self c.args.start c.args.turns look.same
+            look.finds look.keeps A.Empty takes,
         record { ends = c.look_at_ends-ends.result; seal = seal; keeps = c.seal_from.ensures.keeps },
       );
-      sealed = λ _. sealed_since c.args.self.now c.look_at_ends-ends.new.self c.receive.new.self c.args.start c.args.turns look.same look.finds look.keeps
-          c.seal_from.new.self takes.0 c.receive.ensures.same later seal;
+      sealed = λ _. sealed_since c.args.self.now c.look_at_ends-ends.new.self c.receive.new.self c.args.start
+          c.args.turns look.same look.finds look.keeps c.seal_from.new.self takes.0 c.receive.ensures.same later seal;
       promise = c.seal_from.ensures.promise;
     }
 
@@ -35,11 +38,14 @@ returns-else-seal_from g c =
     let takes = c.in-Empty.ensures.receives in
     record {
       same = same_since c.args.self.now.pass c.look_at_ends-ends.new.self.pass c.seal_from.new.self.pass look.same
-          (same_since c.look_at_ends-ends.new.self.pass c.receive.new.self.pass c.seal_from.new.self.pass c.receive.ensures.same c.seal_from.ensures.same);
+          (same_since c.look_at_ends-ends.new.self.pass c.receive.new.self.pass c.seal_from.new.self.pass
+          c.receive.ensures.same c.seal_from.ensures.same);
       receives = (
         c.receive.new.self,
-        token_since c.args.self.now c.look_at_ends-ends.new.self c.receive.new.self c.args.start c.args.turns look.same look.finds look.keeps A.Empty takes,
-        open_since c.args.self.now c.look_at_ends-ends.new.self c.receive.new.self c.args.start c.args.turns look.same look.finds look.keeps c.seal_from.new.self takes.0
+        token_since c.args.self.now c.look_at_ends-ends.new.self c.receive.new.self c.args.start c.args.turns look.same
+            look.finds look.keeps A.Empty takes,
+        open_since c.args.self.now c.look_at_ends-ends.new.self c.receive.new.self c.args.start c.args.turns look.same
+            look.finds look.keeps c.seal_from.new.self takes.0
             (c.seal_from.ensures.«open» c.if-seal_from.false) c.seal_from.ensures.keeps,
       );
       sealed = λ e. absurd (cc);
@@ -50,8 +56,10 @@ pub returns-in-Got : goal.returns-in-Got
 returns-in-Got g c =
     let look = c.look_at_ends-ends.ensures in
     record {
-      same = same_since c.args.self.now.pass c.look_at_ends-ends.new.self.pass c.receive.new.self.pass look.same c.receive.ensures.same;
-      receives = gets_since c.args.self.now c.look_at_ends-ends.new.self c.receive.new.self c.args.start c.args.turns look.same look.finds look.keeps c.in-Got.token (Some c.in-Got.payload) c.in-Got.ensures.receives;
+      same = same_since c.args.self.now.pass c.look_at_ends-ends.new.self.pass c.receive.new.self.pass look.same
+          c.receive.ensures.same;
+      receives = gets_since c.args.self.now c.look_at_ends-ends.new.self c.receive.new.self c.args.start c.args.turns
+          look.same look.finds look.keeps c.in-Got.token (Some c.in-Got.payload) c.in-Got.ensures.receives;
       sealed = λ e. absurd (cc);
       promise = c.receive.ensures.promise;
     }
@@ -60,8 +68,10 @@ pub returns-in-Busy : goal.returns-in-Busy
 returns-in-Busy g c =
     let look = c.look_at_ends-ends.ensures in
     record {
-      same = same_since c.args.self.now.pass c.look_at_ends-ends.new.self.pass c.receive.new.self.pass look.same c.receive.ensures.same;
-      receives = token_since c.args.self.now c.look_at_ends-ends.new.self c.receive.new.self c.args.start c.args.turns look.same look.finds look.keeps A.Busy c.in-Busy.ensures.receives;
+      same = same_since c.args.self.now.pass c.look_at_ends-ends.new.self.pass c.receive.new.self.pass look.same
+          c.receive.ensures.same;
+      receives = token_since c.args.self.now c.look_at_ends-ends.new.self c.receive.new.self c.args.start c.args.turns
+          look.same look.finds look.keeps A.Busy c.in-Busy.ensures.receives;
       sealed = λ e. absurd (cc);
       promise = c.receive.ensures.promise;
     }
@@ -70,8 +80,10 @@ pub returns-in-Worn : goal.returns-in-Worn
 returns-in-Worn g c =
     let look = c.look_at_ends-ends.ensures in
     record {
-      same = same_since c.args.self.now.pass c.look_at_ends-ends.new.self.pass c.receive.new.self.pass look.same c.receive.ensures.same;
-      receives = token_since c.args.self.now c.look_at_ends-ends.new.self c.receive.new.self c.args.start c.args.turns look.same look.finds look.keeps A.Worn c.in-Worn.ensures.receives;
+      same = same_since c.args.self.now.pass c.look_at_ends-ends.new.self.pass c.receive.new.self.pass look.same
+          c.receive.ensures.same;
+      receives = token_since c.args.self.now c.look_at_ends-ends.new.self c.receive.new.self c.args.start c.args.turns
+          look.same look.finds look.keeps A.Worn c.in-Worn.ensures.receives;
       sealed = λ e. absurd (cc);
       promise = c.receive.ensures.promise;
     }

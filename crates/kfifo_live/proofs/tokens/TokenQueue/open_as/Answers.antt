@@ -14,7 +14,8 @@ vacant-requires g c =
 
 pub returns-clause-of : goal.returns-clause-of
 returns-clause-of g c =
-    let q = queue_of c.in_ok-table.table.shared.table_id (token_opening c.args.bare c.args.shape c.args.threads c.args.tokens) in
+    let q = queue_of c.in_ok-table.table.shared.table_id (token_opening c.args.bare c.args.shape c.args.threads
+    c.args.tokens) in
     let are : c.in_ok-passes.passes.items ≡ new_token_passes q 0 c.args.threads = search rules in
     subst (All (λ p. IsPassOf q p.pass)) (sym are) (token_passes_of_new q 0 c.args.threads)
 

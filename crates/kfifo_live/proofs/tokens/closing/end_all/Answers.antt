@@ -13,15 +13,19 @@ loop-pass-preserved g c =
           (λ i. c.in_ok-push.ensures.items i ++ rest)
           ∙ (λ i. (c.loop-pass.ended.items ++ c.into_ended.ensures i ∷ []) ++ rest)
           ∙ append_assoc c.loop-pass.ended.items (c.in-Some.pass ∷ []) rest
-          ∙ ap (λ (ps : List (PayPassView g.row.T.Denot)). c.loop-pass.ended.items ++ ps) (sym c.in-Some.ensures.steps.0)
+          ∙ ap (λ (ps : List (PayPassView g.row.T.Denot)). c.loop-pass.ended.items ++ ps)
+          (sym c.in-Some.ensures.steps.0)
           ∙ c.loop-pass.invariant.made;
       kind = All-tail (λ (p : PayPassView g.row.T.Denot). p.pass.opened.bare ≡ false) c.in-Some.pass rest
-          (subst (All (λ (p : PayPassView g.row.T.Denot). p.pass.opened.bare ≡ false)) c.in-Some.ensures.steps.0 c.loop-pass.invariant.kind);
+          (subst (All (λ (p : PayPassView g.row.T.Denot). p.pass.opened.bare ≡ false)) c.in-Some.ensures.steps.0
+          c.loop-pass.invariant.kind);
     }
 
 pub into_ended-requires : goal.into_ended-requires
-into_ended-requires g c = All-head (λ (p : PayPassView g.row.T.Denot). p.pass.opened.bare ≡ false) c.in-Some.pass c.next.new.self.rest.items
-    (subst (All (λ (p : PayPassView g.row.T.Denot). p.pass.opened.bare ≡ false)) c.in-Some.ensures.steps.0 c.loop-pass.invariant.kind)
+into_ended-requires g c = All-head (λ (p : PayPassView g.row.T.Denot). p.pass.opened.bare ≡ false) c.in-Some.pass
+    c.next.new.self.rest.items
+    (subst (All (λ (p : PayPassView g.row.T.Denot). p.pass.opened.bare ≡ false)) c.in-Some.ensures.steps.0
+    c.loop-pass.invariant.kind)
 
 pub returns : goal.returns
 returns g c =

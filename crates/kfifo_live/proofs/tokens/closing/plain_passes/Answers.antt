@@ -13,7 +13,8 @@ loop-pass-preserved c =
           (λ i. c.in_ok-push.ensures.items i ++ rest)
           ∙ (λ i. (c.loop-pass.plain.items ++ c.into_plain.ensures i ∷ []) ++ rest)
           ∙ append_assoc c.loop-pass.plain.items (c.in-Some.pass.pass ∷ []) rest
-          ∙ ap (λ (ps : List (PayPassView (Unit {0}))). c.loop-pass.plain.items ++ map (λ p. p.pass) ps) (sym c.in-Some.ensures.steps.0)
+          ∙ ap (λ (ps : List (PayPassView (Unit {0}))). c.loop-pass.plain.items ++ map (λ p. p.pass) ps)
+          (sym c.in-Some.ensures.steps.0)
           ∙ c.loop-pass.invariant.made;
     }
 

@@ -13,7 +13,8 @@ pub loop-index-init : goal.loop-index-init
 loop-index-init g c = record {
   table = refl;
   view = seated_home c.requires.idle.0.seated (c.requires.home ∙ (λ i.
-      count_up ((let e : c.args.first ≡ c.args.first + 0 = omega arith in e) i) ((let e : c.args.count ≡ c.args.count - 0 = omega arith in e) i)));
+      count_up ((let e : c.args.first ≡ c.args.first + 0 = omega arith in e) i)
+      ((let e : c.args.count ≡ c.args.count - 0 = omega arith in e) i)));
   cut = sym (append-nil c.args.tokens.now.items);
   within = omega arith;
 }
@@ -25,7 +26,8 @@ cut_token-alone-requires-clause-table g c =
 pub cut_token-alone-requires-clause-idle : goal.cut_token-alone-requires-clause-idle
 cut_token-alone-requires-clause-idle g c =
     let view = c.loop-index.invariant.view in (
-      idle_home (count_up (c.args.first + c.loop-index.index) (c.args.count - c.loop-index.index)) c.requires.idle.0 view,
+      idle_home (count_up (c.args.first + c.loop-index.index) (c.args.count - c.loop-index.index)) c.requires.idle.0
+          view,
       subst (λ (o : Opening). 0 < o.tokens) (sym (ap (λ m. m.0.opened) view)) c.requires.idle.1,
     )
 
@@ -35,7 +37,8 @@ cut_token-alone-requires-clause-some g c =
       _,
       _,
       ap (λ m. (hand_of m.0).at_home) c.loop-index.invariant.view
-          ∙ count_first (c.args.first + c.loop-index.index) (c.args.count - c.loop-index.index) (λ none. omega (arith, less)),
+          ∙ count_first (c.args.first + c.loop-index.index) (c.args.count - c.loop-index.index)
+          (λ none. omega (arith, less)),
     )
 
 pub new-requires-clause-table : goal.new-requires-clause-table
@@ -46,7 +49,8 @@ new-requires-clause-table g c = (
 
 pub new-requires-clause-slots : goal.new-requires-clause-slots
 new-requires-clause-slots g c =
-    let opened = ap (λ m. m.0.opened) c.cut_token-alone.ensures.resting.1 ∙ ap (λ m. m.0.opened) c.loop-index.invariant.view in (
+    let opened = ap (λ m. m.0.opened) c.cut_token-alone.ensures.resting.1
+    ∙ ap (λ m. m.0.opened) c.loop-index.invariant.view in (
       subst (λ (o : Opening). 0 < o.tokens) (sym opened) c.requires.idle.1,
       c.requires.slots ∙ ap (λ (o : Opening). o.threads * o.tokens) (sym opened),
     )
@@ -56,7 +60,8 @@ new-requires-clause-alone g c =
     let r = c.cut_token-alone.ensures.resting.1 in
     let less = c.loop-index-test.true in
     let next = ap (λ m. next_of (hand_of m.0).at_home) c.loop-index.invariant.view
-    ∙ ap next_of (count_first (c.args.first + c.loop-index.index) (c.args.count - c.loop-index.index) (λ none. omega (arith, less))) in
+    ∙ ap next_of (count_first (c.args.first + c.loop-index.index) (c.args.count - c.loop-index.index)
+    (λ none. omega (arith, less))) in
     r ∙ (λ i. (resting_view (sym (ap (λ m. m.0.opened) r) i) (next i), []))
 
 pub loop-index-preserved : goal.loop-index-preserved
@@ -68,7 +73,8 @@ loop-index-preserved g c =
     let table = c.cut_token-alone.ensures.resting.0 ∙ i.table in
     record {
       table = c.cut_token-alone.ensures.same.0 ∙ i.table;
-      view = cut_on c.args.seat.now.me c.args.first c.args.count c.loop-index.index less i.view c.cut_token-alone.ensures.same.1;
+      view = cut_on c.args.seat.now.me c.args.first c.args.count c.loop-index.index less i.view
+          c.cut_token-alone.ensures.same.1;
       cut =
           c.in_ok-push.ensures.items
           ∙ (λ k. i.cut k ++ (c.new.ensures ∙ (λ j. record {
@@ -84,8 +90,14 @@ pub returns-clause-same : goal.returns-clause-same
 returns-clause-same g c =
     let i = c.loop-index.invariant in
     let past = c.loop-index-test.false in
-    let none : c.args.count - c.loop-index.index ≡ 0 = omega (arith, past) in
-    (i.table, i.view ∙ ap (λ n. (with_home c.args.seat.now.me.0 (count_up (c.args.first + c.loop-index.index) n), c.args.seat.now.me.1)) none)
+    let none : c.args.count - c.loop-index.index ≡ 0 = omega (arith, past) in (
+      i.table,
+      i.view
+          ∙ ap (λ n. (
+            with_home c.args.seat.now.me.0 (count_up (c.args.first + c.loop-index.index) n),
+            c.args.seat.now.me.1,
+          )) none,
+    )
 
 pub returns-clause-tokens : goal.returns-clause-tokens
 returns-clause-tokens g c =
@@ -93,4 +105,5 @@ returns-clause-tokens g c =
     let past = c.loop-index-test.false in
     let within = i.within in
     let all : c.loop-index.index ≡ c.args.count = omega (arith, past, within) in
-    i.cut ∙ ap (λ n. c.args.tokens.now.items ++ tokens_from (queue_of c.args.seat.now.table_id c.args.seat.now.me.0.opened) c.args.first n) all
+    i.cut ∙ ap (λ n. c.args.tokens.now.items
+    ++ tokens_from (queue_of c.args.seat.now.table_id c.args.seat.now.me.0.opened) c.args.first n) all

@@ -8,6 +8,7 @@ abbrev pub invariant-loop-index : goal.invariant-loop-index
 invariant-loop-index g l = record {
   table : l.seat.table_id ≡ l.fn.seat.table_id;
   view : l.seat.me ≡ (with_home l.fn.seat.me.0 (count_up (l.first + l.index) (l.count - l.index)), l.fn.seat.me.1);
-  cut : l.tokens.items ≡ l.fn.tokens.items ++ tokens_from (queue_of l.fn.seat.table_id l.fn.seat.me.0.opened) l.first l.index;
+  cut : l.tokens.items ≡ l.fn.tokens.items ++ tokens_from (queue_of l.fn.seat.table_id l.fn.seat.me.0.opened) l.first
+      l.index;
   within : l.index ≤ l.count;
 }

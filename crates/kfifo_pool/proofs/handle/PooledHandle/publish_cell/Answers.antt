@@ -22,8 +22,8 @@ returns-in-Full-clause-did g c =
     let inside : Pooled T = record { held = f.handle; free = all_free f.free; cells = f.cells } in
     let e = c.in-Full.ensures in let back = c.in-Full.back in (
       back,
-      published (P.Full back) (Some back) c.in-Some.token inside c.args.self.now c.put.new.self c.keep_reserved.new.self c.self.view_is
-          (sym c.in-Some.ensures.0)
+      published (P.Full back) (Some back) c.in-Some.token inside c.args.self.now c.put.new.self c.keep_reserved.new.self
+          c.self.view_is (sym c.in-Some.ensures.0)
           (record { same = e.same; puts = e.puts; starts = e.starts; promise = e.promise })
           (c.keep_reserved.ensures ∙ ap (with_reserved (Some back)) c.in-Some.ensures.1),
     )
@@ -34,8 +34,8 @@ returns-in-Busy-clause-did g c =
     let inside : Pooled T = record { held = f.handle; free = all_free f.free; cells = f.cells } in
     let e = c.in-Busy.ensures in let back = c.in-Busy.back in (
       back,
-      published (P.Busy back) (Some back) c.in-Some.token inside c.args.self.now c.put.new.self c.keep_reserved-in-Busy.new.self c.self.view_is
-          (sym c.in-Some.ensures.0)
+      published (P.Busy back) (Some back) c.in-Some.token inside c.args.self.now c.put.new.self
+          c.keep_reserved-in-Busy.new.self c.self.view_is (sym c.in-Some.ensures.0)
           (record { same = e.same; puts = e.puts; starts = e.starts; promise = e.promise })
           (c.keep_reserved-in-Busy.ensures ∙ ap (with_reserved (Some back)) c.in-Some.ensures.1),
       subst (λ (o : Pooled T). IsDisturbed (pass_of o.held) (pass_of c.put.new.self)) c.self.view_is (e.busy back refl),
@@ -47,8 +47,8 @@ returns-in-Worn-clause-did g c =
     let inside : Pooled T = record { held = f.handle; free = all_free f.free; cells = f.cells } in
     let e = c.in-Worn.ensures in let back = c.in-Worn.back in (
       back,
-      published (P.Worn back) (Some back) c.in-Some.token inside c.args.self.now c.put.new.self c.keep_reserved-in-Worn.new.self c.self.view_is
-          (sym c.in-Some.ensures.0)
+      published (P.Worn back) (Some back) c.in-Some.token inside c.args.self.now c.put.new.self
+          c.keep_reserved-in-Worn.new.self c.self.view_is (sym c.in-Some.ensures.0)
           (record { same = e.same; puts = e.puts; starts = e.starts; promise = e.promise })
           (c.keep_reserved-in-Worn.ensures ∙ ap (with_reserved (Some back)) c.in-Some.ensures.1),
     )

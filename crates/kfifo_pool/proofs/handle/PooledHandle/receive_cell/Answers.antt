@@ -1,7 +1,7 @@
 -- The cell that was received before is released, and then one is taken.
 use Rattle.std.proofs.Common.{ap, refl, subst, sym, ◌∙◌}
 use Rattle.kfifo_live.specs.Calls.{IsDisturbed}
-use Rattle.kfifo_live.specs.Tokens.{TokenHeld}
+use Rattle.kfifo_live.specs.Tokens.{TokenHandleView}
 use Rattle.kfifo_pool.specs.Cells.{TakesCell, with_received}
 use Rattle.kfifo_pool.specs.Pooled.{Pooled, all_free, pass_of}
 use Rattle.kfifo_pool.proofs.CellCalls.{cells_busy, released_held}
@@ -29,5 +29,5 @@ returns-clause-busy g c = λ busy.
     let T = g.row.T.Denot in
     let held = ap (λ (h : Pooled T). h.held) c.self.view_is
     ∙ released_held c.release_cell.result c.args.self.now c.release_cell.new.self c.release_cell.ensures.did in
-    subst (λ (h : TokenHeld T). IsDisturbed (pass_of h) (pass_of c.take.new.self)) held
+    subst (λ (h : TokenHandleView T). IsDisturbed (pass_of h) (pass_of c.take.new.self)) held
     (c.take.ensures.busy (cells_busy c.take.result (sym c.of_taken-taken.ensures.0 ∙ busy)))

@@ -1,7 +1,7 @@
 -- The cell that was received before is released, and then one is taken, or the queue is sealed.
 use Rattle.std.proofs.Common.{ap, refl, subst, sym, ◌∙◌}
 use Rattle.kfifo_live.specs.Calls.{IsDisturbed}
-use Rattle.kfifo_live.specs.Tokens.{TokenHeld}
+use Rattle.kfifo_live.specs.Tokens.{TokenHandleView}
 use Rattle.kfifo_pool.specs.Cells.{TakesCellOrSeals, with_received}
 use Rattle.kfifo_pool.specs.Pooled.{Pooled, all_free, pass_of}
 use Rattle.kfifo_pool.proofs.CellCalls.{cells_or_sealed_busy, cells_or_sealed_sealed, released_held}
@@ -10,18 +10,23 @@ use Rattle.kfifo_pool.proofs.handle.PooledHandle.receive_cell_or_seal.Goals as g
 pub returns-clause-receives : goal.returns-clause-receives
 returns-clause-receives g c =
     let T = g.row.T.Denot in let f = c.self.inside in
-    let new : Pooled T = record { held = c.take_or_seal.new.self; free = all_free f.free; cells = c.keep_received.new.self } in
+    let new : Pooled T = record {
+      held = c.take_or_seal.new.self;
+      free = all_free f.free;
+      cells = c.keep_received.new.self;
+    } in
     record {
       released = c.release_cell.result;
       between = c.release_cell.new.self;
       releases = c.release_cell.ensures.did;
-      takes = subst (λ (o : Pooled T). TakesCellOrSeals c.of_taken_or_sealed-taken.result.0 o new) c.self.view_is (record {
-        taken = c.take_or_seal.result;
-        answer_is = c.of_taken_or_sealed-taken.ensures.0;
-        takes = c.take_or_seal.ensures.takes;
-        cells = c.keep_received.ensures ∙ ap (λ t. with_received t f.cells) c.of_taken_or_sealed-taken.ensures.1;
-        same_free = refl;
-      });
+      takes = subst (λ (o : Pooled T). TakesCellOrSeals c.of_taken_or_sealed-taken.result.0 o new) c.self.view_is
+          (record {
+            taken = c.take_or_seal.result;
+            answer_is = c.of_taken_or_sealed-taken.ensures.0;
+            takes = c.take_or_seal.ensures.takes;
+            cells = c.keep_received.ensures ∙ ap (λ t. with_received t f.cells) c.of_taken_or_sealed-taken.ensures.1;
+            same_free = refl;
+          });
     }
 
 pub returns-clause-busy : goal.returns-clause-busy
@@ -29,9 +34,11 @@ returns-clause-busy g c = λ busy.
     let T = g.row.T.Denot in
     let held = ap (λ (h : Pooled T). h.held) c.self.view_is
     ∙ released_held c.release_cell.result c.args.self.now c.release_cell.new.self c.release_cell.ensures.did in
-    subst (λ (h : TokenHeld T). IsDisturbed (pass_of h) (pass_of c.take_or_seal.new.self)) held
-    (c.take_or_seal.ensures.busy (cells_or_sealed_busy c.take_or_seal.result (sym c.of_taken_or_sealed-taken.ensures.0 ∙ busy)))
+    subst (λ (h : TokenHandleView T). IsDisturbed (pass_of h) (pass_of c.take_or_seal.new.self)) held
+    (c.take_or_seal.ensures.busy
+    (cells_or_sealed_busy c.take_or_seal.result (sym c.of_taken_or_sealed-taken.ensures.0 ∙ busy)))
 
 pub returns-clause-sealed : goal.returns-clause-sealed
 returns-clause-sealed g c = λ is.
-    c.take_or_seal.ensures.sealed (cells_or_sealed_sealed c.take_or_seal.result (sym c.of_taken_or_sealed-taken.ensures.0 ∙ is))
+    c.take_or_seal.ensures.sealed
+    (cells_or_sealed_sealed c.take_or_seal.result (sym c.of_taken_or_sealed-taken.ensures.0 ∙ is))

@@ -3,7 +3,7 @@ use Rattle.std.proofs.Common.{refl, subst, sym}
 use Rattle.kfifo_live.specs.declared.handle.TheConstants.{MAX_TURNS}
 use Rattle.kfifo_live.specs.declared.tokens.sealing.ReceivedOrSealed.TheVariants as R
 use Rattle.kfifo_live.specs.Calls.{IsDisturbed}
-use Rattle.kfifo_live.specs.Tokens.{ReceivesOrSeals, TokenHeld}
+use Rattle.kfifo_live.specs.Tokens.{ReceivesOrSeals, TokenHandleView}
 use Rattle.kfifo_pool.specs.Pooled.{KeepsOne, Pooled, SealsOrNone, all_free, pass_of}
 use Rattle.kfifo_pool.proofs.handle.PooledHandle.receive_or_seal.Goals as goal
 
@@ -13,24 +13,28 @@ returns-in-Got-clause-receives g c =
       token,
       subst (λ (old : Pooled T). ReceivesOrSeals old.held.take_start MAX_TURNS answer old.held.pass
           c.release.new.self.held.pass) c.self.view_is
-          (subst (λ (held : TokenHeld T). ReceivesOrSeals c.self.inside.handle.take_start MAX_TURNS answer
+          (subst (λ (held : TokenHandleView T). ReceivesOrSeals c.self.inside.handle.take_start MAX_TURNS answer
           c.self.inside.handle.pass held.pass) (sym c.release.ensures.same) c.in-Got.ensures.receives),
-      subst (λ (old : Pooled T). KeepsOne token old.free c.release.new.self.free) c.self.view_is c.release.ensures.keeps,
+      subst (λ (old : Pooled T). KeepsOne token old.free c.release.new.self.free) c.self.view_is
+          c.release.ensures.keeps,
     )
 
 pub returns-in-Busy-clause-busy : goal.returns-in-Busy-clause-busy
 returns-in-Busy-clause-busy g c = λ busy.
-    subst (λ (old : Pooled g.row.T.Denot). IsDisturbed (pass_of old.held) (pass_of c.receive_or_seal.new.self)) c.self.view_is
+    subst (λ (old : Pooled g.row.T.Denot). IsDisturbed (pass_of old.held) (pass_of c.receive_or_seal.new.self))
+    c.self.view_is
     (c.in-Busy.ensures.busy refl)
 
 pub returns-in-Empty-clause-receives : goal.returns-in-Empty-clause-receives
 returns-in-Empty-clause-receives g c =
     subst (λ (old : Pooled g.row.T.Denot). SealsOrNone R.Empty old
-    (record { held = c.receive_or_seal.new.self; free = all_free c.self.inside.free; cells = c.self.inside.cells })) c.self.view_is
+    (record { held = c.receive_or_seal.new.self; free = all_free c.self.inside.free; cells = c.self.inside.cells }))
+    c.self.view_is
     (c.in-Empty.ensures.receives, refl)
 
 pub returns-in-Sealed-clause-receives : goal.returns-in-Sealed-clause-receives
 returns-in-Sealed-clause-receives g c =
     subst (λ (old : Pooled g.row.T.Denot). SealsOrNone R.Sealed old
-    (record { held = c.receive_or_seal.new.self; free = all_free c.self.inside.free; cells = c.self.inside.cells })) c.self.view_is
+    (record { held = c.receive_or_seal.new.self; free = all_free c.self.inside.free; cells = c.self.inside.cells }))
+    c.self.view_is
     (c.in-Sealed.ensures.receives, refl)

@@ -12,7 +12,8 @@ loop-pass-preserved g c =
     let rest : List (Pooled T) = map new_handle c.next.new.self.rest.items in
     record {
       same = refl;
-      rest = rest_holds (λ (p : PayPassView T). IsPassOf c.args.self.now p.pass) c.in-Some.pass c.next.new.self.rest.items
+      rest = rest_holds (λ (p : PayPassView T). IsPassOf c.args.self.now p.pass) c.in-Some.pass
+          c.next.new.self.rest.items
           c.loop-pass.pass-iterator.rest.items c.in-Some.ensures.steps.0 c.loop-pass.invariant.rest;
       made =
           (λ i. c.in_ok-push.ensures.items i ++ rest)

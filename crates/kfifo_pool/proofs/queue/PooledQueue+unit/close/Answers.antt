@@ -9,5 +9,6 @@ close-requires c =
     each_pass (λ (p : PassView). IsPassOf c.self.inside.queue p) c.in_ok-passes.passes.items
     (subst (λ (q : OpenQueue). All (λ (p : PassView). IsPassOf q p) (map (λ p. p.pass) c.in_ok-passes.passes.items))
     (sym c.self.view_is)
-    (subst (λ (passes : List (PayPassView (Unit {0}))). All (λ (p : PassView). IsPassOf c.args.self p) (map (λ p. p.pass) passes))
+    (subst (λ (passes : List (PayPassView (Unit {0}))). All (λ (p : PassView). IsPassOf c.args.self p)
+    (map (λ p. p.pass) passes))
     (sym c.in_ok-passes.ensures) c.requires))

@@ -8,7 +8,8 @@ pub returns-in-Some : goal.returns-in-Some
 returns-in-Some c = (
   Some c.in-Some.cell.index,
   c.try_to_reserve.new.self,
-  subst (λ (g : Generations (Unit {0})). TriesToReserve (Some c.in-Some.cell.index) g c.try_to_reserve.new.self) c.count_give.ensures c.in-Some.ensures,
+  subst (λ (g : Generations (Unit {0})). TriesToReserve (Some c.in-Some.cell.index) g c.try_to_reserve.new.self)
+      c.count_give.ensures c.in-Some.ensures,
   inl (refl, refl),
 )
 
@@ -16,7 +17,8 @@ pub returns-else-not-grows : goal.returns-else-not-grows
 returns-else-not-grows c = (
   None,
   c.try_to_reserve.new.self,
-  subst (λ (g : Generations (Unit {0})). TriesToReserve None g c.try_to_reserve.new.self) c.count_give.ensures c.in-None.ensures,
+  subst (λ (g : Generations (Unit {0})). TriesToReserve None g c.try_to_reserve.new.self) c.count_give.ensures
+      c.in-None.ensures,
   inr (refl, c.reserve_more.ensures),
 )
 
@@ -24,6 +26,7 @@ pub returns-then-not-grows : goal.returns-then-not-grows
 returns-then-not-grows c = (
   None,
   c.try_to_reserve.new.self,
-  subst (λ (g : Generations (Unit {0})). TriesToReserve None g c.try_to_reserve.new.self) c.count_give.ensures c.in-None.ensures,
+  subst (λ (g : Generations (Unit {0})). TriesToReserve None g c.try_to_reserve.new.self) c.count_give.ensures
+      c.in-None.ensures,
   inl (refl, refl),
 )

@@ -19,8 +19,8 @@ returns c =
         c.if-not-keep_up.ensures.newest,
         record {
           others = ap (λ (h : Generations (Unit {0})). with_newest h c.reserve.new.self.handle) c.self.view_is;
-          reserves = subst (λ (h : Pooled (Unit {0})). ReservesCell (cell_reserved c.reserve.result) h c.reserve.new.self.handle) newest
-              c.reserve.ensures.reserves;
+          reserves = subst (λ (h : Pooled (Unit {0})). ReservesCell (cell_reserved c.reserve.result) h
+              c.reserve.new.self.handle) newest c.reserve.ensures.reserves;
         },
       ),
     )

@@ -19,8 +19,10 @@ loop-place-preserved g c =
       count = omega (arith, i.count, added.room.1);
       room = subst (λ n. c.args.threads ≤ n) (sym added.room.0) i.room;
       rest = next.1;
-      of = subst (λ (q : OpenQueue). All (λ (h : Pooled g.row.T.Denot). IsPassOf q h.held.pass.pass) c.add_other.new.others.items) next.0
-          (added.of (subst (λ (q : OpenQueue). All (λ (h : Pooled g.row.T.Denot). IsPassOf q h.held.pass.pass) c.loop-place.others.items)
+      of = subst (λ (q : OpenQueue). All (λ (h : Pooled g.row.T.Denot). IsPassOf q h.held.pass.pass)
+          c.add_other.new.others.items) next.0
+          (added.of (subst (λ (q : OpenQueue). All (λ (h : Pooled g.row.T.Denot). IsPassOf q h.held.pass.pass)
+          c.loop-place.others.items)
           (sym next.0) i.of));
       others = added.threads ∙ ap (λ l. l ++ without c.args.own (c.loop-place.thread ∷ [])) i.others
           ∙ sym (others-more c.args.own c.loop-place.thread);

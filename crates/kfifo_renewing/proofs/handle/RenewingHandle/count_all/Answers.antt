@@ -18,8 +18,10 @@ returns g c =
     ∙ i.newest_opened in
     let newest : HeldIn T = record { handle = s.newest.handle; number = s.generation.value.number } in
     let sum : c.saturating_add.result ≤ (length s.older.items + 1) * slots_of o =
-    counts-more c.saturating_add.result c.count.result c.len.result 18446744073709551615 (length s.older.items) (slots_of o)
-    c.saturating_add.ensures (c.count.ensures o i.older_opened) (subst (λ (q : Opening). c.len.result ≤ slots_of q) opened c.len.ensures) in
+    counts-more c.saturating_add.result c.count.result c.len.result 18446744073709551615 (length s.older.items)
+    (slots_of o)
+    c.saturating_add.ensures (c.count.ensures o i.older_opened)
+    (subst (λ (q : Opening). c.len.result ≤ slots_of q) opened c.len.ensures) in
     subst (λ (v : Generations T). c.saturating_add.result ≤ length (all_of v) * slots_of v.opened) c.self.view_is
     (subst (λ n. c.saturating_add.result ≤ n * slots_of o)
     (sym (length-more (λ (p : PartView T). held_in p) s.older.items newest)) sum)

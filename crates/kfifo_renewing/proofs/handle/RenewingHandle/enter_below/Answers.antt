@@ -13,7 +13,8 @@ returns-in_default-clause-parts g c =
     let first = c.loop.history.log in
     let mid = c.next_after.new.history.log in
     let log = c.has_no_other.new.history.log in
-    parts-later first log c.loop.between.items (prefix-trans first mid log c.next_after.ensures.later.1 c.has_no_other.ensures.later.1)
+    parts-later first log c.loop.between.items (prefix-trans first mid log c.next_after.ensures.later.1
+    c.has_no_other.ensures.later.1)
     c.loop.invariant.parts
 
 pub returns-in_default-clause-all : goal.returns-in_default-clause-all
@@ -23,7 +24,8 @@ returns-in_default-clause-all g c none n above below was =
     let mid = c.next_after.new.history.log in
     let more = prefix-trans first c.loop.history.log mid c.loop.invariant.more c.next_after.ensures.later.1 in
     subst (λ (l : List (PartView T)). HasLeft c.has_no_other.new.history.log n ⊎ HasNumber l n) c.as_slice.ensures.value
-    (c.has_no_other.ensures.others none n (omega (arith, above, c.number.ensures)) below (was-later first mid n more was))
+    (c.has_no_other.ensures.others none n (omega (arith, above, c.number.ensures)) below
+    (was-later first mid n more was))
 
 pub loop-preserved-in_default-enter : goal.loop-preserved-in_default-enter
 loop-preserved-in_default-enter g c =
@@ -50,28 +52,34 @@ returns-in_default-reserve-clause-later g c =
     let mid = c.next_after.new.history.log in
     let log = c.enter.new.history.log in (
       c.enter.ensures.later.0 ∙ c.next_after.ensures.later.0 ∙ i.book,
-      prefix-trans c.args.history.now.log first log i.more (prefix-trans first mid log c.next_after.ensures.later.1 c.enter.ensures.later.1),
+      prefix-trans c.args.history.now.log first log i.more (prefix-trans first mid log c.next_after.ensures.later.1
+          c.enter.ensures.later.1),
     )
 
 pub returns-in_default-reserve-clause-opened : goal.returns-in_default-reserve-clause-opened
 returns-in_default-reserve-clause-opened g c =
-    subst (All (λ (p : PartView g.row.T.Denot). IsOpenedAs c.args.self.now.opened p.handle)) (sym c.reserve.ensures.items) c.loop.invariant.opened
+    subst (All (λ (p : PartView g.row.T.Denot). IsOpenedAs c.args.self.now.opened p.handle))
+    (sym c.reserve.ensures.items) c.loop.invariant.opened
 
 pub returns-in_default-reserve-clause-parts : goal.returns-in_default-reserve-clause-parts
 returns-in_default-reserve-clause-parts g c =
     let T = g.row.T.Denot in
     let first = c.loop.history.log in
     let log = c.enter.new.history.log in
-    let more = prefix-trans first c.next_after.new.history.log log c.next_after.ensures.later.1 c.enter.ensures.later.1 in
-    subst (All (IsPart {T = T} log)) (sym c.reserve.ensures.items) (parts-later first log c.loop.between.items more c.loop.invariant.parts)
+    let more = prefix-trans first c.next_after.new.history.log log c.next_after.ensures.later.1
+    c.enter.ensures.later.1 in
+    subst (All (IsPart {T = T} log)) (sym c.reserve.ensures.items)
+    (parts-later first log c.loop.between.items more c.loop.invariant.parts)
 
 pub returns-in_default-reserve-clause-below : goal.returns-in_default-reserve-clause-below
 returns-in_default-reserve-clause-below g c =
-    subst (All (λ (p : PartView g.row.T.Denot). p.number < c.args.end)) (sym c.reserve.ensures.items) c.loop.invariant.below
+    subst (All (λ (p : PartView g.row.T.Denot). p.number < c.args.end)) (sym c.reserve.ensures.items)
+    c.loop.invariant.below
 
 pub returns-in_default-reserve-clause-unused : goal.returns-in_default-reserve-clause-unused
 returns-in_default-reserve-clause-unused g c =
-    subst (All (IsUnused {T = g.row.T.Denot} c.args.self.now.thread c.args.self.now.number)) (sym c.reserve.ensures.items) c.loop.invariant.unused
+    subst (All (IsUnused {T = g.row.T.Denot} c.args.self.now.thread c.args.self.now.number))
+    (sym c.reserve.ensures.items) c.loop.invariant.unused
 
 pub loop-preserved : goal.loop-preserved
 loop-preserved g c =
@@ -84,7 +92,8 @@ loop-preserved g c =
     let entered = c.in-Some-enter.ensures in
     let above = c.in-Some.ensures.between.1 in
     let more = prefix-trans first mid log c.next_after.ensures.later.1 c.enter.ensures.later.1 in
-    let each : (P : PartView T → Type 0) → All P c.loop.between.items → P joined → All P c.push_reserved.new.self.items = λ P before this.
+    let each : (P : PartView T → Type 0) → All P c.loop.between.items → P joined
+    → All P c.push_reserved.new.self.items = λ P before this.
     subst (All P) (sym (c.push_reserved.ensures.items ∙ ap (λ l. l ++ joined ∷ []) c.reserve.ensures.items))
     (All-push P c.loop.between.items joined before this) in record {
       self = refl;
@@ -96,5 +105,9 @@ loop-preserved g c =
       below = each (λ (p : PartView T). p.number < c.args.end) i.below
           (omega (arith, entered.part.1, c.in-Some.ensures.between.2));
       from = let low = i.from in omega (arith, low, above);
-      unused = each (IsUnused c.args.self.now.thread c.args.self.now.number) i.unused (let low = i.from in omega (arith, low, above, entered.part.1), entered.part.3);
+      unused = each (IsUnused c.args.self.now.thread c.args.self.now.number) i.unused (
+        let low =
+            i.from in omega (arith, low, above, entered.part.1),
+        entered.part.3,
+      );
     }

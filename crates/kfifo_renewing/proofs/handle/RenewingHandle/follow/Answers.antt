@@ -17,10 +17,12 @@ loop-init g c =
     let later : IsLater old mid = subst (λ (h : Generations T). IsLater h mid) before c.leave_gone.ensures.later in
     let same : mid ≡ with_older (with_seen old mid.seen) mid.older =
     subst (λ (h : Generations T). mid ≡ with_older (with_seen h mid.seen) mid.older) before c.leave_gone.ensures.same in
-    let first = follows-less old mid later (subst (λ (h : Generations T). LeavesGone mid.seen h.older mid.older) before c.leave_gone.ensures.older)
+    let first = follows-less old mid later (subst (λ (h : Generations T). LeavesGone mid.seen h.older mid.older) before
+    c.leave_gone.ensures.older)
     (ap (λ (h : Generations T). h.newest) same) (ap (λ (h : Generations T). h.number) same) in
     follows-trans old mid c.retire_others.new.self first
-    (follows-seen mid c.retire_others.new.self c.retire_others.new.self.seen c.retire_others.ensures.same c.retire_others.ensures.later)
+    (follows-seen mid c.retire_others.new.self c.retire_others.new.self.seen c.retire_others.ensures.same
+    c.retire_others.ensures.later)
 
 pub loop-preserved : goal.loop-preserved
 loop-preserved g c =
@@ -28,7 +30,8 @@ loop-preserved g c =
 
 pub returns-then-try_to_follow : goal.returns-then-try_to_follow
 returns-then-try_to_follow g c = record {
-  follows = follows-trans c.args.self.now c.loop.self c.try_to_follow.new.self c.loop.invariant c.try_to_follow.ensures.follows;
+  follows = follows-trans c.args.self.now c.loop.self c.try_to_follow.new.self c.loop.invariant
+      c.try_to_follow.ensures.follows;
   newest = both-before c.args.self.now c.loop.self c.try_to_follow.new.self c.loop.invariant.later.seen true
       c.if-try_to_follow.ensures.newest;
   all = c.if-try_to_follow.ensures.all;

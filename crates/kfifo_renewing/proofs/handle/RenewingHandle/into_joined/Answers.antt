@@ -10,11 +10,16 @@ returns-clause-joined g c =
     let T = g.row.T.Denot in
     ap held_by (c.in_ok-push.ensures.items ∙ ap (λ l. l ++ c.self.inside.newest ∷ []) c.into_parts-all.ensures)
     ∙ map-append (λ (p : PartView T). held_in p) c.self.inside.older.items (c.self.inside.newest ∷ [])
-    ∙ ap (λ n. held_by c.self.inside.older.items ++ record { handle = c.self.inside.newest.handle; number = n } ∷ []) c.self.invariant.0.number
+    ∙ ap (λ n. held_by c.self.inside.older.items ++ record {
+      handle = c.self.inside.newest.handle;
+      number = n;
+    } ∷ []) c.self.invariant.0.number
     ∙ ap (λ (v : Generations T). all_of v) c.self.view_is
 
 pub returns-clause-of : goal.returns-clause-of
 returns-clause-of g c =
-    let P : PartView g.row.T.Denot → Type 0 = λ (p : PartView g.row.T.Denot). IsOpenedAs (opening_in c.self.inside.shared.value) p.handle in
+    let P : PartView g.row.T.Denot
+    → Type 0 = λ (p : PartView g.row.T.Denot). IsOpenedAs (opening_in c.self.inside.shared.value) p.handle in
     subst (All P) (sym (c.in_ok-push.ensures.items ∙ ap (λ l. l ++ c.self.inside.newest ∷ []) c.into_parts-all.ensures))
-    (All-push P c.self.inside.older.items c.self.inside.newest c.self.invariant.0.older_opened c.self.invariant.0.newest_opened)
+    (All-push P c.self.inside.older.items c.self.inside.newest c.self.invariant.0.older_opened
+    c.self.invariant.0.newest_opened)

@@ -15,8 +15,14 @@ returns-clause-same g c =
     let first = subst (λ l. IsPrefix l log)
     (ap (λ h. h.log) c.again-history.ensures ∙ ap (λ (v : Generations T). v.seen) c.self.view_is) c.learn.ensures.2 in
     let second = subst (λ l. IsPrefix l log) (ap (λ (v : Generations T). v.seen) c.other.view_is) c.learn.ensures.3 in
-    made-once a.seen b.seen log a.number b.number a.newest.held.pass.pass.table b.newest.held.pass.pass.table first second
-    (subst (λ (v : Generations T). IsNumbered v) c.self.view_is (numbered-by (opening_in c.self.inside.shared.value) c.self.inside.shared.value.history.book c.self.inside.history.book
-    c.self.inside.history.log c.self.inside.generation.value c.self.inside.newest c.self.inside.older.items c.self.invariant.0))
-    (subst (λ (v : Generations T). IsNumbered v) c.other.view_is (numbered-by (opening_in c.other.inside.shared.value) c.other.inside.shared.value.history.book c.other.inside.history.book
-    c.other.inside.history.log c.other.inside.generation.value c.other.inside.newest c.other.inside.older.items c.other.invariant.0))
+    made-once a.seen b.seen log a.number b.number a.newest.held.pass.pass.table b.newest.held.pass.pass.table first
+    second
+    (subst (λ (v : Generations T). IsNumbered v) c.self.view_is
+    (numbered-by (opening_in c.self.inside.shared.value) c.self.inside.shared.value.history.book
+    c.self.inside.history.book
+    c.self.inside.history.log c.self.inside.generation.value c.self.inside.newest c.self.inside.older.items
+    c.self.invariant.0))
+    (subst (λ (v : Generations T). IsNumbered v) c.other.view_is (numbered-by (opening_in c.other.inside.shared.value)
+    c.other.inside.shared.value.history.book c.other.inside.history.book
+    c.other.inside.history.log c.other.inside.generation.value c.other.inside.newest c.other.inside.older.items
+    c.other.invariant.0))

@@ -6,7 +6,8 @@ use mathlib.Core.List.{IsPrefix}
 use Rattle.kfifo_live.specs.Pass.{IsPassOf}
 use Rattle.kfifo_renewing.specs.History.{IsMade, WasNewest, newest_of}
 use Rattle.kfifo_renewing.specs.Joining.{AreAmong, IsPart, PartView, held_by, held_in}
-use Rattle.kfifo_renewing.specs.Renewing.{Generations, HeldIn, IsFresh, IsNew, IsOpenedAs, LeavesGone, all_of, opening_in}
+use Rattle.kfifo_renewing.specs.Renewing.{Generations, HeldIn, IsFresh, IsNew, IsOpenedAs, LeavesGone, all_of}
+use Rattle.kfifo_renewing.specs.Renewing.{opening_in}
 use Rattle.kfifo_renewing.proofs.Histories.{risen-from}
 use Rattle.kfifo_renewing.proofs.Joining.{among-later, joined-more, part-later, parts-later}
 use Rattle.kfifo_renewing.proofs.Departures.{leaves-refl}
@@ -26,22 +27,27 @@ invariant_of-self-2 g c = (
       let next = c.args.generation.value in
       let k = c.replace-before.new.dest in
       let after = sym c.replace-before.ensures.after in
-      joined-more o s.shared.value.history.book s.history.book c.learn.new.self.book s.history.log log c.learn.ensures.4.0
-      s.generation.value next s.newest k s.older.items c.args.between.items c.add.new.self.items c.self.invariant.0 c.learn.ensures.0
+      joined-more o s.shared.value.history.book s.history.book c.learn.new.self.book s.history.log log
+      c.learn.ensures.4.0
+      s.generation.value next s.newest k s.older.items c.args.between.items c.add.new.self.items c.self.invariant.0
+      c.learn.ensures.0
       c.learn.ensures.2 c.learn.ensures.4.1 (kept-risen c.learn.ensures.4.0 log c.learn.ensures.4.1)
       (subst (λ (x : Generations T). next.book ≡ x.book) v c.requires.books.1)
-      (subst (λ (p : PartView T). IsOpenedAs o p.handle) after (subst (λ (x : Generations T). IsOpenedAs x.opened c.args.newest.handle) v c.requires.of.0))
+      (subst (λ (p : PartView T). IsOpenedAs o p.handle) after
+      (subst (λ (x : Generations T). IsOpenedAs x.opened c.args.newest.handle) v c.requires.of.0))
       (subst (λ (p : PartView T). IsPassOf next.queue p.handle.held.pass.pass) after c.requires.of.1)
       (subst (λ (p : PartView T). p.number ≡ next.number) after c.requires.part.0)
       (subst (IsPart log) after (part-later seen log c.args.newest c.learn.ensures.3 c.requires.part.1))
       (subst (λ (x : Generations T). x.number < next.number) v c.requires.later)
       (subst (λ (x : Generations T). WasNewest x.seen next.number) v c.requires.was)
-      (subst (λ (x : Generations T). All (λ (p : PartView T). IsOpenedAs x.opened p.handle) c.args.between.items) v c.requires.opened)
+      (subst (λ (x : Generations T). All (λ (p : PartView T). IsOpenedAs x.opened p.handle) c.args.between.items) v
+      c.requires.opened)
       (parts-later seen log c.args.between.items c.learn.ensures.3 c.requires.parts)
       c.requires.below
       (among-later s.generation.value.number next.number c.args.between.items s.history.log seen log c.learn.ensures.3
       (subst (λ (x : Generations T). AreAmong x.number next.number c.args.between.items x.seen seen) v c.requires.all))
-      (c.add.ensures ∙ ap (λ l. l ++ c.args.between.items) (ap (λ l. l ++ c.replace-before.result ∷ []) c.make_room.ensures.items
+      (c.add.ensures ∙ ap (λ l. l ++ c.args.between.items)
+      (ap (λ l. l ++ c.replace-before.result ∷ []) c.make_room.ensures.items
       ∙ ap (λ x. s.older.items ++ x ∷ []) c.replace-before.ensures.value)),
   c.self.invariant.1,
 )
@@ -64,7 +70,8 @@ returns g c =
     (λ i d inside. ((c.requires.unused.1 i d inside).0, (parts i d inside).made, (c.requires.unused.1 i d inside).1)) in
     let part : IsPart log k = subst (IsPart log) (sym c.replace-before.ensures.after)
     (part-later c.args.history.now.log log c.args.newest c.learn.ensures.3 c.requires.part.1) in
-    let number : k.number ≡ next.number = subst (λ (p : PartView T). p.number ≡ next.number) (sym c.replace-before.ensures.after) c.requires.part.0 in
+    let number : k.number ≡ next.number =
+    subst (λ (p : PartView T). p.number ≡ next.number) (sym c.replace-before.ensures.after) c.requires.part.0 in
     let last : P (record { handle = k.handle; number = next.number }) = (
       c.requires.later,
       subst (λ n. IsMade log n k.handle.held.pass.pass.table) number part.made,
@@ -77,7 +84,8 @@ returns g c =
       seen = more;
       risen = risen-from now.seen log more (kept-risen c.learn.ensures.4.0 log c.learn.ensures.4.1);
     }) (let above = c.requires.later in omega (arith, above))
-    (ap held_by (c.add.ensures ∙ ap (λ l. l ++ between) (ap (λ l. l ++ c.replace-before.result ∷ []) c.make_room.ensures.items
+    (ap held_by (c.add.ensures ∙ ap (λ l. l ++ between)
+    (ap (λ l. l ++ c.replace-before.result ∷ []) c.make_room.ensures.items
     ∙ ap (λ x. s.older.items ++ x ∷ []) c.replace-before.ensures.value))
     ∙ map-append (λ (p : PartView T). held_in p) (s.older.items ++ s.newest ∷ []) between
     ∙ ap (λ l. l ++ held_by between) (map-append (λ (p : PartView T). held_in p) s.older.items (s.newest ∷ [])
@@ -86,7 +94,8 @@ returns g c =
     (All-push P (held_by between) (record { handle = k.handle; number = next.number }) each last)
 
 pub add-requires-clause-none : goal.add-requires-clause-none
-add-requires-clause-none g c i d inside = fresh-without (slice_index_or c.args.between.items i d) (c.requires.unused.1 i d inside).1.0
+add-requires-clause-none g c i d inside = fresh-without (slice_index_or c.args.between.items i d)
+    (c.requires.unused.1 i d inside).1.0
 
 pub leave_unused-requires : goal.leave_unused-requires
 leave_unused-requires g c i d inside = (c.requires.unused.1 i d inside).1.0

@@ -15,8 +15,10 @@ invariant_of-self g c = (
       let mid = c.look-found.new.history.log in
       let new = c.newest.new.history.log in
       let finds = c.look-found.ensures.finds in
-      let more = prefix-trans log mid new (was-prefix (sight_of c.self.inside.newest.handle.held.pass.pass) finds.number log mid finds.was) c.newest.ensures.later.1 in
-      joined-later (opening_in c.self.inside.shared.value) c.self.inside.shared.value.history.book c.self.inside.history.book
+      let more = prefix-trans log mid new (was-prefix (sight_of c.self.inside.newest.handle.held.pass.pass) finds.number
+      log mid finds.was) c.newest.ensures.later.1 in
+      joined-later (opening_in c.self.inside.shared.value) c.self.inside.shared.value.history.book
+      c.self.inside.history.book
       c.newest.new.history.book log new c.self.inside.generation.value c.self.inside.newest c.self.inside.older.items i
       (c.newest.ensures.later.0 ∙ c.look-found.ensures.book) more c.newest.ensures.risen,
   c.self.invariant.1,
@@ -28,12 +30,14 @@ returns-clause-later g c =
     let mid = c.look-found.new.history.log in
     let new = c.newest.new.history.log in
     let finds = c.look-found.ensures.finds in
-    let more = prefix-trans log mid new (was-prefix (sight_of c.self.inside.newest.handle.held.pass.pass) finds.number log mid finds.was) c.newest.ensures.later.1 in
+    let more = prefix-trans log mid new (was-prefix (sight_of c.self.inside.newest.handle.held.pass.pass) finds.number
+    log mid finds.was) c.newest.ensures.later.1 in
     let seen = ap (λ (h : Generations g.row.T.Denot). h.seen) c.self.view_is in
     record {
       opened = ap (λ (h : Generations g.row.T.Denot). h.opened) c.self.view_is;
       thread = ap (λ (h : Generations g.row.T.Denot). h.thread) c.self.view_is;
-      book = c.newest.ensures.later.0 ∙ c.look-found.ensures.book ∙ ap (λ (h : Generations g.row.T.Denot). h.book) c.self.view_is;
+      book = c.newest.ensures.later.0 ∙ c.look-found.ensures.book
+          ∙ ap (λ (h : Generations g.row.T.Denot). h.book) c.self.view_is;
       seen = subst (λ l. IsPrefix l new) seen more;
       risen = risen-from c.args.self.now.seen new (subst (λ l. IsPrefix l new) seen more) c.newest.ensures.risen;
     }

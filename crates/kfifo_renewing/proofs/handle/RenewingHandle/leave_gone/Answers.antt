@@ -22,7 +22,8 @@ loop-index-init g c =
       newest = ap (λ (h : Generations T). h.newest) c.self.view_is;
       number = ap (λ (h : Generations T). h.number) c.self.view_is;
       older = subst (λ hs. LeavesGone c.self.inside.history.log hs (held_by c.self.inside.older.items))
-          (ap (λ (h : Generations T). h.older) c.self.view_is) (leaves-refl c.self.inside.history.log (held_by c.self.inside.older.items));
+          (ap (λ (h : Generations T). h.older) c.self.view_is)
+          (leaves-refl c.self.inside.history.log (held_by c.self.inside.older.items));
       joined = c.self.invariant.0;
     }
 
@@ -40,7 +41,8 @@ loop-index-preserved-then-has g c =
       newest = i.newest;
       number = i.number;
       older = leaves-later s.history.log new c.args.self.now.older (held_by s.older.items) has.later.1 i.older;
-      joined = joined-later (opening_in s.shared.value) s.shared.value.history.book s.history.book c.has.new.history.book
+      joined = joined-later (opening_in s.shared.value) s.shared.value.history.book s.history.book
+          c.has.new.history.book
           s.history.log new s.generation.value s.newest s.older.items i.joined has.later.0 has.later.1
           (kept-risen has.kept.0 new has.kept.1);
     }
@@ -54,11 +56,17 @@ loop-index-preserved g c =
     let new = c.has.new.history.log in
     let p = c.index-parts-index.result in
     let without = c.leave.ensures in
-    let at : slice_get s.older.items c.loop-index.index ≡ Some p = subst (λ l. slice_get l c.loop-index.index ≡ Some p) c.parts.ensures (get-at c.parts.result.now c.loop-index.index p p (omega (arith, c.loop-index-test.true, c.len.ensures.count, ap length c.parts.ensures)) c.index-parts-index.is) in
+    let at : slice_get s.older.items c.loop-index.index ≡ Some p =
+    subst (λ l. slice_get l c.loop-index.index ≡ Some p) c.parts.ensures
+    (get-at c.parts.result.now c.loop-index.index p p
+    (omega (arith, c.loop-index-test.true, c.len.ensures.count, ap length c.parts.ensures))
+    c.index-parts-index.is) in
     let left : HasLeft new p.number = subst (HasLeft new) c.number.ensures
     (c.if-has.ensures.finds (subst (λ k. IsPlaced s.history.log c.number.result k) (sym c.place.ensures)
-    (subst (λ n. IsPlaced s.history.log n p.place) (sym c.number.ensures) (part-at s.history.log s.older.items c.loop-index.index p i.joined.older_parts at).placed))) in
-    let then = joined-later o s.shared.value.history.book s.history.book c.has.new.history.book s.history.log new s.generation.value
+    (subst (λ n. IsPlaced s.history.log n p.place) (sym c.number.ensures)
+    (part-at s.history.log s.older.items c.loop-index.index p i.joined.older_parts at).placed))) in
+    let then = joined-later o s.shared.value.history.book s.history.book c.has.new.history.book s.history.log new
+    s.generation.value
     s.newest s.older.items i.joined has.later.0 has.later.1 (kept-risen has.kept.0 new has.kept.1) in record {
       opened = i.opened;
       bare = i.bare;
@@ -69,9 +77,10 @@ loop-index-preserved g c =
       number = i.number;
       older = leaves-trans new c.args.self.now.older (held_by s.older.items) (held_by c.leave.new.self.items)
           (leaves-later s.history.log new c.args.self.now.older (held_by s.older.items) has.later.1 i.older)
-          (held-less new s.older.items c.leave.new.self.items c.loop-index.index p without at left (c.has_cell.ensures.0 c.if-has_cell.false));
-      joined = joined-less o s.shared.value.history.book c.has.new.history.book new has.kept.0 s.generation.value s.newest s.older.items
-          c.leave.new.self.items c.loop-index.index p then without at has.kept.1 left;
+          (held-less new s.older.items c.leave.new.self.items c.loop-index.index p without at left
+          (c.has_cell.ensures.0 c.if-has_cell.false));
+      joined = joined-less o s.shared.value.history.book c.has.new.history.book new has.kept.0 s.generation.value
+          s.newest s.older.items c.leave.new.self.items c.loop-index.index p then without at has.kept.1 left;
     }
 
 pub returns-clause-same : goal.returns-clause-same

@@ -15,7 +15,8 @@ invariant-loop-index g l = record {
   newest : l.self-inside.newest.handle ≡ l.fn.self.newest;
   number : l.self-inside.generation.value.number ≡ l.fn.self.number;
   older : LeavesGone l.self-inside.history.log l.fn.self.older (held_by l.self-inside.older.items);
-  joined : HasJoined (opening_in l.self-inside.shared.value) l.self-inside.shared.value.history.book l.self-inside.history.book
+  joined : HasJoined (opening_in l.self-inside.shared.value) l.self-inside.shared.value.history.book
+      l.self-inside.history.book
       l.self-inside.history.log l.self-inside.generation.value l.self-inside.newest l.self-inside.older.items;
 }
 

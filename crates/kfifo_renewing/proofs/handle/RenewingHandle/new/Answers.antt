@@ -10,11 +10,15 @@ invariant_of-result g c = (
   let T = g.row.T.Denot in
       let o = opening_in c.args.shared.value in
       let log = c.args.history.log in
-      subst (HasJoined {T = T} o c.args.shared.value.history.book c.args.history.book log c.args.generation.value c.start_giving.new.self)
+      subst (HasJoined {T = T} o c.args.shared.value.history.book c.args.history.book log c.args.generation.value
+      c.start_giving.new.self)
       (sym c.in_ok-older.ensures)
-      (subst (λ (p : PartView T). HasJoined o c.args.shared.value.history.book c.args.history.book log c.args.generation.value p [])
+      (subst (λ (p : PartView T). HasJoined o c.args.shared.value.history.book c.args.history.book log
+      c.args.generation.value p [])
       (sym c.start_giving.ensures)
-      (joined-first o c.args.shared.value.history.book c.args.history.book log c.args.generation.value c.args.newest c.requires.opened
-      c.requires.books.0 c.requires.books.1 c.requires.of c.requires.first.0 c.requires.first.1 c.requires.part c.requires.risen)),
+      (joined-first o c.args.shared.value.history.book c.args.history.book log c.args.generation.value c.args.newest
+      c.requires.opened
+      c.requires.books.0 c.requires.books.1 c.requires.of c.requires.first.0 c.requires.first.1 c.requires.part
+      c.requires.risen)),
   c.requires.bare,
 )

@@ -17,8 +17,10 @@ retire_others-requires-clause-others g c =
 pub invariant_of-self : goal.invariant_of-self
 invariant_of-self g c = (
   let s = c.self.inside in
-      joined-later (opening_in s.shared.value) s.shared.value.history.book s.history.book c.retire_others.new.history.book s.history.log
-      c.retire_others.new.history.log s.generation.value s.newest s.older.items c.self.invariant.0 c.retire_others.ensures.later.0
+      joined-later (opening_in s.shared.value) s.shared.value.history.book s.history.book
+      c.retire_others.new.history.book s.history.log
+      c.retire_others.new.history.log s.generation.value s.newest s.older.items c.self.invariant.0
+      c.retire_others.ensures.later.0
       c.retire_others.ensures.later.1 c.retire_others.ensures.risen,
   c.self.invariant.1,
 )
@@ -27,5 +29,6 @@ pub returns-clause-later : goal.returns-clause-later
 returns-clause-later g c =
     let T = g.row.T.Denot in
     later-by c.args.self.now _ c.self.inside.history.log (ap (λ (v : Generations T). v.opened) c.self.view_is)
-    (ap (λ (v : Generations T). v.thread) c.self.view_is) (c.retire_others.ensures.later.0 ∙ ap (λ (v : Generations T). v.book) c.self.view_is)
+    (ap (λ (v : Generations T). v.thread) c.self.view_is)
+    (c.retire_others.ensures.later.0 ∙ ap (λ (v : Generations T). v.book) c.self.view_is)
     (ap (λ (v : Generations T). v.seen) c.self.view_is) c.retire_others.ensures.later.1 c.retire_others.ensures.risen

@@ -4,7 +4,8 @@ use Rattle.std.proofs.lemmas.List.{nil_from_length}
 use Rattle.kfifo_live.specs.declared.payload.Taken.TheVariants as K
 use Rattle.kfifo_pool.specs.Pooled.{Pooled}
 use Rattle.kfifo_renewing.specs.History.{Finds, sight_of}
-use Rattle.kfifo_renewing.specs.Renewing.{Generations, IsLater, LooksAgain, Numbered, opening_in, TakesBy, TakesThere, with_newest, with_seen}
+use Rattle.kfifo_renewing.specs.Renewing.{Generations, IsLater, LooksAgain, Numbered, opening_in, TakesBy, TakesThere}
+use Rattle.kfifo_renewing.specs.Renewing.{with_newest, with_seen}
 use Rattle.kfifo_renewing.specs.Joining.{held_by}
 use Rattle.kfifo_renewing.proofs.Joining.{has-all, numbered-by}
 use Rattle.kfifo_renewing.proofs.Following.{Looked, joins-after, looked-follows, same-but-seen}
@@ -15,9 +16,11 @@ pub invariant_of-self : goal.invariant_of-self
 invariant_of-self g c = (
   joins-after (opening_in c.self.inside.shared.value) c.self.inside.shared.value.history.book
       c.self.inside.history.book c.look-later.new.history.book c.self.inside.history.log c.look-later.new.history.log
-      c.self.inside.generation.value c.self.inside.newest c.self.inside.newest c.self.inside.older.items (sight_of c.self.inside.newest.handle.held.pass.pass)
+      c.self.inside.generation.value c.self.inside.newest c.self.inside.newest c.self.inside.older.items
+      (sight_of c.self.inside.newest.handle.held.pass.pass)
       c.look-later.result c.self.invariant.0 (subst
-      (λ k. Finds (sight_of c.self.inside.newest.handle.held.pass.pass) k c.look-later.result c.self.inside.history.log c.look-later.new.history.log)
+      (λ k. Finds (sight_of c.self.inside.newest.handle.held.pass.pass) k c.look-later.result c.self.inside.history.log
+      c.look-later.new.history.log)
       (c.next.ensures.0 ∙ ap (λ (v : Numbered). v.number) c.deref-generation.ensures) c.look-later.ensures.finds)
       c.look-later.ensures.book (refl, refl, (refl, refl, refl)),
   c.self.invariant.1,
@@ -38,7 +41,8 @@ returns-then-later-len-ne0 g c =
     let now = c.args.self.now in
     let looked = subst (Looked found new) c.self.view_is (
       finds,
-      numbered-by (opening_in c.self.inside.shared.value) c.self.inside.shared.value.history.book c.self.inside.history.book
+      numbered-by (opening_in c.self.inside.shared.value) c.self.inside.shared.value.history.book
+          c.self.inside.history.book
           log c.self.inside.generation.value c.self.inside.newest c.self.inside.older.items i,
     ) in
     let h = c.self.inside.newest.handle in
@@ -48,7 +52,8 @@ returns-then-later-len-ne0 g c =
     (ap (λ (v : Generations T). v.thread) c.self.view_is)
     (c.look-later.ensures.book ∙ ap (λ (v : Generations T). v.book) c.self.view_is)
     (ap (λ (v : Generations T). v.older) c.self.view_is) (ap (λ (v : Generations T). v.number) c.self.view_is) in
-    let here = is ∙ ap (λ (x : Pooled T). with_newest (with_seen now new) x) (ap (λ (v : Generations T). v.newest) c.self.view_is) in
+    let here = is ∙ ap (λ (x : Pooled T). with_newest (with_seen now new) x)
+    (ap (λ (v : Generations T). v.newest) c.self.view_is) in
     takes-from-after R S r now (with_seen now new) end (looked-follows found new now looked)
     (subst (λ (v : Generations T). TakesBy R S r v end) here c.take_late-taken.ensures)
 
@@ -56,9 +61,11 @@ pub invariant_of-self-in-Got : goal.invariant_of-self-in-Got
 invariant_of-self-in-Got g c = (
   joins-after (opening_in c.self.inside.shared.value) c.self.inside.shared.value.history.book
       c.self.inside.history.book c.look-later.new.history.book c.self.inside.history.log c.look-later.new.history.log
-      c.self.inside.generation.value c.self.inside.newest c.take.new.self c.self.inside.older.items (sight_of c.self.inside.newest.handle.held.pass.pass)
+      c.self.inside.generation.value c.self.inside.newest c.take.new.self c.self.inside.older.items
+      (sight_of c.self.inside.newest.handle.held.pass.pass)
       c.look-later.result c.self.invariant.0 (subst
-      (λ k. Finds (sight_of c.self.inside.newest.handle.held.pass.pass) k c.look-later.result c.self.inside.history.log c.look-later.new.history.log)
+      (λ k. Finds (sight_of c.self.inside.newest.handle.held.pass.pass) k c.look-later.result c.self.inside.history.log
+      c.look-later.new.history.log)
       (c.next.ensures.0 ∙ ap (λ (v : Numbered). v.number) c.deref-generation.ensures) c.look-later.ensures.finds)
       c.look-later.ensures.book c.take.ensures.same,
   c.self.invariant.1,
@@ -68,9 +75,11 @@ pub invariant_of-self-in_default : goal.invariant_of-self-in_default
 invariant_of-self-in_default g c = (
   joins-after (opening_in c.self.inside.shared.value) c.self.inside.shared.value.history.book
       c.self.inside.history.book c.look-later.new.history.book c.self.inside.history.log c.look-later.new.history.log
-      c.self.inside.generation.value c.self.inside.newest c.take.new.self c.self.inside.older.items (sight_of c.self.inside.newest.handle.held.pass.pass)
+      c.self.inside.generation.value c.self.inside.newest c.take.new.self c.self.inside.older.items
+      (sight_of c.self.inside.newest.handle.held.pass.pass)
       c.look-later.result c.self.invariant.0 (subst
-      (λ k. Finds (sight_of c.self.inside.newest.handle.held.pass.pass) k c.look-later.result c.self.inside.history.log c.look-later.new.history.log)
+      (λ k. Finds (sight_of c.self.inside.newest.handle.held.pass.pass) k c.look-later.result c.self.inside.history.log
+      c.look-later.new.history.log)
       (c.next.ensures.0 ∙ ap (λ (v : Numbered). v.number) c.deref-generation.ensures) c.look-later.ensures.finds)
       c.look-later.ensures.book c.take.ensures.same,
   c.self.invariant.1,
@@ -91,26 +100,34 @@ returns-in-Got g c =
     let now = c.args.self.now in
     let looked = subst (Looked found new) c.self.view_is (
       finds,
-      numbered-by (opening_in c.self.inside.shared.value) c.self.inside.shared.value.history.book c.self.inside.history.book
+      numbered-by (opening_in c.self.inside.shared.value) c.self.inside.shared.value.history.book
+          c.self.inside.history.book
           log c.self.inside.generation.value c.self.inside.newest c.self.inside.older.items i,
     ) in
     let h = c.take.new.self.handle in
     let none : found ≡ 0 = omega (arith, c.if-later-len-ne0.false) in
     let alone = sym (ap (λ (v : Generations T). v.older) c.self.view_is)
-    ∙ ap held_by (nil_from_length c.self.inside.older.items (omega (arith, c.if-later-len-ne0.false, c.len.ensures.count))) in
-    let all = has-all (opening_in c.self.inside.shared.value) c.self.inside.shared.value.history.book c.look-later.new.history.book
+    ∙ ap held_by
+    (nil_from_length c.self.inside.older.items (omega (arith, c.if-later-len-ne0.false, c.len.ensures.count))) in
+    let all = has-all (opening_in c.self.inside.shared.value) c.self.inside.shared.value.history.book
+    c.look-later.new.history.book
     c.self.inside.generation.value c.self.inside.newest c.self.inside.older.items (with_seen now new)
-    (joins-after (opening_in c.self.inside.shared.value) c.self.inside.shared.value.history.book c.self.inside.history.book
-    c.look-later.new.history.book log new c.self.inside.generation.value c.self.inside.newest c.self.inside.newest c.self.inside.older.items
-    (sight_of c.self.inside.newest.handle.held.pass.pass) found i finds c.look-later.ensures.book (refl, refl, (refl, refl, refl)))
+    (joins-after (opening_in c.self.inside.shared.value) c.self.inside.shared.value.history.book
+    c.self.inside.history.book
+    c.look-later.new.history.book log new c.self.inside.generation.value c.self.inside.newest c.self.inside.newest
+    c.self.inside.older.items
+    (sight_of c.self.inside.newest.handle.held.pass.pass) found i finds c.look-later.ensures.book
+    (refl, refl, (refl, refl, refl)))
     (ap (λ (v : Generations T). v.older) c.self.view_is) (ap (λ (v : Generations T). v.newest) c.self.view_is)
     (ap (λ (v : Generations T). v.number) c.self.view_is) in
-    let takes = subst (λ (v : Generations T). TakesThere R c.take.result v.newest h) c.self.view_is c.take.ensures.takes in
+    let takes = subst (λ (v : Generations T). TakesThere R c.take.result v.newest h) c.self.view_is
+    c.take.ensures.takes in
     let is = same-but-seen new h now (ap (λ (v : Generations T). v.opened) c.self.view_is)
     (ap (λ (v : Generations T). v.thread) c.self.view_is)
     (c.look-later.ensures.book ∙ ap (λ (v : Generations T). v.book) c.self.view_is)
     (ap (λ (v : Generations T). v.older) c.self.view_is) (ap (λ (v : Generations T). v.number) c.self.view_is) in
-    subst (λ (v : Generations T). TakesBy R S (K.Got c.in-Got.got) now v) (sym is) (took-some R S (K.Got c.in-Got.got) now found new h looked none all alone
+    subst (λ (v : Generations T). TakesBy R S (K.Got c.in-Got.got) now v) (sym is)
+    (took-some R S (K.Got c.in-Got.got) now found new h looked none all alone
     (subst (λ a. TakesThere R a now.newest h) c.in-Got.is takes) (λ same. absurd cc))
 
 pub returns-in_default : goal.returns-in_default
@@ -128,21 +145,28 @@ returns-in_default g c =
     let now = c.args.self.now in
     let looked = subst (Looked found new) c.self.view_is (
       finds,
-      numbered-by (opening_in c.self.inside.shared.value) c.self.inside.shared.value.history.book c.self.inside.history.book
+      numbered-by (opening_in c.self.inside.shared.value) c.self.inside.shared.value.history.book
+          c.self.inside.history.book
           log c.self.inside.generation.value c.self.inside.newest c.self.inside.older.items i,
     ) in
     let h = c.take.new.self.handle in
     let none : found ≡ 0 = omega (arith, c.if-later-len-ne0.false) in
     let alone = sym (ap (λ (v : Generations T). v.older) c.self.view_is)
-    ∙ ap held_by (nil_from_length c.self.inside.older.items (omega (arith, c.if-later-len-ne0.false, c.len.ensures.count))) in
-    let all = has-all (opening_in c.self.inside.shared.value) c.self.inside.shared.value.history.book c.look-later.new.history.book
+    ∙ ap held_by
+    (nil_from_length c.self.inside.older.items (omega (arith, c.if-later-len-ne0.false, c.len.ensures.count))) in
+    let all = has-all (opening_in c.self.inside.shared.value) c.self.inside.shared.value.history.book
+    c.look-later.new.history.book
     c.self.inside.generation.value c.self.inside.newest c.self.inside.older.items (with_seen now new)
-    (joins-after (opening_in c.self.inside.shared.value) c.self.inside.shared.value.history.book c.self.inside.history.book
-    c.look-later.new.history.book log new c.self.inside.generation.value c.self.inside.newest c.self.inside.newest c.self.inside.older.items
-    (sight_of c.self.inside.newest.handle.held.pass.pass) found i finds c.look-later.ensures.book (refl, refl, (refl, refl, refl)))
+    (joins-after (opening_in c.self.inside.shared.value) c.self.inside.shared.value.history.book
+    c.self.inside.history.book
+    c.look-later.new.history.book log new c.self.inside.generation.value c.self.inside.newest c.self.inside.newest
+    c.self.inside.older.items
+    (sight_of c.self.inside.newest.handle.held.pass.pass) found i finds c.look-later.ensures.book
+    (refl, refl, (refl, refl, refl)))
     (ap (λ (v : Generations T). v.older) c.self.view_is) (ap (λ (v : Generations T). v.newest) c.self.view_is)
     (ap (λ (v : Generations T). v.number) c.self.view_is) in
-    let takes = subst (λ (v : Generations T). TakesThere R c.take.result v.newest h) c.self.view_is c.take.ensures.takes in
+    let takes = subst (λ (v : Generations T). TakesThere R c.take.result v.newest h) c.self.view_is
+    c.take.ensures.takes in
     let is = same-but-seen new h now (ap (λ (v : Generations T). v.opened) c.self.view_is)
     (ap (λ (v : Generations T). v.thread) c.self.view_is)
     (c.look-later.ensures.book ∙ ap (λ (v : Generations T). v.book) c.self.view_is)

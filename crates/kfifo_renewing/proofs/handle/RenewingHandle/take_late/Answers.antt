@@ -7,5 +7,12 @@ returns-then-not-keep_up g c =
     (c.keep_up.new.self, c.keep_up.ensures.follows, inr (c.if-not-keep_up.ensures.newest, refl, refl))
 
 pub returns : goal.returns
-returns g c =
-    (c.keep_up.new.self, c.keep_up.ensures.follows, inl (c.if-not-keep_up.ensures.newest, c.keep_up.ensures.all, c.take_oldest.ensures))
+returns g c = (
+  c.keep_up.new.self,
+  c.keep_up.ensures.follows,
+  inl (
+    c.if-not-keep_up.ensures.newest,
+    c.keep_up.ensures.all,
+    c.take_oldest.ensures,
+  ),
+)

@@ -23,7 +23,9 @@ returns g c =
       takes = record {
         taken = c.take-taken.result;
         did = subst (λ (x : Pooled T). TakesThere R c.take-taken.result now.newest x) (sym newest)
-            (subst (λ (v : Generations T). TakesThere R c.take-taken.result v.newest h) c.self.view_is c.take-taken.ensures.takes);
-        then = subst (λ (v : Generations T). LooksAgain c.take-taken.result c.look_again.result v new) e c.look_again.ensures.looks;
+            (subst (λ (v : Generations T). TakesThere R c.take-taken.result v.newest h) c.self.view_is
+            c.take-taken.ensures.takes);
+        then = subst (λ (v : Generations T). LooksAgain c.take-taken.result c.look_again.result v new) e
+            c.look_again.ensures.looks;
       };
     }

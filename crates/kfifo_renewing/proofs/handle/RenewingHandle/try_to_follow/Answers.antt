@@ -8,9 +8,11 @@ returns g c =
     let known = c.latest-last.new.self in
     let joined = c.join_up_to.new.self in
     let new = c.start_giving.new.self in
-    let first = follows-trans now known joined (follows-seen now known known.seen c.latest-last.ensures.same c.latest-last.ensures.later)
+    let first = follows-trans now known joined (follows-seen now known known.seen c.latest-last.ensures.same
+    c.latest-last.ensures.later)
     c.join_up_to.ensures in record {
-      follows = follows-trans now joined new first (follows-seen joined new new.seen c.start_giving.ensures.same c.start_giving.ensures.later);
+      follows = follows-trans now joined new first (follows-seen joined new new.seen c.start_giving.ensures.same
+          c.start_giving.ensures.later);
       newest = both-before now joined new first.later.seen c.start_giving.result c.start_giving.ensures.newest;
       all = c.start_giving.ensures.all;
     }

@@ -20,5 +20,7 @@ pub returns-clause-finds : goal.returns-clause-finds
 returns-clause-finds g c =
     let h = c.self.invariant in
     let number = ap (λ (v : NextView). v.number) c.self.view_is in
-    subst (λ n. Finds (sight_of c.args.part.now.handle.held.pass.pass) n c.load.result c.args.history.now.log c.load.new.seen.log) number
-    (c.load.ensures.6.1 (sight_of c.args.part.now.handle.held.pass.pass) c.self.inside.number c.plain-offer.ensures.1 (ap (λ w. w.key) h))
+    subst (λ n. Finds (sight_of c.args.part.now.handle.held.pass.pass) n c.load.result c.args.history.now.log
+    c.load.new.seen.log) number
+    (c.load.ensures.6.1 (sight_of c.args.part.now.handle.held.pass.pass) c.self.inside.number c.plain-offer.ensures.1
+    (ap (λ w. w.key) h))

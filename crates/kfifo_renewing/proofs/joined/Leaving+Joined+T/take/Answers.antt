@@ -15,5 +15,6 @@ invariant_of-self-inside g c =
 pub returns-clause-takes : goal.returns-clause-takes
 returns-clause-takes g c =
     let T = g.row.T.Denot in
-    let here = ap (λ (i : Inside (Joined T)). i.part.handle) c.self-inside.view_is ∙ ap (λ (p : PartView T). p.handle) c.self.view_is in
+    let here = ap (λ (i : Inside (Joined T)). i.part.handle) c.self-inside.view_is
+    ∙ ap (λ (p : PartView T). p.handle) c.self.view_is in
     subst (λ (h : Pooled T). TakesThere g.K.Kind.takes c.take.result h c.take.new.handle) here c.take.ensures.takes

@@ -15,5 +15,7 @@ invariant_of-self-inside g c =
 pub returns-clause-seals : goal.returns-clause-seals
 returns-clause-seals g c =
     let T = g.row.T.Denot in
-    let here = ap (λ (i : Inside (Joined T)). i.part.handle) c.self-inside.view_is ∙ ap (λ (p : PartView T). p.handle) c.self.view_is in
-    subst (λ (h : Pooled T). SealsThere g.K.Kind.seals c.take_or_seal.result h c.take_or_seal.new.handle) here c.take_or_seal.ensures.seals
+    let here = ap (λ (i : Inside (Joined T)). i.part.handle) c.self-inside.view_is
+    ∙ ap (λ (p : PartView T). p.handle) c.self.view_is in
+    subst (λ (h : Pooled T). SealsThere g.K.Kind.seals c.take_or_seal.result h c.take_or_seal.new.handle) here
+    c.take_or_seal.ensures.seals

@@ -20,8 +20,10 @@ number_in-requires c = (c.load-found.ensures.6.1 c.self.inside.place (ap (λ w. 
 
 pub returns-clause-finds : goal.returns-clause-finds
 returns-clause-finds c =
-    subst (λ n. FindsThere n c.number_in.result c.args.history.now.log c.load-found.new.seen.log) (ap (λ (v : LabelView). v.place) c.self.view_is)
-    (found-there c.self.inside.place c.load-found.result c.number_in.result c.args.history.now.log c.load-found.new.seen.log
+    subst (λ n. FindsThere n c.number_in.result c.args.history.now.log c.load-found.new.seen.log)
+    (ap (λ (v : LabelView). v.place) c.self.view_is)
+    (found-there c.self.inside.place c.load-found.result c.number_in.result c.args.history.now.log
+    c.load-found.new.seen.log
     (c.load-found.ensures.6.1 c.self.inside.place (ap (λ w. w.key) c.self.invariant.0)).0 c.load-found.ensures.5
     c.number_in.ensures.some c.number_in.ensures.word)
 

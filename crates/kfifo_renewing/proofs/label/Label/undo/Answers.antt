@@ -21,7 +21,8 @@ compare_exchange-requires c =
       c.requires.books.0 ∙ sym book,
       c.requires.books.1 ∙ sym book,
       offer.0,
-      rw (ap (λ w. w.key) h.0, offer.3, c.requires.pen) (subst (λ m. Moves IsKept shown moved (label_of place) (log, (pen, None))
+      rw (ap (λ w. w.key) h.0, offer.3, c.requires.pen)
+          (subst (λ m. Moves IsKept shown moved (label_of place) (log, (pen, None))
           (λ k. either (k == m) 0 k) (Empties (step (label_of place) m 0 (C.Newest n)) (log, (pen, None)))) up
           (undoes-moves log n place (C.Newest n) h.1)),
     )

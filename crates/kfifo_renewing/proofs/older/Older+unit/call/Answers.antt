@@ -12,5 +12,7 @@ returns-then-self-eq0-clause-same c = same-refl c.args.self.now.items
 
 pub returns-then-self-eq0-clause-calls : goal.returns-then-self-eq0-clause-calls
 returns-then-self-eq0-clause-calls c =
-    subst (λ (o : OlderView (Unit {0})). CallsFirst c.args.call (G.NoToken tt) (held_by o.items) (held_by o.items)) c.self.view_is
-    (finds-none c.args.call c.self.inside.parts.items (subst (λ n. All HasNoCell (drop n c.self.inside.parts.items)) c.if-self-eq0.true c.self.invariant))
+    subst (λ (o : OlderView (Unit {0})). CallsFirst c.args.call (G.NoToken tt) (held_by o.items) (held_by o.items))
+    c.self.view_is
+    (finds-none c.args.call c.self.inside.parts.items (subst (λ n. All HasNoCell (drop n c.self.inside.parts.items))
+    c.if-self-eq0.true c.self.invariant))

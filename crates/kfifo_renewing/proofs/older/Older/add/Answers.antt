@@ -1,5 +1,6 @@
 -- The handle may have a cell in the part that is added, and in none of those behind it.
-use Rattle.std.proofs.Common.{◌≡◌, ◌∷◌, [], ◌++◌, All, ap, arith, drop, length, refl, subst, sym, ◌∙◌, vec_capacity, vec_len}
+use Rattle.std.proofs.Common.{◌≡◌, ◌∷◌, [], ◌++◌, All, ap, arith, drop, length, refl, subst, sym, ◌∙◌, vec_capacity}
+use Rattle.std.proofs.Common.{vec_len}
 use Rattle.std.proofs.Math.Seq.{drop-append_seam}
 use Rattle.kfifo_renewing.specs.Joining.{HasNoCell, OlderView}
 use Rattle.kfifo_renewing.proofs.Joining.{all-moved}
@@ -38,12 +39,14 @@ invariant_of-self g c =
     (elim c.if-has_cell.branch [
       | then-has_cell w ↦
           let count : c.if-has_cell.self-inside.with_cells ≡ length (ps ++ c.args.part ∷ []) =
-          ap (λ x. x.with_cells) w.self-inside-is ∙ omega (arith, w.len-self-inside.ensures, c.push_reserved.new.self.ok.0)
+          ap (λ x. x.with_cells) w.self-inside-is
+          ∙ omega (arith, w.len-self-inside.ensures, c.push_reserved.new.self.ok.0)
           ∙ ap length c.push_reserved.ensures.items in
           subst (λ n. All HasNoCell (drop n ((ps ++ c.args.part ∷ []) ++ between))) (sym count)
           (subst (All HasNoCell) (sym (drop-append_seam (ps ++ c.args.part ∷ []) between)) c.requires.none)
       | else-has_cell w ↦
-          subst (λ n. All HasNoCell (drop n ((ps ++ c.args.part ∷ []) ++ between))) (sym (ap (λ x. x.with_cells) w.self-inside-is))
+          subst (λ n. All HasNoCell (drop n ((ps ++ c.args.part ∷ []) ++ between)))
+          (sym (ap (λ x. x.with_cells) w.self-inside-is))
           (all-from-append HasNoCell (ps ++ c.args.part ∷ []) between s.with_cells
           (all-from-append HasNoCell ps (c.args.part ∷ []) s.with_cells c.self.invariant
           (All-cons HasNoCell c.args.part [] (c.has_cell-has_cell.ensures.0 w.if-has_cell.false) (All-nil HasNoCell)))

@@ -9,18 +9,21 @@ use Rattle.kfifo_renewing.proofs.older.Older.take_first.Goals as goal
 pub take_first-taken-requires-clause-parts : goal.take_first-taken-requires-clause-parts
 take_first-taken-requires-clause-parts g c =
     subst (All (IsPart c.args.history.now.log)) (sym c.as_mut_slice-parts.ensures.value)
-    (subst (λ (o : OlderView g.row.T.Denot). All (IsPart c.args.history.now.log) o.items) (sym c.self.view_is) c.requires.parts)
+    (subst (λ (o : OlderView g.row.T.Denot). All (IsPart c.args.history.now.log) o.items) (sym c.self.view_is)
+    c.requires.parts)
 
 pub invariant_of-self-then-self-eq0 : goal.invariant_of-self-then-self-eq0
 invariant_of-self-then-self-eq0 g c =
     let T = g.row.T.Denot in
     let s = c.self.inside in
     let new = c.take_first-taken.new.generations in
-    let is = written s.parts.items new s.parts.len (c.take_first-taken.auto.generations ∙ ap length c.as_mut_slice-parts.ensures.value)
+    let is = written s.parts.items new s.parts.len (c.take_first-taken.auto.generations
+    ∙ ap length c.as_mut_slice-parts.ensures.value)
     (omega (arith, s.parts.ok.0)) in
     let same : drop 1 new ≡ drop 1 s.parts.items = c.take_first-taken.ensures.others c.if-found_empty.false
     ∙ ap (drop 1) c.as_mut_slice-parts.ensures.value in
-    let none : All HasNoCell s.parts.items = subst (λ n. All HasNoCell (drop n s.parts.items)) c.if-self-eq0.true c.self.invariant in
+    let none : All HasNoCell s.parts.items = subst (λ n. All HasNoCell (drop n s.parts.items)) c.if-self-eq0.true
+    c.self.invariant in
     subst (λ (l : List (PartView T)). All HasNoCell (drop 1 l)) (sym is)
     (subst (All HasNoCell) (sym same) (All-drop HasNoCell 1 s.parts.items none))
 
@@ -29,7 +32,8 @@ invariant_of-self-else-self-eq0 g c =
     let T = g.row.T.Denot in
     let s = c.self.inside in
     let new = c.take_first-taken.new.generations in
-    let is = written s.parts.items new s.parts.len (c.take_first-taken.auto.generations ∙ ap length c.as_mut_slice-parts.ensures.value)
+    let is = written s.parts.items new s.parts.len (c.take_first-taken.auto.generations
+    ∙ ap length c.as_mut_slice-parts.ensures.value)
     (omega (arith, s.parts.ok.0)) in
     let same : drop 1 new ≡ drop 1 s.parts.items = c.take_first-taken.ensures.others c.if-found_empty.false
     ∙ ap (drop 1) c.as_mut_slice-parts.ensures.value in

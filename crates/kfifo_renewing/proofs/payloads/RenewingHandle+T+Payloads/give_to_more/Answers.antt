@@ -13,5 +13,6 @@ returns g c =
     let same = c.open_more.ensures.same in
     let number = ap (λ (h : Generations T). h.number) same in
     again-after c.args.payload c.try_next.result old mid c.try_next.new.self
-    (follows-less old mid c.open_more.ensures.later c.open_more.ensures.older (ap (λ (h : Generations T). h.newest) same) number)
+    (follows-less old mid c.open_more.ensures.later c.open_more.ensures.older
+    (ap (λ (h : Generations T). h.newest) same) number)
     number c.try_next.ensures

@@ -18,9 +18,10 @@ returns g c =
         c.if-not-keep_up.ensures.newest,
         record {
           others = ap (λ (h : Generations g.row.T.Denot). with_newest h c.give.new.self.handle) c.self.view_is;
-          same = subst (λ (h : Pooled g.row.T.Denot). IsSamePass h.held.pass.pass c.give.new.self.handle.held.pass.pass) newest c.give.ensures.same.2;
-          gives = subst (λ (h : Pooled g.row.T.Denot). GivesOne c.args.payload c.give.result h c.give.new.self.handle) newest
-              c.give.ensures.gives;
+          same = subst (λ (h : Pooled g.row.T.Denot). IsSamePass h.held.pass.pass c.give.new.self.handle.held.pass.pass)
+              newest c.give.ensures.same.2;
+          gives = subst (λ (h : Pooled g.row.T.Denot). GivesOne c.args.payload c.give.result h c.give.new.self.handle)
+              newest c.give.ensures.gives;
         },
       ),
     )

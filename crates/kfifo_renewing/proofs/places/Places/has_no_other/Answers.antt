@@ -38,14 +38,15 @@ loop-index-preserved g c =
         s.2,
         s.3,
         prefix-trans s.0 old new s.4 look.later.1,
-        looked-more c.args.number c.args.end c.loop-index.index c.args.joined.now c.look-found.result s.0 old new s.5 s.4 look.later.1
-            look.finds (c.is_known.ensures c.if-not-is_known.false),
+        looked-more c.args.number c.args.end c.loop-index.index c.args.joined.now c.look-found.result s.0 old new s.5
+            s.4 look.later.1 look.finds (c.is_known.ensures c.if-not-is_known.false),
       );
     }
 
 pub returns-clause-others : goal.returns-clause-others
 returns-clause-others g c is =
     let s = c.loop-index.invariant.seen in
-    looked-all c.args.number c.args.end c.args.joined.now s.1 c.args.history.now.log s.0 c.loop-index.history.log s.2 s.3
+    looked-all c.args.number c.args.end c.args.joined.now s.1 c.args.history.now.log s.0 c.loop-index.history.log
+    s.2 s.3
     (subst (λ k. LookedAt c.args.number c.args.end k c.args.joined.now s.0 c.loop-index.history.log)
     (omega (arith, c.loop-index-test.false)) s.5)

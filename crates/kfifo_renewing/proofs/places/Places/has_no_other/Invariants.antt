@@ -13,6 +13,7 @@ invariant-loop-index g l = record {
   number : l.number ≡ l.fn.number;
   end : l.end ≡ l.fn.end;
   joined : l.joined ≡ l.fn.joined;
-  seen : (base : List Change) × (cells : List Cell) × IsKept cells base × IsPrefix l.fn.history.log base × IsPrefix base l.history.log
+  seen : (base : List Change) × (cells : List Cell) × IsKept cells base × IsPrefix l.fn.history.log base
+      × IsPrefix base l.history.log
       × LookedAt l.fn.number l.fn.end l.index l.fn.joined base l.history.log;
 }

@@ -12,9 +12,11 @@ returns-clause-left g c =
     let label : LabelView = c.index.result.now in
     let labels = c.self.invariant.2 in
     let inside = c.requires.part.inside in
-    let at = get-at c.self.inside.labels.items c.place.result label label (omega (arith, labels.0, inside, c.place.ensures)) c.index.ensures in
+    let at = get-at c.self.inside.labels.items c.place.result label label
+    (omega (arith, labels.0, inside, c.place.ensures)) c.index.ensures in
     let each = labels.1 c.place.result (omega (arith, inside, c.place.ensures)) in
     let is : label ≡ record { place = c.place.result; book = c.self.inside.lineage.history.book } = cc (at, each) in
     let there = subst (IsPlaced c.args.history.now.log part.number) (sym c.place.ensures) c.requires.part.placed in
     left-later c.leave.new.history.log c.learn.new.self.log part.number c.learn.ensures.2
-    (c.leave.ensures.left (subst (IsPlaced c.args.history.now.log part.number) (sym (ap (λ (v : LabelView). v.place) is)) there))
+    (c.leave.ensures.left
+    (subst (IsPlaced c.args.history.now.log part.number) (sym (ap (λ (v : LabelView). v.place) is)) there))

@@ -9,14 +9,18 @@ pub retire_other-requires-clause-over : goal.retire_other-requires-clause-over
 retire_other-requires-clause-over g c =
     let log = c.look.new.history.log in
     let kept = c.look.ensures.kept in
-    let more = prefix-trans c.args.history.now.log c.loop-index.history.log log c.loop-index.invariant.more c.look.ensures.later.1 in
-    let up = risen-was log c.args.number (kept-risen kept.0 log kept.1) (was-later c.args.history.now.log log c.args.number more c.requires.newest) in
+    let more = prefix-trans c.args.history.now.log c.loop-index.history.log log c.loop-index.invariant.more
+    c.look.ensures.later.1 in
+    let up = risen-was log c.args.number (kept-risen kept.0 log kept.1)
+    (was-later c.args.history.now.log log c.args.number more c.requires.newest) in
     omega (arith, c.if-other-number.false, up)
 
 pub retire_other-requires-clause-gone : goal.retire_other-requires-clause-gone
 retire_other-requires-clause-gone g c was =
     let log = c.look.new.history.log in
     let kept = c.look.ensures.kept in
-    let more = prefix-trans c.args.history.now.log c.loop-index.history.log log c.loop-index.invariant.more c.look.ensures.later.1 in
-    others-gone c.args.history.now.log log c.args.joined.now c.args.number c.in-Some.other more (kept-risen kept.0 log kept.1)
+    let more = prefix-trans c.args.history.now.log c.loop-index.history.log log c.loop-index.invariant.more
+    c.look.ensures.later.1 in
+    others-gone c.args.history.now.log log c.args.joined.now c.args.number c.in-Some.other more
+    (kept-risen kept.0 log kept.1)
     c.requires.newest c.requires.others (omega (arith, c.if-other-number.false)) c.if-has_number.ensures was

@@ -11,5 +11,6 @@ renew-requires-clause-newest g c =
     let then = c.learn-2.new.self.log in
     let log = c.put.new.history.log in
     subst (WasNewest log) (sym c.next-2.ensures.0)
-    (was-later then log n c.put.ensures.later.1 (was-later mid then n c.learn-2.ensures.2 (was-later c.again-seen.result.log mid n c.learn.ensures.3
+    (was-later then log n c.put.ensures.later.1
+    (was-later mid then n c.learn-2.ensures.2 (was-later c.again-seen.result.log mid n c.learn.ensures.3
     (subst (λ h. WasNewest h n) (sym (ap (λ h. h.log) c.again-seen.ensures)) c.requires.newest))))

@@ -8,14 +8,16 @@ pub returns-then-not-pick-clause-refused : goal.returns-then-not-pick-clause-ref
 returns-then-not-pick-clause-refused c shape scripts earlier stands =
     let now : StandsFor shape scripts (earlier ++ replicate c.loop-place.place c.args.pick) c.loop-place.self =
     c.loop-place.invariant.stands shape scripts earlier stands in
-    let before : replicate c.loop-place.place c.args.pick ≡ take c.loop-place.place (replicate c.args.count c.args.pick) =
+    let before : replicate c.loop-place.place c.args.pick
+    ≡ take c.loop-place.place (replicate c.args.count c.args.pick) =
     sym (take-replicate c.loop-place.place c.args.count c.args.pick (omega (arith, c.loop-place-test.true))) in
     let next : c.args.pick ≡ get_or (replicate c.args.count c.args.pick) c.loop-place.place 0 =
     sym (get_or-replicate c.args.count c.loop-place.place c.args.pick 0 c.loop-place-test.true) in
     let refused : IsRefused shape scripts (earlier ++ replicate c.loop-place.place c.args.pick) c.args.pick =
     c.pick.ensures.refused c.if-not-pick.true shape scripts (earlier ++ replicate c.loop-place.place c.args.pick) now in
     let same : c.loop-place.self ≡ c.pick.new.self = sym (c.pick.ensures.unchanged c.if-not-pick.true) in
-    let stops : StopsAt shape scripts earlier (replicate c.args.count c.args.pick) c.loop-place.place c.pick.new.self = record {
+    let stops : StopsAt shape scripts earlier (replicate c.args.count c.args.pick) c.loop-place.place c.pick.new.self =
+    record {
       within = let size = length-replicate c.args.count c.args.pick in omega (arith, size, c.loop-place-test.true);
       refused = subst (λ (xs : List ℕ). IsRefused shape scripts (earlier ++ xs)
           (get_or (replicate c.args.count c.args.pick) c.loop-place.place 0)) before

@@ -8,6 +8,7 @@ use Rattle.kfifo_replay.proofs.player.Replay.finish.Given as goal
 abbrev pub invariant-loop-thread : goal.invariant-loop-thread
 invariant-loop-thread l = record {
   most : l.self.trace.most ≡ l.initial.self.trace.most;
-  finished : (shape : Shape) (scripts : List (List Begin)) (earlier : List ℕ) → StandsFor shape scripts earlier l.initial.self
+  finished : (shape : Shape) (scripts : List (List Begin)) (earlier : List ℕ)
+      → StandsFor shape scripts earlier l.initial.self
       → Finished l.stopped shape scripts l.thread earlier l.self;
 }

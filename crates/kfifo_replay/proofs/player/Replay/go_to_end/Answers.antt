@@ -18,7 +18,8 @@ loop-preserved c =
       most = c.pick.ensures.most ∙ c.loop.invariant.most;
       count = count + 1;
       stands = λ shape scripts earlier stands.
-          let more : (earlier ++ replicate count c.args.thread) ++ c.args.thread ∷ [] ≡ earlier ++ replicate (count + 1) c.args.thread =
+          let more : (earlier ++ replicate count c.args.thread) ++ c.args.thread ∷ [] ≡ earlier
+          ++ replicate (count + 1) c.args.thread =
           append_assoc earlier (replicate count c.args.thread) (c.args.thread ∷ [])
           ∙ ap (λ (xs : List ℕ). earlier ++ xs) (replicate_more count c.args.thread) in
           subst (λ (xs : List ℕ). StandsFor shape scripts xs c.pick.new.self) more
@@ -37,5 +38,6 @@ returns-clause-ended c shape scripts earlier stands =
         ended =
             c.pick.ensures.refused c.loop-test.false shape scripts (earlier ++ replicate count c.args.thread) now;
       },
-      subst (StandsFor shape scripts (earlier ++ replicate count c.args.thread)) (sym (c.pick.ensures.unchanged c.loop-test.false)) now,
+      subst (StandsFor shape scripts (earlier ++ replicate count c.args.thread))
+          (sym (c.pick.ensures.unchanged c.loop-test.false)) now,
     )

@@ -9,7 +9,8 @@ invariant-loop l = record {
   most : l.self.trace.most ≡ l.initial.self.trace.most;
   count : ℕ;
   stands : (shape : Shape) (scripts : List (List Begin)) (earlier : List ℕ)
-      → StandsFor shape scripts earlier l.initial.self → StandsFor shape scripts (earlier ++ replicate count l.thread) l.self;
+      → StandsFor shape scripts earlier l.initial.self
+      → StandsFor shape scripts (earlier ++ replicate count l.thread) l.self;
 }
 
 abbrev pub decreases-loop : goal.decreases-loop

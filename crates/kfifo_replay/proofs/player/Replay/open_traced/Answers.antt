@@ -16,7 +16,8 @@ by_calls scripts = map (λ (script : Vec Begin Global). script.items) scripts
 
 pub count_calls-room-requires : goal.count_calls-room-requires
 count_calls-room-requires c =
-    let are : AreScripts c.args.shape (by_calls c.args.scripts.now) = c.are_scripts.ensures.0 c.if-not-are_scripts.false in
+    let are : AreScripts c.args.shape (by_calls c.args.scripts.now) =
+    c.are_scripts.ensures.0 c.if-not-are_scripts.false in
     omega (arith, few_calls c.args.shape (by_calls c.args.scripts.now) are, calls_in-map c.args.scripts.now)
 
 -- what it holds
@@ -31,12 +32,14 @@ stands : (c : goal.In_ok-new-2) → StandsFor c.args.shape (by_calls c.args.scri
       trace = c.in_ok-new-2.field-0;
     })
 stands c =
-    let are : AreScripts c.args.shape (by_calls c.args.scripts.now) = c.are_scripts.ensures.0 c.if-not-are_scripts.false in
+    let are : AreScripts c.args.shape (by_calls c.args.scripts.now) =
+    c.are_scripts.ensures.0 c.if-not-are_scripts.false in
     let size : length c.args.scripts.now ≡ length (by_calls c.args.scripts.now) =
     sym (length-map c.args.scripts.now (λ (script : Vec Begin Global). script.items)) in
     let calls : c.count_calls-room.result ≡ calls_in (by_calls c.args.scripts.now) =
     c.count_calls-room.ensures ∙ sym (calls_in-map c.args.scripts.now) in
-    let follows : Follows (length c.args.scripts.now) c.count_calls-room.result [] c.in-Ok.linearizer = c.in-Ok.ensures.follows.1 in
+    let follows : Follows (length c.args.scripts.now) c.count_calls-room.result [] c.in-Ok.linearizer =
+    c.in-Ok.ensures.follows.1 in
     stands_none c.args.shape (by_calls c.args.scripts.now) _ are refl c.in_ok-copy_scripts.ensures
     (ap (λ (f : Follower). f.shape) c.linearizer.view_is ∙ c.in-Ok.ensures.follows.0)
     (subst (λ n. Follows n (calls_in (by_calls c.args.scripts.now)) [] (the_view c.linearizer.inside)) size
@@ -48,7 +51,12 @@ stands c =
     refl c.in_ok-new-2.ensures.none
 
 pub invariant_of-result-2 : goal.invariant_of-result-2
-invariant_of-result-2 c = record { shape = c.args.shape; scripts = by_calls c.args.scripts.now; picks = []; stands = stands c }
+invariant_of-result-2 c = record {
+  shape = c.args.shape;
+  scripts = by_calls c.args.scripts.now;
+  picks = [];
+  stands = stands c;
+}
 
 pub returns-clause-opened : goal.returns-clause-opened
 returns-clause-opened c = stands c

@@ -18,10 +18,12 @@ unreachable-requires c =
     let i = c.self.invariant in
     let p : Player = the_view c.self.inside in
     let order : c.as_slice.result.now ≡ order_of i.shape (length i.scripts) i.stands.events =
-    c.as_slice.ensures.value ∙ order_is i.shape i.scripts i.picks p i.stands c.in_ok-order.order.items c.in_ok-order.ensures in
+    c.as_slice.ensures.value ∙ order_is i.shape i.scripts i.picks p i.stands c.in_ok-order.order.items
+    c.in_ok-order.ensures in
     let history : c.in_ok-history.history ≡ history_of i.shape (length i.scripts) i.stands.events =
     history_same i.shape i.scripts i.picks p i.stands c.in_ok-history.history
-    (c.in_ok-history.ensures.history i.shape i.scripts i.picks (subst (StandsFor i.shape i.scripts i.picks) c.self.view_is i.stands)) in
+    (c.in_ok-history.ensures.history i.shape i.scripts i.picks
+    (subst (StandsFor i.shape i.scripts i.picks) c.self.view_is i.stands)) in
     let k : c.k.result ≡ i.shape.k = c.k.ensures ∙ ap (λ (x : Shape). x.k) i.stands.shape_is in
     let refused : IsLegal c.k.result c.in_ok-history.history c.as_slice.result.now → ⊥ =
     subst (IsRankFault c.k.result c.in_ok-history.history c.as_slice.result.now) c.in-Err-NotLegal.field-0-is
@@ -36,14 +38,16 @@ pub count_unfinished-requires-clause-few : goal.count_unfinished-requires-clause
 count_unfinished-requires-clause-few c =
     let i = c.self.invariant in
     let order : c.in_ok-order.order.items ≡ order_of i.shape (length i.scripts) i.stands.events =
-    order_is i.shape i.scripts i.picks (the_view c.self.inside) i.stands c.in_ok-order.order.items c.in_ok-order.ensures in
+    order_is i.shape i.scripts i.picks (the_view c.self.inside) i.stands c.in_ok-order.order.items
+    c.in_ok-order.ensures in
     let size : length c.as_slice-2.result.now ≡ length (order_of i.shape (length i.scripts) i.stands.events) =
     ap (λ (l : List ℕ). length l) (c.as_slice-2.ensures.value ∙ order) in
     omega (arith, size, few_in_order i.shape i.scripts i.picks (the_view c.self.inside) i.stands)
 
 pub returns-clause-report : goal.returns-clause-report
 returns-clause-report c shape scripts picks stands =
-    let s : StandsFor shape scripts picks (the_view c.self.inside) = subst (StandsFor shape scripts picks) (sym c.self.view_is) stands in
+    let s : StandsFor shape scripts picks (the_view c.self.inside) =
+    subst (StandsFor shape scripts picks) (sym c.self.view_is) stands in
     let order : c.in_ok-order.order.items ≡ order_of shape (length scripts) s.events =
     order_is shape scripts picks (the_view c.self.inside) s c.in_ok-order.order.items c.in_ok-order.ensures in
     let history : c.in_ok-history.history ≡ history_of shape (length scripts) s.events =

@@ -19,4 +19,5 @@ same_slot k s t i j i_in j_in same =
     ]
 
 pub returns-clause-distinct : goal.returns-clause-distinct
-returns-clause-distinct c s i s_in i_in same = same_slot c.args.self.now.k s c.args.segment i c.args.slot i_in c.requires.slot_in same
+returns-clause-distinct c s i s_in i_in same = same_slot c.args.self.now.k s c.args.segment i c.args.slot i_in
+    c.requires.slot_in same

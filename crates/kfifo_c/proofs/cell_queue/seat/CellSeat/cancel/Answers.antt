@@ -5,4 +5,5 @@ use Rattle.kfifo_c.specs.CellSeats.{CellSeated}
 use Rattle.kfifo_c.proofs.cell_queue.seat.CellSeat.cancel.Goals as goal
 
 pub returns : goal.returns
-returns c = subst (λ (s : CellSeated). CallsOnce C.Cancel c.cancel.result s c.cancel.new.self) c.self.view_is c.cancel.ensures
+returns c = subst (λ (s : CellSeated). CallsOnce C.Cancel c.cancel.result s c.cancel.new.self) c.self.view_is
+    c.cancel.ensures

@@ -5,4 +5,5 @@ use Rattle.kfifo_c.specs.CellSeats.{CellSeated}
 use Rattle.kfifo_c.proofs.cell_queue.seat.CellSeat.publish.Goals as goal
 
 pub returns : goal.returns
-returns c = subst (λ (s : CellSeated). CallsOnce C.Publish c.publish.result s c.publish.new.self) c.self.view_is c.publish.ensures
+returns c = subst (λ (s : CellSeated). CallsOnce C.Publish c.publish.result s c.publish.new.self) c.self.view_is
+    c.publish.ensures

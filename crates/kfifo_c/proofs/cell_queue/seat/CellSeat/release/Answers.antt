@@ -5,4 +5,5 @@ use Rattle.kfifo_c.specs.CellSeats.{CellSeated}
 use Rattle.kfifo_c.proofs.cell_queue.seat.CellSeat.release.Goals as goal
 
 pub returns : goal.returns
-returns c = subst (λ (s : CellSeated). CallsOnce C.Release c.release.result s c.release.new.self) c.self.view_is c.release.ensures
+returns c = subst (λ (s : CellSeated). CallsOnce C.Release c.release.result s c.release.new.self) c.self.view_is
+    c.release.ensures

@@ -4,20 +4,22 @@ use Rattle.kfifo_live.specs.declared.handle.TheConstants.{MAX_TURNS}
 use Rattle.kfifo_live.specs.Calls.{IsDisturbed}
 use Rattle.kfifo_live.specs.declared.payload.Taken.{Taken}
 use Rattle.kfifo_live.specs.Payloads.{TokenView}
-use Rattle.kfifo_live.specs.Tokens.{TakesToken, TokenHeld}
+use Rattle.kfifo_live.specs.Tokens.{TakesToken, TokenHandleView}
 use Rattle.kfifo_live.proofs.Handled.{turns_enough}
 use Rattle.kfifo_live.proofs.tokens.handle.TokenHandle.take.Goals as goal
 
 pub returns-clause-takes : goal.returns-clause-takes
 returns-clause-takes g c =
-    subst (λ (h : TokenHeld g.row.T.Denot). TakesToken h.take_start MAX_TURNS c.take.result h.pass c.take.new.self)
+    subst (λ (h : TokenHandleView g.row.T.Denot). TakesToken h.take_start MAX_TURNS c.take.result h.pass
+    c.take.new.self)
     c.self.view_is
     (subst (λ (start : ℕ). TakesToken start MAX_TURNS c.take.result c.self.inside.pass c.take.new.self)
     c.next-start.ensures.start c.take.ensures.takes)
 
 pub returns-clause-busy : goal.returns-clause-busy
 returns-clause-busy g c is =
-    let takes = subst (λ (x : Taken TokenView). TakesToken c.next-start.result MAX_TURNS x c.self.inside.pass c.take.new.self) is
+    let takes = subst (λ (x : Taken TokenView). TakesToken c.next-start.result MAX_TURNS x c.self.inside.pass
+    c.take.new.self) is
     c.take.ensures.takes in
-    subst (λ (h : TokenHeld g.row.T.Denot). IsDisturbed h.pass.pass c.take.new.self.pass) c.self.view_is
+    subst (λ (h : TokenHandleView g.row.T.Denot). IsDisturbed h.pass.pass c.take.new.self.pass) c.self.view_is
     (takes.0.call.disturbed refl (turns_enough c.self.inside.pass.pass.opened.shape))

@@ -13,14 +13,17 @@ unreachable-requires c =
     grind (arith, c.if-capacity-greatest.false, c.greatest_for-greatest.ensures) in
     let few = few_tokens c.args.k c.args.capacity c.args.threads some_threads some within in
     let segments = few_segments (c.args.threads * tokens_for c.args.capacity c.args.threads) c.args.k some_slots few in
-    let tokens : c.div_ceil-tokens.result + 32 ≡ tokens_for c.args.capacity c.args.threads = ap (λ d. d + 32) c.div_ceil-tokens.ensures in
-    let n : c.segments_of-segments.result ≡ segments_for (c.args.threads * tokens_for c.args.capacity c.args.threads) c.args.k =
+    let tokens : c.div_ceil-tokens.result + 32 ≡ tokens_for c.args.capacity c.args.threads =
+    ap (λ d. d + 32) c.div_ceil-tokens.ensures in
+    let n : c.segments_of-segments.result ≡ segments_for (c.args.threads * tokens_for c.args.capacity c.args.threads)
+    c.args.k =
     c.segments_of-segments.ensures ∙ ap (λ t. segments_for (c.args.threads * t) c.args.k) tokens in
     let few_slots : c.args.k ≤ 64 = grind (arith, c.if-k-gt-MAX_K.false) in
     let some_last : 2 ≤ c.args.last = grind (arith, c.if-last-lt2.false) in
     let few_last : c.args.last ≤ 1099511627775 = grind (arith, c.if-last-gt-MAX_VERSION.false) in
     no_fault c.args.k c.segments_of-segments.result c.args.last c.in_default.field-0 some_slots few_slots
-    (subst (λ x. 2 ≤ x) (sym n) segments.0) (subst (λ x. x ≤ 1024) (sym n) segments.1) some_last few_last c.in_default.ensures
+    (subst (λ x. 2 ≤ x) (sym n) segments.0) (subst (λ x. x ≤ 1024) (sym n) segments.1) some_last few_last
+    c.in_default.ensures
 
 pub returns-clause-room : goal.returns-clause-room
 returns-clause-room c =
@@ -31,8 +34,10 @@ returns-clause-room c =
     grind (arith, c.if-capacity-greatest.false, c.greatest_for-greatest.ensures) in
     let few = few_tokens c.args.k c.args.capacity c.args.threads some_threads some within in
     let segments = few_segments (c.args.threads * tokens_for c.args.capacity c.args.threads) c.args.k some_slots few in
-    let tokens : c.div_ceil-tokens.result + 32 ≡ tokens_for c.args.capacity c.args.threads = ap (λ d. d + 32) c.div_ceil-tokens.ensures in
-    let n : c.segments_of-segments.result ≡ segments_for (c.args.threads * tokens_for c.args.capacity c.args.threads) c.args.k =
+    let tokens : c.div_ceil-tokens.result + 32 ≡ tokens_for c.args.capacity c.args.threads =
+    ap (λ d. d + 32) c.div_ceil-tokens.ensures in
+    let n : c.segments_of-segments.result ≡ segments_for (c.args.threads * tokens_for c.args.capacity c.args.threads)
+    c.args.k =
     c.segments_of-segments.ensures ∙ ap (λ t. segments_for (c.args.threads * t) c.args.k) tokens in
     let few_slots : c.args.k ≤ 64 = grind (arith, c.if-k-gt-MAX_K.false) in
     let enough = enough_tokens c.args.capacity c.args.threads some_threads in

@@ -1,6 +1,6 @@
 -- When single items are there.
-use Rattle.std.proofs.Common.{ℕ, ◌≡◌, ◌+◌, ◌<◌, ◌≤◌, ◌↔◌, List, [], ◌∷◌, ◌++◌, length, get_or, sym, ◌∙◌, ap, subst, inl, inr, arith}
-use Rattle.std.proofs.Common.{length-append}
+use Rattle.std.proofs.Common.{ℕ, ◌≡◌, ◌+◌, ◌<◌, ◌≤◌, ◌↔◌, List, [], ◌∷◌, ◌++◌, length, get_or, sym, ◌∙◌, ap, subst, inl}
+use Rattle.std.proofs.Common.{inr, arith, length-append}
 use Rattle.std.proofs.lemmas.Bool.{cases_lt}
 use Rattle.std.proofs.lemmas.List.{get_or_append_left}
 use Rattle.std.proofs.Math.Seq.{get_or-append_seam}
@@ -20,7 +20,8 @@ same_put h x y p e f = let q : Adds x ≡ Adds y = sym e ∙ f in cc
 of_item : (h : List Call) (x y p : ℕ) (P : ℕ → Type 0) → IsSingle h x p → IsSingle h y p → P y → P x
 of_item h x y p P s t q = subst P (same_put h y x p t.puts s.puts) q
 
-known_there : (h : List Call) (x p : ℕ) (s : Presence) → IsKnown h x p s → (c moment : ℕ) → s.start ≤ c → c < s.gone → c < length h
+known_there : (h : List Call) (x p : ℕ) (s : Presence) → IsKnown h x p s → (c moment : ℕ) → s.start ≤ c → c < s.gone
+    → c < length h
     → first_of h c ≤ moment → (s.gone < length h → moment < first_of h s.gone) → IsCertainlyThere h p moment
 known_there h x p s k c moment from before inside le below =
     record {
@@ -38,7 +39,8 @@ known_there h x p s k c moment from before inside le below =
       ];
     }
 
-known_kept : (h : List Call) (x p : ℕ) (s : Presence) → IsKnown h x p s → (moment : ℕ) → IsCertainlyThere h p moment → s.gone < length h
+known_kept : (h : List Call) (x p : ℕ) (s : Presence) → IsKnown h x p s → (moment : ℕ) → IsCertainlyThere h p moment
+    → s.gone < length h
     → moment < first_of h s.gone
 known_kept h x p s k moment t inside =
     let P : ℕ → Type 0 = λ w. (g : ℕ) → Gets h w g → moment < first_of h g in
@@ -101,21 +103,27 @@ known_presence h x p s v k = record {
   real = λ some. (x, k.single.puts);
 }
 
-pub never_presence : (h : List Call) (p : ℕ) (s : Presence) → s.start ≡ length h → s.gone ≡ 0 → ((x : ℕ) → IsSingle h x p → ⊥)
+pub never_presence : (h : List Call) (p : ℕ) (s : Presence) → s.start ≡ length h → s.gone ≡ 0
+    → ((x : ℕ) → IsSingle h x p → ⊥)
     → IsPresence h p s
 never_presence h p s start gone none = record {
   bound = (omega (arith, start), omega (arith, gone));
   there = λ c moment from before inside le below. absurd (omega (arith, before, gone));
   until = λ moment t inside. absurd (none t.item t.single);
   from = λ c inside t. absurd (none t.item t.single);
-  older = λ g put after inside a. (λ o. absurd (none o.item o.single), λ r. let f = r.0 in absurd (omega (arith, f, start, inside)));
+  older = λ g put after inside a. (
+    λ o. absurd (none o.item o.single),
+    λ r. let f =
+        r.0 in absurd (omega (arith, f, start, inside)),
+  );
   known = λ x t. absurd (none x t);
   real = λ some. absurd (omega (arith, some, gone));
 }
 
 -- ---- the presences so far
 
-pub presences_more : (h : List Call) (n : ℕ) (ps more : List Presence) (s : Presence) → ArePresences h n ps → IsPresence h n s
+pub presences_more : (h : List Call) (n : ℕ) (ps more : List Presence) (s : Presence) → ArePresences h n ps
+    → IsPresence h n s
     → more ≡ ps ++ s ∷ [] → ArePresences h (n + 1) more
 presences_more h n ps more s was is e =
     let size = was.0 in
@@ -125,7 +133,8 @@ presences_more h n ps more s was is e =
         | inl below ↦ (
             let inside : p < length ps = omega (arith, below, size) in
             let P : Presence → Type 0 = λ w. IsPresence h p w in
-            subst P (sym (ap (λ (l : List Presence). get_or l p no_presence) e ∙ get_or_append_left ps (s ∷ []) no_presence p inside))
+            subst P (sym (ap (λ (l : List Presence). get_or l p no_presence) e ∙ get_or_append_left ps (s ∷ [])
+            no_presence p inside))
             (was.1 p below)
             )
         | inr le ↦ (
@@ -134,7 +143,8 @@ presences_more h n ps more s was is e =
             let Q : ℕ → Type 0 = λ w. IsPresence h w s in
             let P : Presence → Type 0 = λ w. IsPresence h p w in
             subst P (sym (ap (λ (l : List Presence). get_or l p no_presence) e
-            ∙ (ap (λ w. get_or (ps ++ s ∷ []) w no_presence) same ∙ get_or-append_seam ps s [] no_presence))) (subst Q (sym here) is)
+            ∙ (ap (λ w. get_or (ps ++ s ∷ []) w no_presence) same ∙ get_or-append_seam ps s [] no_presence)))
+            (subst Q (sym here) is)
             )
       ],
     )

@@ -1,7 +1,7 @@
 //! A seat, put behind a pointer, taken back and lent. In a file of its own, since clauses name the rows of both.
 ghost use Rattle.std.specs.Prelude.{◌≡◌, Some};
 ghost use Rattle.std.specs.Borrow.{sem, follows};
-ghost use Rattle.kfifo_c.specs.Lent.{held_with};
+ghost use Rattle.kfifo_c.specs.SeatPointer.{held_with};
 ghost use Rattle.kfifo_c.specs.contracts.held.Held.{the_row as held_row};
 
 use crate::fits::Fits;

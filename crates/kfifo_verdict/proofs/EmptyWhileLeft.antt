@@ -1,11 +1,10 @@
 -- The search for Empties while items were left: entries sorted by items and steps, and until when items are left.
-use Rattle.std.proofs.Common.{ℕ, zero, suc, ◌≡◌, ◌≢◌, ◌+◌, ◌<◌, ◌≤◌, ◌⊎◌, ◌↔◌, ◌||◌, Bool, true, false, cond, count_by, eqb, leb, ltb}
-use Rattle.std.proofs.Common.{max}
-use Rattle.std.proofs.Common.{List, [], ◌∷◌, ◌++◌, length, get_or, set, refl, sym, ◌∙◌, ap, subst, inl, inr, arith}
-use Rattle.std.proofs.Common.{length-append, length-set, get_or-set_other, get_or-set_same}
-use Rattle.std.proofs.lemmas.Bool.{cases_Bool, cases_lt, cases_eq, eq-eqb, ne_eqb, eqb-true, lt-ltb, ltb-true, leb-true, le-leb, leb-false}
-use Rattle.std.proofs.lemmas.Bool.{ltb-false}
-use Rattle.std.proofs.lemmas.Bool.{and_from, and_parts, and_left, or_left, or_right, false≢true, false_from_ne_true}
+use Rattle.std.proofs.Common.{ℕ, zero, suc, ◌≡◌, ◌≢◌, ◌+◌, ◌<◌, ◌≤◌, ◌⊎◌, ◌↔◌, ◌||◌, Bool, true, false, cond, count_by}
+use Rattle.std.proofs.Common.{eqb, leb, ltb, max, List, [], ◌∷◌, ◌++◌, length, get_or, set, refl, sym, ◌∙◌, ap, subst}
+use Rattle.std.proofs.Common.{inl, inr, arith, length-append, length-set, get_or-set_other, get_or-set_same}
+use Rattle.std.proofs.lemmas.Bool.{cases_Bool, cases_lt, cases_eq, eq-eqb, ne_eqb, eqb-true, lt-ltb, ltb-true, leb-true}
+use Rattle.std.proofs.lemmas.Bool.{le-leb, leb-false, ltb-false, and_from, and_parts, and_left, or_left, or_right}
+use Rattle.std.proofs.lemmas.Bool.{false≢true, false_from_ne_true}
 use Rattle.std.proofs.lemmas.List.{get_or_append_left}
 use Rattle.std.proofs.lemmas.List.Sums.{sum_by-cons, count_by-le-length}
 use Rattle.std.proofs.Math.Seq.{get_or-append_seam}
@@ -31,11 +30,13 @@ use Rattle.kfifo_verdict.proofs.Moments.{rising, not_falling, reached}
 
 -- ---- in a sorted list
 
-none_pass : (test : ℕ × ℕ × ℕ → Bool) (l : List (ℕ × ℕ × ℕ)) → ((i : ℕ) → i < length l → test (place l i) ≡ true → ⊥) → count_by test l ≡ 0
+none_pass : (test : ℕ × ℕ × ℕ → Bool) (l : List (ℕ × ℕ × ℕ)) → ((i : ℕ) → i < length l → test (place l i) ≡ true → ⊥)
+    → count_by test l ≡ 0
 none_pass test [] never = refl
 none_pass test (e ∷ l) never =
     let on = none_pass test l (λ i lt q. never (suc i) (omega (arith, lt)) q) in
-    let none : ◌≡◌ {A = ℕ} (cond (test e) 1 0) 0 = ap (λ b. cond b 1 0) (false_from_ne_true (test e) (λ q. never zero (omega arith) q)) in
+    let none : ◌≡◌ {A = ℕ} (cond (test e) 1 0) 0 =
+    ap (λ b. cond b 1 0) (false_from_ne_true (test e) (λ q. never zero (omega arith) q)) in
     let p = sum_by-cons (λ w. cond (test w) 1 0) e l in
     omega (arith, on, none, p)
 
@@ -65,8 +66,11 @@ first_pass test (e ∷ l) down i inside =
           pass_on test e l on holds (omega (arith, p, one)) i inside
           )
       | inr fails ↦ (
-          let none = none_pass test (e ∷ l) (λ j lt q. false≢true (sym fails ∙ down zero j (omega arith) lt q)) in
-          (λ lt. absurd (omega (arith, lt, none)), λ q. absurd (false≢true (sym fails ∙ down zero i (omega arith) inside q)))
+          let none = none_pass test (e ∷ l) (λ j lt q. false≢true (sym fails ∙ down zero j (omega arith) lt q)) in (
+            λ lt. absurd (omega (arith, lt, none)),
+            λ q.
+                absurd (false≢true (sym fails ∙ down zero i (omega arith) inside q)),
+          )
           )
     ]
 
@@ -102,10 +106,12 @@ up_to_sooner side x t a b (inr even) (inr same) =
     let le : a.1 ≤ b.1 = elim even.1 [ inl lt ↦ omega (arith, lt) | inr q ↦ (let r = q.0 in omega (arith, r)) ] in
     inr (same.0 ∙ sym even.0, passes_sooner side a.1 b.1 t le same.1)
 
-pub up_to_first : (side : Side) (x t : ℕ) (steps : List (ℕ × ℕ × ℕ)) → IsSortedBy lower steps → IsForFirst (is_up_to side x t) steps
+pub up_to_first : (side : Side) (x t : ℕ) (steps : List (ℕ × ℕ × ℕ)) → IsSortedBy lower steps
+    → IsForFirst (is_up_to side x t) steps
 up_to_first side x t steps up i j le lt q =
     up_to_from side x t (place steps i)
-    (up_to_sooner side x t (place steps i) (place steps j) (line_rises steps up i j le lt) (up_to_of side x t (place steps j) q))
+    (up_to_sooner side x t (place steps i) (place steps j) (line_rises steps up i j le lt)
+    (up_to_of side x t (place steps j) q))
 
 below_first : (x : ℕ) (steps : List (ℕ × ℕ × ℕ)) → IsSortedBy lower steps → IsForFirst (is_below x) steps
 below_first x steps up i j le lt q =
@@ -123,7 +129,8 @@ one_up_to side x t e =
           let less = ltb-true e.0 x below in
           let ne : x ≢ e.0 = λ q. absurd (omega (arith, less, q)) in
           let at : is_at side x t e ≡ false = and_left (eqb x e.0) (passes side e.1 t) (ne_eqb x e.0 ne) in
-          let a : ◌≡◌ {A = ℕ} (cond (is_up_to side x t e) 1 0) 1 = ap (λ b. cond b 1 0) (or_left (ltb e.0 x) (is_at side x t e) below) in
+          let a : ◌≡◌ {A = ℕ} (cond (is_up_to side x t e) 1 0) 1 =
+          ap (λ b. cond b 1 0) (or_left (ltb e.0 x) (is_at side x t e) below) in
           let b : ◌≡◌ {A = ℕ} (cond (is_below x e) 1 0) 1 = ap (λ b. cond b 1 0) below in
           let z : ◌≡◌ {A = ℕ} (cond (is_at side x t e) 1 0) 0 = ap (λ b. cond b 1 0) at in
           omega (arith, a, b, z)
@@ -153,8 +160,8 @@ pub lower_before : (steps : List (ℕ × ℕ × ℕ)) → IsSortedBy lower steps
 lower_before steps up i inside =
     let x : ℕ = (place steps i).0 in
     elim (cases_lt i (count_by (is_below x) steps)) [
-      | inl lt ↦ (let self = ltb-true x x ((first_pass (is_below x) steps (below_first x steps up) i inside).0 lt) in absurd
-          (omega (arith, self)))
+      | inl lt ↦ (let self = ltb-true x x ((first_pass (is_below x) steps (below_first x steps up) i inside).0 lt) in
+          absurd (omega (arith, self)))
       | inr le ↦ le
     ]
 
@@ -174,16 +181,20 @@ rank_counts side steps up i t inside =
     )
 
 -- the entry at the place that an item's r-th one has, from 0 on
-pub ranked : (side : Side) (x t r : ℕ) (steps : List (ℕ × ℕ × ℕ)) → IsSortedBy lower steps → r < count_by (is_at side x t) steps → (i : ℕ)
+pub ranked : (side : Side) (x t r : ℕ) (steps : List (ℕ × ℕ × ℕ)) → IsSortedBy lower steps
+    → r < count_by (is_at side x t) steps → (i : ℕ)
     × (i < length steps) × ((place steps i).0 ≡ x) × (rank steps i ≡ r)
 ranked side x t r steps up lt =
     let i : ℕ = count_by (is_below x) steps + r in
     let all = count_up_to side x t steps in
     let most = count_by-le-length (is_up_to side x t) steps in
     let inside : i < length steps = omega (arith, lt, all, most) in
-    let q = (first_pass (is_up_to side x t) steps (up_to_first side x t steps up) i inside).0 (omega (arith, lt, all)) in
+    let q = (first_pass (is_up_to side x t) steps (up_to_first side x t steps up) i inside).0
+    (omega (arith, lt, all)) in
     let is : (place steps i).0 ≡ x = elim (up_to_of side x t (place steps i) q) [
-      | inl below ↦ (let less = (first_pass (is_below x) steps (below_first x steps up) i inside).1 (lt-ltb (place steps i).0 x below) in
+      | inl below ↦
+          (let less = (first_pass (is_below x) steps (below_first x steps up) i inside).1
+          (lt-ltb (place steps i).0 x below) in
           absurd (omega (arith, less)))
       | inr same ↦ sym same.0
     ] in
@@ -192,7 +203,8 @@ ranked side x t r steps up lt =
 
 -- ---- the spans
 
-pub begun_until : (h : List Call) (step i : ℕ) → IsPartitionPoint (λ c. leb c.first step ≡ true) (λ c. leb c.first step ≡ false) h i
+pub begun_until : (h : List Call) (step i : ℕ)
+    → IsPartitionPoint (λ c. leb c.first step ≡ true) (λ c. leb c.first step ≡ false) h i
     → (c : ℕ) → c < length h → (c < i) ↔ (first_of h c ≤ step)
 begun_until h step i p c inside = (
   λ lt. leb-true (first_of h c) step (p.0 c no_call (omega arith) lt),
@@ -202,13 +214,15 @@ begun_until h step i p c inside = (
   ],
 )
 
-pub begun_below : (h : List Call) (step i : ℕ) → IsPartitionPoint (λ c. ltb c.first step ≡ true) (λ c. ltb c.first step ≡ false) h i
+pub begun_below : (h : List Call) (step i : ℕ)
+    → IsPartitionPoint (λ c. ltb c.first step ≡ true) (λ c. ltb c.first step ≡ false) h i
     → (c : ℕ) → c < length h → (c < i) ↔ (first_of h c < step)
 begun_below h step i p c inside = (
   λ lt. ltb-true (first_of h c) step (p.0 c no_call (omega arith) lt),
   λ less. elim (cases_lt c i) [
     | inl lt ↦ lt
-    | inr ge ↦ (let more = ltb-false (first_of h c) step (p.1 c no_call ge inside) in absurd (omega (arith, more, less)))
+    | inr ge ↦ (let more = ltb-false (first_of h c) step (p.1 c no_call ge inside) in
+        absurd (omega (arith, more, less)))
   ],
 )
 
@@ -226,7 +240,8 @@ gone_from x at t gets up inside is =
       ],
       λ le. elim (cases_lt t (place gets at).1) [
         | inl lt ↦ lt
-        | inr ge ↦ (let less = first.1 (up_to_from Out x t (place gets at) (inr (sym is, le-leb (place gets at).1 t ge))) in
+        | inr ge ↦ (let less =
+            first.1 (up_to_from Out x t (place gets at) (inr (sym is, le-leb (place gets at).1 t ge))) in
             absurd (omega (arith, less, le)))
       ],
     )
@@ -238,9 +253,11 @@ none_gone x at t gets up behind none =
     elim (cases_lt at (length gets)) [
       | inl inside ↦ elim (cases_lt at (count_by (is_up_to Out x t) gets)) [
         | inl less ↦
-            elim (up_to_of Out x t (place gets at) ((first_pass (is_up_to Out x t) gets (up_to_first Out x t gets up) at inside).0 less)) [
+            elim (up_to_of Out x t (place gets at)
+            ((first_pass (is_up_to Out x t) gets (up_to_first Out x t gets up) at inside).0 less)) [
               | inl below ↦ (
-                  let lt = (first_pass (is_below x) gets (below_first x gets up) at inside).1 (lt-ltb (place gets at).0 x below) in
+                  let lt = (first_pass (is_below x) gets (below_first x gets up) at inside).1
+                  (lt-ltb (place gets at).0 x below) in
                   absurd (omega (arith, lt, behind))
                   )
               | inr same ↦ absurd (none inside (sym same.0))
@@ -250,7 +267,8 @@ none_gone x at t gets up behind none =
       | inr past ↦ (let most = count_by-le-length (is_up_to Out x t) gets in omega (arith, past, most))
     ]
 
-pub span_is : (h : List Call) (puts gets : List (ℕ × ℕ × ℕ)) (i at : ℕ) (s : Presence) → i < length puts → AreSorted Inner h In puts
+pub span_is : (h : List Call) (puts gets : List (ℕ × ℕ × ℕ)) (i at : ℕ) (s : Presence) → i < length puts
+    → AreSorted Inner h In puts
     → AreSorted Inner h Out gets → at ≡ count_by (is_below (place puts i).0) gets + rank puts i
     → ((c : ℕ) → c < length h → (c < s.start) ↔ (first_of h c ≤ (place puts i).1))
     → ((c : ℕ) → c < length h → (c < s.gone) ↔ (count_by (is_up_to Out (place puts i).0 (first_of h c)) gets ≤ at))
@@ -308,7 +326,8 @@ ends_skip h puts n far s was is past = record {
 max_is : (a b : ℕ) → (max a b ≡ a) ⊎ (max a b ≡ b)
 max_is a b = elim (cases_lt a b) [ inl lt ↦ inr (omega (arith, lt)) | inr le ↦ inl (omega (arith, le)) ]
 
-pub ends_more : (h : List Call) (puts : List (ℕ × ℕ × ℕ)) (n : ℕ) (far more : List ℕ) (s : Presence) (top : ℕ) → AreEnds h puts n far
+pub ends_more : (h : List Call) (puts : List (ℕ × ℕ × ℕ)) (n : ℕ) (far more : List ℕ) (s : Presence) (top : ℕ)
+    → AreEnds h puts n far
     → IsSpan h (place puts n).0 (rank puts n) s → s.start < length h → top ≡ max (get_or far s.start 0) s.gone
     → more ≡ set far s.start top → AreEnds h puts (n + 1) more
 ends_more h puts n far more s top was is inside high e =
@@ -365,7 +384,8 @@ pub record IsMostBelow (h : List Call) (ends far : List ℕ) (most n : ℕ) : Ty
 span_later : (h : List Call) (c d gone : ℕ) → c ≤ d → HasSpan h c gone → HasSpan h d gone
 span_later h c d gone le s = let up = s.4 in (s.0, s.1, s.2, s.3, omega (arith, up, le), s.5)
 
-pub most_more : (h : List Call) (puts : List (ℕ × ℕ × ℕ)) (m : ℕ) (ends far more : List ℕ) (most next n : ℕ) → AreEnds h puts m ends
+pub most_more : (h : List Call) (puts : List (ℕ × ℕ × ℕ)) (m : ℕ) (ends far more : List ℕ) (most next n : ℕ)
+    → AreEnds h puts m ends
     → n < length h → next ≡ max most (get_or ends n 0) → more ≡ far ++ next ∷ [] → IsMostBelow h ends far most n
     → IsMostBelow h ends more next (n + 1)
 most_more h puts m ends far more most next n are inside high e was =
@@ -381,19 +401,22 @@ most_more h puts m ends far more most next n are inside high e was =
     let length_more = ap length e in
     let Q : ℕ → Type 0 = λ w. 0 < w → HasSpan h n w in
     let new_held : 0 < next → HasSpan h n next = subst Q (sym high) (elim (max_is most (get_or ends n 0)) [
-      | inl a ↦ subst Q (sym a) (λ some. let o = was.most_held some in let lt = o.1 in span_later h o.0 n most (omega (arith, lt)) o.2)
+      | inl a ↦ subst Q (sym a) (λ some. let o = was.most_held some in let lt =
+          o.1 in span_later h o.0 n most (omega (arith, lt)) o.2)
       | inr b ↦ subst Q (sym b) (are.real n inside)
     ]) in
     let covers : (d : ℕ) → d < n + 1 → get_or ends d 0 ≤ next = λ d lt. elim (cases_lt d n) [
       | inl below ↦ (let le = was.most_least d below in omega (arith, le, left, high))
-      | inr ge ↦ (let same : d ≡ n = omega (arith, ge, lt) in let a = ap (λ w. get_or ends w 0) same in omega (arith, a, right, high))
+      | inr ge ↦ (let same : d ≡ n = omega (arith, ge, lt) in let a =
+          ap (λ w. get_or ends w 0) same in omega (arith, a, right, high))
     ] in
     record {
       sized = omega (arith, length_more, length-append far (next ∷ []), size);
       most_held = λ some. (n, omega arith, new_held some);
       most_least = covers;
       held = λ c lt. elim (cases_lt c n) [
-        | inl below ↦ (let P : ℕ → Type 0 = λ w. 0 < w → HasSpan h c w in subst P (sym (before c below)) (was.held c below))
+        | inl below ↦
+            (let P : ℕ → Type 0 = λ w. 0 < w → HasSpan h c w in subst P (sym (before c below)) (was.held c below))
         | inr ge ↦ (
             let same : c ≡ n = omega (arith, ge, lt) in
             let R : ℕ → Type 0 = λ w. 0 < get_or more w 0 → HasSpan h w (get_or more w 0) in
@@ -447,12 +470,16 @@ far_all h puts ends far most n ps are all m = record {
 abbrev pub IsLeftBelow : List Call → ℕ → ℕ → Type 0
 IsLeftBelow h e n = (e ≤ n) × ((b : ℕ) → e ≤ b → b < n → b < length h → IsSomeLeft h b)
 
-pub left_on : (h : List Call) (far : List ℕ) (e n : ℕ) → AreFar h far → n < length h → n < get_or far n 0 → IsLeftBelow h e n
+pub left_on : (h : List Call) (far : List ℕ) (e n : ℕ) → AreFar h far → n < length h → n < get_or far n 0
+    → IsLeftBelow h e n
     → IsLeftBelow h e (get_or far n 0)
 left_on h far e n are inside up was =
     let from = was.0 in (
       omega (arith, from, up),
-      λ b le lt in_b. elim (cases_lt b n) [ inl below ↦ was.1 b le below in_b | inr ge ↦ are.real n b inside ge lt in_b ],
+      λ b le lt in_b. elim (cases_lt b n) [
+        | inl below ↦ was.1 b le below in_b
+        | inr ge ↦ are.real n b inside ge lt in_b
+      ],
     )
 
 pub left_whole : (h : List Call) (e n : ℕ) → IsHistory h → e < length h → does h e ≡ FindsNone → IsLeftBelow h e n

@@ -4,15 +4,19 @@ use Rattle.std.proofs.lemmas.Bool.{false≢true, cases_eq}
 use Rattle.std.proofs.lemmas.Bool.Decides.{nat_tests}
 use Rattle.std.proofs.lemmas.Option.{none-some, same_Some}
 use Rattle.std.proofs.Common.{List, is_some}
-use Rattle.kfifo_linear.proofs.Abstract.{OutsideCalls, after_all, noted-other, noted-same, noted_tells, table_size, words_by}
-use Rattle.kfifo_linear.proofs.Base.{Sane, base_begin, base_opening, base_step, base_table, base_outside, get_or_replicate, opening_size}
+use Rattle.kfifo_linear.proofs.Abstract.{OutsideCalls, after_all, noted-other, noted-same, noted_tells, table_size}
+use Rattle.kfifo_linear.proofs.Abstract.{words_by}
+use Rattle.kfifo_linear.proofs.Base.{Sane, base_begin, base_opening, base_step, base_table, base_outside}
+use Rattle.kfifo_linear.proofs.Base.{get_or_replicate, opening_size}
 use Rattle.kfifo_linear.proofs.Calls.{calls_stay}
 use Rattle.kfifo_linear.proofs.Claims.{HasLoaded-others}
-use Rattle.kfifo_linear.proofs.Invariant.{AtHead, AtTail, Calls, Fits, GoneOk, Inv, SlotOk, StoodOk, ThreadOk, Times, TookOk, is_gone}
+use Rattle.kfifo_linear.proofs.Invariant.{AtHead, AtTail, Calls, Fits, GoneOk, Inv, SlotOk, StoodOk, ThreadOk, Times}
+use Rattle.kfifo_linear.proofs.Invariant.{TookOk, is_gone}
 use Rattle.kfifo_linear.proofs.Slots.{slot_stays, times_stay}
-use Rattle.kfifo_linear.proofs.Threads.{HasClear-others, HasOwn-others, HasTarget-others, Slots, other_thread, own_thread, slots_facts}
-use Rattle.kfifo_linear.specs.Ledger.{Gone, Inside, Ledger, Outside, Standing, Stood, Took, blank, called, found_in, item_of, ledger_of}
-use Rattle.kfifo_linear.specs.Ledger.{noted, stepped}
+use Rattle.kfifo_linear.proofs.Threads.{HasClear-others, HasOwn-others, HasTarget-others, Slots, other_thread}
+use Rattle.kfifo_linear.proofs.Threads.{own_thread, slots_facts}
+use Rattle.kfifo_linear.specs.Ledger.{Gone, Inside, Ledger, Outside, Standing, Stood, Took, blank, called, found_in}
+use Rattle.kfifo_linear.specs.Ledger.{item_of, ledger_of, noted, stepped}
 use Rattle.kfifo_machine.proofs.NoWrap.{EndsOk}
 use Rattle.kfifo_machine.specs.Machine.{World, begun, may_begin, opening, place_after, place_of, run, word_at}
 use Rattle.kfifo_machine.specs.Places.{IsSlotIndex}
@@ -28,16 +32,21 @@ begun_thread : (shape : Shape) (w : ℕ → ℕ) (l : Ledger) (t : ℕ) (b : Beg
 unfolding called
 begun_thread shape w l t b r g = grind (arith, nat_tests, noted-same)
 
-begun_other : (shape : Shape) (w : ℕ → ℕ) (l : Ledger) (t : ℕ) (b : Begin) (u : ℕ) (q : Running) → (u ≡ t → ⊥) → Sane shape q
+begun_other : (shape : Shape) (w : ℕ → ℕ) (l : Ledger) (t : ℕ) (b : Begin) (u : ℕ) (q : Running) → (u ≡ t → ⊥)
+    → Sane shape q
     → ThreadOk shape w l u q → ThreadOk shape w (called t b l) u q
 unfolding called
 begun_other shape w l t b u q ne s h =
     let c : noted l.caller t l.calls u ≡ l.caller u = noted-other l.caller t u l.calls ne in
     let apart : l.caller u ≡ l.calls → ⊥ = λ z. omega (arith, h.known, z) in
-    let f : noted l.first l.calls l.now (l.caller u) ≡ l.first (l.caller u) = noted-other l.first l.calls (l.caller u) l.now apart in
-    let e : noted l.last l.calls None (l.caller u) ≡ l.last (l.caller u) = noted-other l.last l.calls (l.caller u) None apart in
-    let an : noted l.answer l.calls None (l.caller u) ≡ l.answer (l.caller u) = noted-other l.answer l.calls (l.caller u) None apart in
-    let bg : noted l.begin l.calls b (l.caller u) ≡ l.begin (l.caller u) = noted-other l.begin l.calls (l.caller u) b apart in
+    let f : noted l.first l.calls l.now (l.caller u) ≡ l.first (l.caller u) =
+    noted-other l.first l.calls (l.caller u) l.now apart in
+    let e : noted l.last l.calls None (l.caller u) ≡ l.last (l.caller u) =
+    noted-other l.last l.calls (l.caller u) None apart in
+    let an : noted l.answer l.calls None (l.caller u) ≡ l.answer (l.caller u) =
+    noted-other l.answer l.calls (l.caller u) None apart in
+    let bg : noted l.begin l.calls b (l.caller u) ≡ l.begin (l.caller u) =
+    noted-other l.begin l.calls (l.caller u) b apart in
     let st : noted l.standing l.calls Outside (l.caller u) ≡ l.standing (l.caller u) =
     noted-other l.standing l.calls (l.caller u) Outside apart in
     record {
@@ -53,7 +62,12 @@ begun_other shape w l t b u q ne s h =
         heads_after = λ v v1 v2. rw (c, f) (r.heads_after v v1 v2);
       };
       loaded = HasLoaded-others shape w w l (called t b l) u q
-          (λ x ld. record { ends = ld.ends; below = ld.below; head_same = ld.head_same; tail_same = ld.tail_same }) h.loaded;
+          (λ x ld. record {
+            ends = ld.ends;
+            below = ld.below;
+            head_same = ld.head_same;
+            tail_same = ld.tail_same;
+          }) h.loaded;
       fresh = λ a. rw (c, st) (h.fresh a);
       own = HasOwn-others shape w w l (called t b l) u q s refl
           (λ index filled _ _ own. record {
@@ -73,7 +87,8 @@ begun_other shape w l t b u q ne s h =
       clear = HasClear-others shape w w l (called t b l) u q (λ ends start offset ld x. x) h.loaded h.clear;
     }
 
-begun_slot : (shape : Shape) (w : ℕ → ℕ) (l : Ledger) (t : ℕ) (b : Begin) (i : ℕ) → SlotOk shape w l i → SlotOk shape w (called t b l) i
+begun_slot : (shape : Shape) (w : ℕ → ℕ) (l : Ledger) (t : ℕ) (b : Begin) (i : ℕ) → SlotOk shape w l i
+    → SlotOk shape w (called t b l) i
 unfolding called
 begun_slot shape w l t b i h = grind (arith, nat_tests, noted_tells)
 
@@ -87,8 +102,10 @@ begun_times l t b h = record {
   tail_first = h.tail_first;
 }
 
--- a tick and a seal leave the slots, and a seal the segments of the ends: what a round loaded first still stands only if it stood
-outside_thread : (shape : Shape) (w v : ℕ → ℕ) (l : Ledger) (u : ℕ) (q : Running) → OutsideCalls shape w v → Sane shape q → ThreadOk shape w l u q
+-- a tick and a seal leave the slots, and a seal the segments of the ends: what a round loaded first still stands only
+-- if it stood
+outside_thread : (shape : Shape) (w v : ℕ → ℕ) (l : Ledger) (u : ℕ) (q : Running) → OutsideCalls shape w v
+    → Sane shape q → ThreadOk shape w l u q
     → ThreadOk shape v (record l { now = l.now + 1 }) u q
 outside_thread shape w v l u q o s h =
     let stood : (x : ℕ) → x ≤ w 0 → v 0 ≡ x → w 0 ≡ x = λ x below e. omega (arith, below, o.rise, e) in
@@ -130,14 +147,18 @@ outside_thread shape w v l u q o s h =
           (record l { now = l.now + 1 }) u q s
           (λ index empty i x. record { place = x.place; below = omega (arith, o.slots index i.above i.below, x.below) })
           (λ index empty i x untaken e. untaken (sym (o.slots index i.above i.below) ∙ e))
-          (λ index filled i x. record { place = x.place; below = omega (arith, o.slots index i.above i.below, x.below) })
+          (λ index filled i x. record {
+            place = x.place;
+            below = omega (arith, o.slots index i.above i.below, x.below);
+          })
           (λ index filled i x old e. old (sym (o.slots index i.above i.below) ∙ e))
           (λ y. y) h.target;
       clear = HasClear-others shape w v l
           (record l { now = l.now + 1 }) u q (λ ends start offset ld x e. x (stood ends ld.below e)) h.loaded h.clear;
     }
 
-outside_slot : (shape : Shape) (w v : ℕ → ℕ) (l : Ledger) (i : ℕ) → OutsideCalls shape w v → IsSlotIndex shape i → SlotOk shape w l i
+outside_slot : (shape : Shape) (w v : ℕ → ℕ) (l : Ledger) (i : ℕ) → OutsideCalls shape w v → IsSlotIndex shape i
+    → SlotOk shape w l i
     → SlotOk shape v (record l { now = l.now + 1 }) i
 outside_slot shape w v l i o is_slot h =
     let z = o.slots i is_slot.above is_slot.below in
@@ -172,7 +193,8 @@ outside_slot shape w v l i o is_slot h =
     }
 
 -- where a call stood before another began
-pub begun_standing : (l : Ledger) (t : ℕ) (b : Begin) (c : ℕ) (s : Standing) → (called t b l).standing c ≡ s → (s ≡ Outside → ⊥)
+pub begun_standing : (l : Ledger) (t : ℕ) (b : Begin) (c : ℕ) (s : Standing) → (called t b l).standing c ≡ s
+    → (s ≡ Outside → ⊥)
     → (l.standing c ≡ s) × (c ≡ l.calls → ⊥)
 unfolding called
 begun_standing l t b c s e n = elim (cases_eq c l.calls) [
@@ -194,7 +216,8 @@ begun_standing-kept : (l : Ledger) (t : ℕ) (b : Begin) (c : ℕ) (s : Standing
 unfolding called
 begun_standing-kept l t b c s e ne = noted-other l.standing l.calls c Outside ne ∙ e
 
-begun_later : (l : Ledger) (t : ℕ) (b : Begin) → ((c : ℕ) → l.calls ≤ c → l.standing c ≡ Outside) → (c : ℕ) → (called t b l).calls ≤ c
+begun_later : (l : Ledger) (t : ℕ) (b : Begin) → ((c : ℕ) → l.calls ≤ c → l.standing c ≡ Outside) → (c : ℕ)
+    → (called t b l).calls ≤ c
     → (called t b l).standing c ≡ Outside
 unfolding called
 begun_later l t b h c z = noted-other l.standing l.calls c Outside (λ e. omega (arith, e, z)) ∙ h c (omega (arith, z))
@@ -262,7 +285,8 @@ begun_stood shape l t b c v p ne was h =
       no_tail = h.no_tail;
     }
 
-Fits-begin : (begin begin' : ℕ → Begin) (x : Answer) (s : Standing) → ((o v p : ℕ) → s ≡ Took o v p → begin' o ≡ begin o) → Fits begin x s
+Fits-begin : (begin begin' : ℕ → Begin) (x : Answer) (s : Standing)
+    → ((o v p : ℕ) → s ≡ Took o v p → begin' o ≡ begin o) → Fits begin x s
     → Fits begin' x s
 Fits-begin begin begin' (Got item) (Took o v p) k h = ap item_of (k o v p refl) ∙ h
 Fits-begin begin begin' x s k h = h
@@ -281,7 +305,8 @@ begun_answered shape w l t b h c x e = elim (cases_eq c l.calls) [
       (h.answered c x (sym (noted-other l.answer l.calls c None ne) ∙ e)))
 ]
 
-begun_ended : (shape : Shape) (w : ℕ → ℕ) (l : Ledger) (t : ℕ) (b : Begin) → Calls shape w l → (c e : ℕ) → (called t b l).last c ≡ Some e
+begun_ended : (shape : Shape) (w : ℕ → ℕ) (l : Ledger) (t : ℕ) (b : Begin) → Calls shape w l → (c e : ℕ)
+    → (called t b l).last c ≡ Some e
     → is_some ((called t b l).answer c) ≡ true
 unfolding called
 begun_ended shape w l t b h c e f = elim (cases_eq c l.calls) [
@@ -289,15 +314,18 @@ begun_ended shape w l t b h c e f = elim (cases_eq c l.calls) [
   | inr ne ↦ rw (noted-other l.answer l.calls c None ne) (h.ended c e (sym (noted-other l.last l.calls c None ne) ∙ f))
 ]
 
-begun_lasts : (shape : Shape) (w : ℕ → ℕ) (l : Ledger) (t : ℕ) (b : Begin) → Calls shape w l → (c e : ℕ) → (called t b l).last c ≡ Some e
+begun_lasts : (shape : Shape) (w : ℕ → ℕ) (l : Ledger) (t : ℕ) (b : Begin) → Calls shape w l → (c e : ℕ)
+    → (called t b l).last c ≡ Some e
     → ((called t b l).first c ≤ e) × (e < (called t b l).now)
 unfolding called
 begun_lasts shape w l t b h c e f = elim (cases_eq c l.calls) [
   | inl same ↦ absurd (none-some e (sym (noted-same l.last l.calls c None same) ∙ f))
-  | inr ne ↦ let g = h.lasts c e (sym (noted-other l.last l.calls c None ne) ∙ f) in (rw (noted-other l.first l.calls c l.now ne) g.0, g.1)
+  | inr ne ↦ let g = h.lasts c e (sym (noted-other l.last l.calls c None ne) ∙ f) in
+      (rw (noted-other l.first l.calls c l.now ne) g.0, g.1)
 ]
 
-begun_unended : (shape : Shape) (w : ℕ → ℕ) (l : Ledger) (t : ℕ) (b : Begin) → Calls shape w l → (c : ℕ) → (called t b l).last c ≡ None
+begun_unended : (shape : Shape) (w : ℕ → ℕ) (l : Ledger) (t : ℕ) (b : Begin) → Calls shape w l → (c : ℕ)
+    → (called t b l).last c ≡ None
     → (called t b l).answer c ≡ None
 unfolding called
 begun_unended shape w l t b h c f = elim (cases_eq c l.calls) [
@@ -305,16 +333,19 @@ begun_unended shape w l t b h c f = elim (cases_eq c l.calls) [
   | inr ne ↦ noted-other l.answer l.calls c None ne ∙ h.unended c (sym (noted-other l.last l.calls c None ne) ∙ f)
 ]
 
-begun_calls : (shape : Shape) (w : ℕ → ℕ) (l : Ledger) (t : ℕ) (b : Begin) → Calls shape w l → Calls shape w (called t b l)
+begun_calls : (shape : Shape) (w : ℕ → ℕ) (l : Ledger) (t : ℕ) (b : Begin) → Calls shape w l
+    → Calls shape w (called t b l)
 begun_calls shape w l t b h =
     let was = begun_standing l t b in
     record {
       later = begun_later l t b h.later;
       inside = λ c i e. let k = was c (Inside i) e (λ x. cc) in let g = h.inside c i k.0 in
           record { is_slot = g.is_slot; full = g.full; owner = begun_owner l t b i ∙ g.owner };
-      gone = λ c i v p e. let k = was c (Gone i v p) e (λ x. cc) in begun_gone shape l t b c i v p k.1 (h.gone c i v p k.0);
+      gone = λ c i v p e. let k = was c (Gone i v p) e (λ x. cc) in
+          begun_gone shape l t b c i v p k.1 (h.gone c i v p k.0);
       took = λ c o v p e. let k = was c (Took o v p) e (λ x. cc) in
-          begun_took l t b c o v p k.1 (λ z. gone_outside (h.took c o v p k.0).gone (ap l.standing z ∙ h.later l.calls (omega arith)))
+          begun_took l t b c o v p k.1
+          (λ z. gone_outside (h.took c o v p k.0).gone (ap l.standing z ∙ h.later l.calls (omega arith)))
           (h.took c o v p k.0);
       stood = λ c v p e. let k = was c (Stood v p) e (λ x. cc) in
           begun_stood shape l t b c v p k.1 (λ d i u q f. (was d (Gone i u q) f (λ x. cc)).0) (h.stood c v p k.0);
@@ -322,7 +353,8 @@ begun_calls shape w l t b h =
       ended = begun_ended shape w l t b h;
       lasts = begun_lasts shape w l t b h;
       unended = begun_unended shape w l t b h;
-      apart = λ c d i v p u q e f g. h.apart c d i v p u q (was c (Gone i v p) e (λ x. cc)).0 (was d (Gone i u q) f (λ x. cc)).0 g;
+      apart = λ c d i v p u q e f g. h.apart c d i v p u q (was c (Gone i v p) e (λ x. cc)).0
+          (was d (Gone i u q) f (λ x. cc)).0 g;
       taker = λ c i v p e.
           let g = h.taker c i v p (was c (Gone i v p) e (λ x. cc)).0 in (
             g.0,
@@ -332,7 +364,8 @@ begun_calls shape w l t b h =
                   (λ z. took_outside (sym g.1.1 ∙ ap l.standing z ∙ h.later l.calls (omega arith))),
             ),
           );
-      once = λ c d o v p u q e f. h.once c d o v p u q (was c (Took o v p) e (λ x. cc)).0 (was d (Took o u q) f (λ x. cc)).0;
+      once = λ c d o v p u q e f. h.once c d o v p u q (was c (Took o v p) e (λ x. cc)).0
+          (was d (Took o u q) f (λ x. cc)).0;
     }
 
 later_at_tail : (l : Ledger) (v p : ℕ) → AtTail l v p → AtTail (record l { now = l.now + 1 }) v p
@@ -401,15 +434,18 @@ outside_calls shape w v l o h =
 
 module _ (shape : Shape) where
   -- who is in a call after the step was in it before
-  pub there : (w : ℕ → ℕ) (p : ℕ → Option Running) (t : ℕ) (r : Running) (next : Option Running) → p t ≡ Some r → (u : ℕ) (q : Running)
+  pub there : (w : ℕ → ℕ) (p : ℕ → Option Running) (t : ℕ) (r : Running) (next : Option Running) → p t ≡ Some r
+      → (u : ℕ) (q : Running)
       → noted p t next u ≡ Some q → (x : Running) × (p u ≡ Some x)
   there w p t r next e u q f = elim (cases_eq u t) [
     | inl same ↦ (r, ap p same ∙ e)
     | inr ne ↦ (q, sym (noted-other p t u next ne) ∙ f)
   ]
 
-  pub inv_step : (w : ℕ → ℕ) (p : ℕ → Option Running) (l : Ledger) (t : ℕ) (r : Running) → Inv shape w p l → p t ≡ Some r
-      → Inv shape (words_by (access shape r) w) (noted p t (place_after (advance shape r (found_in shape w r)))) (stepped shape w t r l)
+  pub inv_step : (w : ℕ → ℕ) (p : ℕ → Option Running) (l : Ledger) (t : ℕ) (r : Running) → Inv shape w p l
+      → p t ≡ Some r
+      → Inv shape (words_by (access shape r) w) (noted p t (place_after (advance shape r (found_in shape w r))))
+      (stepped shape w t r l)
   unfolding stepped
   inv_step w p l t r h e =
       let s : Sane shape r = h.base.sane t r e in
@@ -422,11 +458,13 @@ module _ (shape : Shape) where
           | inl same ↦ rw same (own_thread shape w l t r s ok me all q
               (sym (noted-same p t u (place_after (advance shape r (found_in shape w r))) same) ∙ f))
           | inr ne ↦
-              let g : p u ≡ Some q = sym (noted-other p t u (place_after (advance shape r (found_in shape w r))) ne) ∙ f in
-              other_thread shape w l t r s ok me all u q ne (h.base.sane u q g) (h.threads u q g) (λ z. ne (h.callers u t q r g e z))
+              let g : p u ≡ Some q = sym (noted-other p t u (place_after (advance shape r (found_in shape w r))) ne)
+              ∙ f in
+              other_thread shape w l t r s ok me all u q ne (h.base.sane u q g) (h.threads u q g)
+              (λ z. ne (h.callers u t q r g e z))
         ];
-        callers = λ u v q x f g c. h.callers u v (there w p t r (place_after (advance shape r (found_in shape w r))) e u q f).0
-            (there w p t r (place_after (advance shape r (found_in shape w r))) e v x g).0
+        callers = λ u v q x f g c. h.callers u v (there w p t r (place_after (advance shape r (found_in shape w r))) e u
+            q f).0 (there w p t r (place_after (advance shape r (found_in shape w r))) e v x g).0
             (there w p t r (place_after (advance shape r (found_in shape w r))) e u q f).1
             (there w p t r (place_after (advance shape r (found_in shape w r))) e v x g).1 c;
         slots = λ i is_slot. slot_stays shape w l t r s ok me h.times all i is_slot (h.slots i is_slot);
@@ -435,7 +473,8 @@ module _ (shape : Shape) where
             (λ i is_slot. slot_stays shape w l t r s ok me h.times all i is_slot (h.slots i is_slot)) h.calls;
       }
 
-  begun_callers : (w : ℕ → ℕ) (p : ℕ → Option Running) (l : Ledger) (t : ℕ) (b : Begin) (r : Running) → Inv shape w p l → p t ≡ None
+  begun_callers : (w : ℕ → ℕ) (p : ℕ → Option Running) (l : Ledger) (t : ℕ) (b : Begin) (r : Running) → Inv shape w p l
+      → p t ≡ None
       → (u v : ℕ) (q x : Running) → noted p t (Some r) u ≡ Some q → noted p t (Some r) v ≡ Some x
       → (called t b l).caller u ≡ (called t b l).caller v → u ≡ v
   unfolding called
@@ -445,7 +484,14 @@ module _ (shape : Shape) where
           | inl also ↦ same ∙ sym also
           | inr nv ↦
               let g : p v ≡ Some x = sym (noted-other p t v (Some r) nv) ∙ k in
-              absurd (omega (arith, (h.threads v x g).known, c, noted-same l.caller t u l.calls same, noted-other l.caller t v l.calls nv))
+              absurd (omega (
+                arith,
+                (h.threads v x g).known,
+                c,
+                noted-same l.caller t u l.calls same,
+                noted-other
+                    l.caller t v l.calls nv,
+              ))
         ]
         | inr nu ↦
             let g : p u ≡ Some q = sym (noted-other p t u (Some r) nu) ∙ f in
@@ -462,13 +508,15 @@ module _ (shape : Shape) where
             ]
       ]
 
-  pub inv_begin : (w : ℕ → ℕ) (p : ℕ → Option Running) (l : Ledger) (t : ℕ) (b : Begin) (r : Running) → Inv shape w p l → p t ≡ None
+  pub inv_begin : (w : ℕ → ℕ) (p : ℕ → Option Running) (l : Ledger) (t : ℕ) (b : Begin) (r : Running) → Inv shape w p l
+      → p t ≡ None
       → may_begin shape b ≡ true → begun b ≡ Some r → Inv shape w (noted p t (Some r)) (called t b l)
   inv_begin w p l t b r h e m g =
       record {
         base = base_begin shape w p l t b r h.base e m g;
         threads = λ u q f. elim (cases_eq u t) [
-          | inl same ↦ rw (same, sym (same_Some r q (sym (noted-same p t u (Some r) same) ∙ f))) (begun_thread shape w l t b r g)
+          | inl same ↦ rw (same, sym (same_Some r q (sym (noted-same p t u (Some r) same) ∙ f)))
+              (begun_thread shape w l t b r g)
           | inr ne ↦
               let k : p u ≡ Some q = sym (noted-other p t u (Some r) ne) ∙ f in
               begun_other shape w l t b u q ne (h.base.sane u q k) (h.threads u q k)
@@ -497,7 +545,8 @@ module _ (shape : Shape) where
         calls = outside_calls shape w v l o h.calls;
       }
 
-  pub inv_table : (w : ℕ → ℕ) (p : ℕ → Option Running) (l : Ledger) (t : ℕ) (r : Running) → Inv shape w p l → p t ≡ Some r
+  pub inv_table : (w : ℕ → ℕ) (p : ℕ → Option Running) (l : Ledger) (t : ℕ) (r : Running) → Inv shape w p l
+      → p t ≡ Some r
       → accessed (access shape r) < table_size shape
   inv_table w p l t r h e = base_table shape w p l t r h.base e
 
@@ -540,7 +589,8 @@ module _ (shape : Shape) where
       }
 
   -- the invariant holds after every schedule
-  pub invariant : (threads : ℕ) (events : List Event) (final : World) → run shape (Some (opening shape threads)) events ≡ Some final
+  pub invariant : (threads : ℕ) (events : List Event) (final : World) → run shape (Some (opening shape threads)) events
+      ≡ Some final
       → Inv shape (word_at final) (place_of final) (ledger_of shape (Some (opening shape threads)) events blank)
   invariant threads events final e =
       (after_all shape (Inv shape) inv_table inv_begin inv_step inv_outside events (opening shape threads) final blank

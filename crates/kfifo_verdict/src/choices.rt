@@ -8,7 +8,7 @@ const WAYS: usize = 16;
 
 /// A way in which a get takes an item.
 #[derive(Clone, Copy)]
-pub(crate) struct Picks {
+pub(crate) struct Choices {
     /// The place of the put among those that come into question.
     pub candidate: usize,
     /// The way, of those for this put.
@@ -20,11 +20,11 @@ pub(crate) struct Picks {
     passed: u32,
 }
 
-impl Picks {
+impl Choices {
     /// The way of this number.
-    pub(crate) fn of(number: usize) -> Picks {
+    pub(crate) fn of(number: usize) -> Choices {
         let way = number % WAYS;
-        Picks {
+        Choices {
             candidate: number / WAYS,
             way,
             rest: way,
@@ -48,17 +48,17 @@ impl Picks {
 
 /// The next way after one in which so many choices were met, if there is one: the others at these choices, and then the
 /// next put, if there are more.
-pub(crate) fn next_pick(picks: &Picks, more: bool) -> Option<usize> {
-    let ways = match picks.passed {
+pub(crate) fn next_way(choices: &Choices, more: bool) -> Option<usize> {
+    let ways = match choices.passed {
         0 => 1,
         1 => 2,
         2 => 4,
         3 => 8,
         _ => WAYS,
     };
-    let base = picks.candidate.saturating_mul(WAYS);
-    if picks.way.saturating_add(1) < ways {
-        Some(base.saturating_add(picks.way).saturating_add(1))
+    let base = choices.candidate.saturating_mul(WAYS);
+    if choices.way.saturating_add(1) < ways {
+        Some(base.saturating_add(choices.way).saturating_add(1))
     } else if more {
         Some(base.saturating_add(WAYS))
     } else {
