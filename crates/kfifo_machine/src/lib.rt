@@ -6,6 +6,7 @@ mod event;
 mod fault;
 mod log;
 mod place;
+mod rounds;
 mod schedule;
 mod state;
 mod steps;
