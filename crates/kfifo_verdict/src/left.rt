@@ -15,7 +15,7 @@ ghost use Rattle.kfifo_model.specs.declared.effects.Side.TheVariants.{In, Out};
 
 use crate::finding::reaches;
 use crate::presences::Presence;
-use crate::steps::{Key, Step, count_below, sorted};
+use crate::steps::{Key, Keyed, count_below, sorted};
 use kfifo_model::{Call, Effect, Side};
 use std::alloc::{AllocError, Global};
 
@@ -36,7 +36,7 @@ fn begun_before(calls: &[Call], step: u64) -> usize
 }
 
 /// The call at whose beginning the get at this place, if it is of this item, has begun, or the number of calls.
-fn gone_at(calls: &[Call], gets: &[Step], item: u32, at: usize) -> usize
+fn gone_at(calls: &[Call], gets: &[Keyed], item: u32, at: usize) -> usize
     requires history { IsHistory calls.now }
     requires gets { AreSorted Inner calls.now Out gets.now }
     requires behind { count_by (is_below item) gets.now ≤ at }
@@ -51,7 +51,7 @@ fn gone_at(calls: &[Call], gets: &[Step], item: u32, at: usize) -> usize
 }
 
 /// The calls that begin while the put at this place is one more than the gets of its item that have begun.
-fn span_of(calls: &[Call], puts: &[Step], gets: &[Step], i: usize) -> Presence
+fn span_of(calls: &[Call], puts: &[Keyed], gets: &[Keyed], i: usize) -> Presence
     requires history { IsHistory calls.now }
     requires inside { i < length puts.now }
     requires puts { AreSorted Inner calls.now In puts.now }
@@ -71,8 +71,8 @@ fn span_of(calls: &[Call], puts: &[Step], gets: &[Step], i: usize) -> Presence
 fn ends_of(
     alloc: Global,
     calls: &[Call],
-    puts: &[Step],
-    gets: &[Step],
+    puts: &[Keyed],
+    gets: &[Keyed],
 ) -> Result<Vec<usize>, AllocError>
     requires history { IsHistory calls.now }
     requires puts { AreSorted Inner calls.now In puts.now }

@@ -16,7 +16,7 @@ ghost use Rattle.kfifo_model.specs.declared.effects.Side.TheVariants.{In, Out};
 use crate::finding::{count_older, first_older, no_skips};
 use crate::precedence::first_after;
 use crate::presences::Presence;
-use crate::steps::{Key, Step, count_below, sorted};
+use crate::steps::{Key, Keyed, count_below, sorted};
 use kfifo_model::{Call, Effect, Side};
 use std::alloc::{AllocError, Global};
 
@@ -24,13 +24,13 @@ use std::alloc::{AllocError, Global};
 #[derive(Drop)]
 pub(crate) struct Listed {
     /// The puts, those of an item by their numbers.
-    puts: Vec<Step>,
+    puts: Vec<Keyed>,
     /// The gets, those of an item by their numbers.
-    gets: Vec<Step>,
+    gets: Vec<Keyed>,
     /// The puts that have ended, those of an item by their last steps.
-    ended_puts: Vec<Step>,
+    ended_puts: Vec<Keyed>,
     /// The gets, those of an item by their last steps.
-    ended_gets: Vec<Step>,
+    ended_gets: Vec<Keyed>,
 }
 
 impl Listed {
@@ -48,14 +48,14 @@ impl Listed {
 }
 
 /// Whether an entry is of a lower item, or of this one and its step is before this one.
-fn is_before(entry: &Step, item: u32, step: u64) -> bool
+fn is_before(entry: &Keyed, item: u32, step: u64) -> bool
     ensures { result ≡ is_up_to In item step entry.now }
 {
     entry.0 < item || (item == entry.0 && entry.1 < step)
 }
 
 /// How many entries are of lower items, or of this one with their steps before this one.
-fn count_until(steps: &[Step], item: u32, step: u64) -> usize
+fn count_until(steps: &[Keyed], item: u32, step: u64) -> usize
     requires { IsSortedBy lower steps.now }
     ensures { result ≡ count_by (is_up_to In item step) steps.now }
 {
@@ -63,7 +63,7 @@ fn count_until(steps: &[Step], item: u32, step: u64) -> usize
 }
 
 /// How many entries are of this item with their steps before this one.
-fn count_before(steps: &[Step], item: u32, step: u64) -> usize
+fn count_before(steps: &[Keyed], item: u32, step: u64) -> usize
     requires { IsSortedBy lower steps.now }
     ensures { result ≡ count_by (is_at In item step) steps.now }
 {
@@ -73,7 +73,7 @@ fn count_before(steps: &[Step], item: u32, step: u64) -> usize
 }
 
 /// The call of a side that has this item and before which so many of them begin.
-fn nth(calls: &[Call], side: Side, numbers: &[Step], item: u32, count: usize) -> Option<usize>
+fn nth(calls: &[Call], side: Side, numbers: &[Keyed], item: u32, count: usize) -> Option<usize>
     requires { AreSorted Number calls.now side numbers.now }
     ensures { IsNth calls.now side item count result }
 {

@@ -10,19 +10,19 @@ ghost use Rattle.kfifo_verdict.specs.Steps.{AreSorted};
 ghost use Rattle.kfifo_verdict.specs.declared.steps.Key.TheVariants.{Outer};
 ghost use Rattle.kfifo_model.specs.declared.effects.Side.TheVariants.{In, Out};
 
-use crate::steps::{Key, Step, count_below, last_step, sorted};
+use crate::steps::{Key, Keyed, count_below, last_step, sorted};
 use kfifo_model::{Call, Effect, Side};
 use std::alloc::{AllocError, Global};
 
 /// Whether a call is of a lower item, or of this one and its step no later than this one.
-fn is_until(entry: &Step, item: u32, step: u64) -> bool
+fn is_until(entry: &Keyed, item: u32, step: u64) -> bool
     ensures { result ≡ is_until item step entry.now }
 {
     entry.0 < item || (item == entry.0 && entry.1 <= step)
 }
 
 /// How many of the calls are of lower items, or of this one and their step no later than this one.
-fn count_until(steps: &[Step], item: u32, step: u64) -> usize
+fn count_until(steps: &[Keyed], item: u32, step: u64) -> usize
     requires { IsSortedBy lower steps.now }
     ensures { result ≡ count_by (is_until item step) steps.now }
 {
@@ -30,7 +30,7 @@ fn count_until(steps: &[Step], item: u32, step: u64) -> usize
 }
 
 /// How many of the calls are of this item and their step no later than this one.
-fn count_of(steps: &[Step], item: u32, step: u64) -> usize
+fn count_of(steps: &[Keyed], item: u32, step: u64) -> usize
     requires { IsSortedBy lower steps.now }
     ensures { result ≡ count_by (is_by item step) steps.now }
 {
@@ -40,7 +40,7 @@ fn count_of(steps: &[Step], item: u32, step: u64) -> usize
 }
 
 /// Whether call n got an item, and by its end more gets of that item had ended than puts had begun.
-fn is_taken_too_soon(calls: &[Call], n: usize, begun: &[Step], ended: &[Step]) -> bool
+fn is_taken_too_soon(calls: &[Call], n: usize, begun: &[Keyed], ended: &[Keyed]) -> bool
     requires inside { n < length calls.now }
     requires begun { AreSorted Outer calls.now In begun.now }
     requires ended { AreSorted Outer calls.now Out ended.now }

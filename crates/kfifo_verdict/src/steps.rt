@@ -10,8 +10,8 @@ ghost use Rattle.kfifo_verdict.specs.declared.steps.Key.TheVariants.{Inner};
 use kfifo_model::{Call, Side};
 use std::alloc::{AllocError, Global};
 
-/// An entry: the item of a call, what counts of the call, and its number.
-pub(crate) type Step = (u32, u64, usize);
+/// A call by what it is sorted by: its item, what counts of the call, and its number.
+pub(crate) type Keyed = (u32, u64, usize);
 
 /// What counts of a call.
 #[derive(Clone, Copy)]
@@ -67,7 +67,7 @@ fn key_of(key: Key, side: Side, n: usize, call: &Call) -> Option<u64>
 }
 
 /// The calls of a side with what counts of them.
-fn keyed(alloc: Global, calls: &[Call], side: Side, key: Key) -> Result<Vec<Step>, AllocError>
+fn keyed(alloc: Global, calls: &[Call], side: Side, key: Key) -> Result<Vec<Keyed>, AllocError>
     ensures { IfOk result (λ steps. AreKeyed key calls.now side (length calls.now) steps.items) }
 {
     let mut steps = Vec::new(alloc);
@@ -87,7 +87,7 @@ pub(crate) fn sorted(
     calls: &[Call],
     side: Side,
     key: Key,
-) -> Result<Vec<Step>, AllocError>
+) -> Result<Vec<Keyed>, AllocError>
     ensures { IfOk result (λ steps. AreSorted key calls.now side steps.items) }
 {
     let mut steps = keyed(alloc, calls, side, key)?;
@@ -96,14 +96,14 @@ pub(crate) fn sorted(
 }
 
 /// Whether an entry is of a lower item.
-fn is_below(entry: &Step, item: u32) -> bool
+fn is_below(entry: &Keyed, item: u32) -> bool
     ensures { result ≡ is_below item entry.now }
 {
     entry.0 < item
 }
 
 /// How many entries are of lower items.
-pub(crate) fn count_below(steps: &[Step], item: u32) -> usize
+pub(crate) fn count_below(steps: &[Keyed], item: u32) -> usize
     requires { IsSortedBy lower steps.now }
     ensures { result ≡ count_by (is_below item) steps.now }
 {

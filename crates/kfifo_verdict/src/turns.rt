@@ -24,6 +24,9 @@ use std::alloc::{AllocError, Global};
 /// The place of an item in the line: by when it has to be in, by when out, and its put.
 type Place = (usize, usize, usize);
 
+/// The turn of a call: its moment and its rank, and the number of the call.
+type Numbered = (usize, usize, usize);
+
 /// When a call has its turn: at a moment, and at one moment by rising rank.
 #[derive(Clone, Copy)]
 pub(crate) struct Turn {
@@ -165,7 +168,7 @@ fn with_items(calls: &[Call], presences: &[Presence], line: &[Place], idle: Vec<
 }
 
 /// The turns with their calls.
-fn numbered(alloc: Global, turns: &[Turn]) -> Result<Vec<Place>, AllocError>
+fn numbered(alloc: Global, turns: &[Turn]) -> Result<Vec<Numbered>, AllocError>
     ensures { IfOk result (λ numbered. AreNumbered turns.now (length turns.now) numbered.items) }
 {
     let mut numbered = Vec::with_capacity(alloc, turns.len())?;
@@ -175,8 +178,8 @@ fn numbered(alloc: Global, turns: &[Turn]) -> Result<Vec<Place>, AllocError>
     Ok(numbered)
 }
 
-/// The last numbers of triples.
-fn calls_of(alloc: Global, numbered: &[Place]) -> Result<Vec<usize>, AllocError>
+/// The calls of numbered turns.
+fn calls_of(alloc: Global, numbered: &[Numbered]) -> Result<Vec<usize>, AllocError>
     ensures { IfOk result (λ calls. calls.items ≡ map (λ t. t.2) numbered.now) }
 {
     numbered
