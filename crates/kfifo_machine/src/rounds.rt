@@ -1,6 +1,6 @@
 //! A round of a call: what a thread does with the word that its atomic step found.
 
-ghost use Rattle.std.specs.Prelude.{◌≡◌, ℕ, ◌+◌, ◌<◌, ◌≤◌};
+ghost use Rattle.std.specs.Prelude.{◌≡◌, ℕ, ◌+◌, ◌^◌, ◌<◌, ◌≤◌};
 ghost use Rattle.kfifo_words.specs.Words.{version_of};
 ghost use Rattle.kfifo_machine.specs.Program.{advance, enqueue_advance, dequeue_advance, enqueue_again, dequeue_again};
 ghost use Rattle.kfifo_machine.specs.Places.{IsEnds, IsPlace, IsEnqueuePhase, IsDequeuePhase, IsFound, IsFoundBy};
