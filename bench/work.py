@@ -266,28 +266,26 @@ def of_search_and_tasks(found, one, others):
     )
 
 
-def of_jobs(found, percent, one, others):
+def of_jobs(found, one, others):
     """Returns the sentence on how long jobs wait, beside the best and the worst of other lists."""
-    jobs = found["jobs", percent, THREADS]
-    (half, first), (of_last, last) = (beside(jobs, one, others, "median", it) for it in (min, max))
-    (nearly_all, best), (of_worst, worst) = (beside(jobs, one, others, "99.9", it) for it in (min, max))
+    figures = []
+    for percent in (50, 90):
+        jobs = found["jobs", percent, THREADS]
+        figures += [it for choose in (min, max) for it in beside(jobs, one, others, "99.9", choose)]
     return (
-        f"- *{percent} % busy*: half of the jobs begin within {half} times the time of the best other list ({first})"
-        f" and {of_last} times that of the worst ({last}), and 999 of 1,000 within {nearly_all} ({best}) and"
-        f" {of_worst} times ({worst})."
+        "With workers busy half of the time, 999 of 1,000 jobs begin within %s times the time of the best other list"
+        " (%s) and %s times that of the worst (%s), with nine tenths within %s (%s) and %s times (%s)." % tuple(figures)
     )
 
 
 def sentences(measured):
-    """Returns what the page says of the figures, of each language a paragraph and two points."""
+    """Returns what the page says of the figures, of each language a paragraph."""
     found = by_words(measured)
-    said = []
-    for language, one, others in (("C++", OURS[1], [*LOOPS, STEALS]), ("Rust", RUST[0], RUST[1:])):
-        if one in found["explore", THREADS]:
-            said.append(textwrap.fill(f"In {language} {of_search_and_tasks(found, one, others)}", 120))
-            points = (of_jobs(found, it, one, others) for it in (50, 90))
-            said.append("\n".join(textwrap.fill(it, 120, subsequent_indent="  ") for it in points))
-    return "\n\n".join(said)
+    return "\n\n".join(
+        textwrap.fill(f"In {language} {of_search_and_tasks(found, one, others)} {of_jobs(found, one, others)}", 120)
+        for language, one, others in (("C++", OURS[1], [*LOOPS, STEALS]), ("Rust", RUST[0], RUST[1:]))
+        if one in found["explore", THREADS]
+    )
 
 
 def section(measured):
