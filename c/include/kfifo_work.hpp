@@ -8,11 +8,12 @@
 //
 // The order. When a task is begun, all tasks given before it have been begun but k - 1 at most, and one for each other
 // worker. While the queue changes its generation, as it does when it grows, it may be one more for each other worker.
-// What finds no room, since the queue has no more generations or there is no memory for one, waits in a list of the
-// worker who gave it. That worker moves it into the queue, in its order, as soon as there is room, and looks for room
-// whenever it gives or takes a task. A worker that finds the queue empty takes from the lists of all. So while such a
-// list has tasks, any number of tasks that other workers gave later may be begun before one of them. docs/WORK.md says
-// for how many tasks there is room.
+// What finds no room, since the queue has no more generations or there is no memory for one, waits in a list under a
+// lock, first in, first out. While it has tasks, what is given goes there too, and workers move the oldest into the
+// queue, whenever they find it empty and after each 16th take. So the order is that of the queue first, and then that
+// of the list. But a task that is given while the list begins or comes to its end may be begun before those that other
+// workers give to the list at that moment. And a worker that the system stops while it has the lock holds up those that
+// give meanwhile. docs/WORK.md says for how many tasks there is room.
 //
 // How the end is found. No count is written by two threads. Each worker has two on a cache line of its own: how many
 // tasks it gave, which it raises before it gives one, and how many it did, which it raises when the task's body has
@@ -34,8 +35,8 @@
 // workers, with stores that are delayed, and finds what each of these breaks.
 //
 // How workers sleep. One that finds nothing looks for 5 microseconds more and then sleeps by the queue's own waiting:
-// kfifo_wait.h says how, and why no wake-up is lost. A list counts as a part of the queue there: a worker looks into
-// the lists after it has announced itself, and one that puts a task into a list looks for sleeping workers after that.
+// kfifo_wait.h says how, and why no wake-up is lost. The list counts as a part of the queue there: a worker looks into
+// it after it has announced itself, and one that puts a task into it looks for sleeping workers after that.
 #ifndef KFIFO_WORK_HPP
 #define KFIFO_WORK_HPP
 

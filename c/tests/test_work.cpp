@@ -10,6 +10,7 @@
 #include <cstdio>
 #include <ctime>
 #include <memory>
+#include <mutex>
 #include <set>
 #include <stdexcept>
 #include <string>
@@ -153,8 +154,8 @@ void sees_the_backlog() {
     expect(report.greatest_backlog > 1001 - 64 && report.greatest_backlog <= 1001, "the backlog of tasks that wait");
 }
 
-// A task gives more than the queue has room for, and runs on until all are done: other workers take them out of its
-// worker's list. With 64 workers the queue does not grow, and with k = 1 it has room for some 1,000 tasks.
+// A task gives more than the queue has room for, and runs on until all are done: other workers take them out of the
+// list. With 64 workers the queue does not grow, and with k = 1 it has room for some 1,000 tasks.
 template <typename Task> void gives_more_than_there_is_room_for(std::size_t threads, std::uint32_t k) {
     const std::uint64_t numbers = 5000;
     Done done(2 * numbers);
@@ -197,6 +198,26 @@ void keeps_the_order() {
     expect(order.size() == 1100 && std::is_sorted(order.begin(), order.end()), "one worker keeps the order");
 }
 
+// The most tasks with smaller numbers that were not begun yet, whenever one is begun: task n at turn at[n], from 1.
+std::uint64_t most_passed_over(const std::vector<std::atomic<std::uint64_t>> &at) {
+    std::vector<std::uint64_t> order(at.size() + 1);
+    for (std::uint64_t number = 0; number < at.size(); number++) order[at[number]] = number;
+    std::set<std::uint64_t> passed_over;
+    std::uint64_t most = 0, next = 0;
+    for (std::uint64_t turn = 1; turn <= at.size(); turn++) {
+        for (; next <= order[turn]; next++) passed_over.insert(next);
+        passed_over.erase(order[turn]);
+        most = std::max<std::uint64_t>(most, passed_over.size());
+    }
+    return most;
+}
+
+// A worker that has taken a task may not have counted it yet. With a small k the queue grows for so many tasks, and
+// then a take may pass over one more for each other worker.
+std::uint64_t may_pass_over(std::size_t threads, std::uint32_t k) {
+    return threads > 1 ? k - 1 + (threads - 1) * (k < 8 ? 2 : 1) : 0;
+}
+
 // All tasks are there from the beginning, so that each begin passes over what the bound says, at most.
 void passes_over_few(std::size_t threads, std::uint32_t k) {
     const std::uint64_t numbers = 5000;
@@ -204,20 +225,35 @@ void passes_over_few(std::size_t threads, std::uint32_t k) {
     std::vector<std::atomic<std::uint64_t>> at(numbers);
     auto body = [&](std::uint64_t number, auto &) { at[number] = ++begun; };
     (void)kfifo::work::run<std::uint64_t>(tasks_of<std::uint64_t>(0, numbers), body, by(threads, k));
-    std::vector<std::uint64_t> order(numbers + 1);
-    for (std::uint64_t number = 0; number < numbers; number++) order[at[number]] = number;
-    // The numbers below `next` that were not begun yet, whenever a task is begun.
-    std::set<std::uint64_t> passed_over;
-    std::uint64_t most = 0, next = 0;
-    for (std::uint64_t turn = 1; turn <= numbers; turn++) {
-        for (; next <= order[turn]; next++) passed_over.insert(next);
-        passed_over.erase(order[turn]);
-        most = std::max<std::uint64_t>(most, passed_over.size());
-    }
-    // A worker that has taken a task may not have counted it yet. With a small k the queue grows for so many tasks, and
-    // then a take may pass over one more for each other worker.
-    std::uint64_t others = (threads - 1) * (k < 8 ? 2 : 1);
-    expect(most <= (threads > 1 ? k - 1 + others : 0), "a task is passed over by too many");
+    expect(most_passed_over(at) <= may_pass_over(threads, k), "a task is passed over by too many");
+}
+
+// Two workers give one after the other, each some 10,000 tasks more than the queue has room for, and no worker goes on
+// before all are given.
+void passes_over_few_of_the_list() {
+    const std::uint64_t first = 110000, numbers = 120000, threads = 16;
+    std::atomic<std::uint64_t> given{0}, begun{0};
+    std::vector<std::atomic<std::uint64_t>> at(numbers);
+    auto waits_for = [&](std::uint64_t number) {
+        while (given < number) std::this_thread::sleep_for(std::chrono::microseconds(100));
+    };
+    auto gives_to = [&](std::uint64_t end, auto &more) {
+        for (std::uint64_t next = given; next < end; next++) more.give(next);
+        given = end;
+    };
+    auto body = [&](std::uint64_t number, auto &more) {
+        if (number < numbers) {
+            at[number] = ++begun;
+            return;
+        }
+        if (number == numbers) gives_to(first, more);
+        waits_for(first);
+        if (number == numbers + 1) gives_to(numbers, more);
+        waits_for(numbers);
+    };
+    (void)kfifo::work::run<std::uint64_t>(tasks_of<std::uint64_t>(numbers, numbers + threads), body, by(threads, 1));
+    expect(begun == numbers, "each task is begun that found no room");
+    expect(most_passed_over(at) <= may_pass_over(threads, 1), "a task that found no room is passed over by too many");
 }
 
 void stops(std::size_t threads) {
@@ -504,6 +540,7 @@ int main() {
     for (int round = 0; round < scale; round++) throws_one_of_many();
     sees_the_backlog();
     keeps_the_order();
+    passes_over_few_of_the_list();
     runs_of_few_tasks();
     one_task_is_cheap();
     runs_within_runs();

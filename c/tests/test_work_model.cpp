@@ -1,7 +1,7 @@
-// A small model of the end of a run, and of workers that sleep: the steps of kfifo_work.hpp over a queue and lists that
-// are bags of tasks, explored over all interleavings of three workers. A store of a count is seen by the others only
-// some steps later. No worker may say that the run is over while a task is left, and in the end none may sleep. Then
-// the same with a step left out or misplaced: each of these has to be caught.
+// A small model of the end of a run, and of workers that sleep: the steps of kfifo_work.hpp over a queue and a list
+// that are bags of tasks, explored over all interleavings of three workers. A store of a count is seen by the others
+// only some steps later. No worker may say that the run is over while a task is left, and in the end none may sleep.
+// Then the same with a step left out or misplaced: each of these has to be caught.
 #include <array>
 #include <cstdint>
 #include <cstdio>
@@ -22,18 +22,18 @@ enum class Fault {
     end_wakes_none,
     nobody_woken_by_give,
     nobody_woken_by_list,
-    lists_not_looked_into,
-    lists_not_looked_into_again,
+    list_not_looked_into,
+    list_not_looked_into_again,
     no_second_look,
     count,
 };
 
 // Where a worker is: each is one atomic step.
 enum Step : std::uint8_t {
-    move_on,     // it moves a task of its list into the queue
+    move_on,     // it may move a task of the list into the queue
     take,        // its look into the queue
     see_end,     // of one that found the queue empty: whether it is finished
-    see_lists,   // then its look into the lists
+    see_list,    // then its look into the list
     full_step,   // it writes its count of tasks done once more
     add_done,    // it reads the count of tasks done of one worker after the other
     add_given,   // and then those of tasks given
@@ -43,7 +43,7 @@ enum Step : std::uint8_t {
     asleep,      //
     retract,     // it says that it no longer waits
     count_given, // in a body, before it gives
-    put,         // it gives, into the queue or into its list
+    put,         // it gives, into the queue or into the list
     see_others,  // it looks for workers that wait
     wake,        // it wakes one
     count_done,  // after a body
@@ -68,33 +68,28 @@ struct Worker {
     std::uint8_t late = 0, late_kinds = 0; // stores that the others do not see yet, the oldest in the lowest bit
     std::uint8_t sum = 0, sum_of_given = 0, next = 0;
     std::uint8_t is_announced = 0, is_current = 0, has_looked = 0;
-    Bag list{};
 };
 
 struct State {
     std::array<Worker, workers> all{};
-    Bag queue{};
+    Bag queue{}, list{};
     std::uint8_t finished = 0;
     std::uint8_t refusals = 0; // how often the queue may still find no room
 
     bool operator==(const State &other) const { return std::memcmp(this, &other, sizeof *this) == 0; }
     bool has_tasks() const {
-        unsigned left = size_of(queue);
-        for (const Worker &worker : all) left += size_of(worker.list) + worker.is_in_body;
-        return left != 0;
+        bool is_one_in_body = false;
+        for (const Worker &worker : all) is_one_in_body = is_one_in_body || worker.is_in_body;
+        return is_one_in_body || has_waiting_tasks();
     }
-    bool has_waiting_tasks() const {
-        unsigned left = size_of(queue);
-        for (const Worker &worker : all) left += size_of(worker.list);
-        return left != 0;
-    }
+    bool has_waiting_tasks() const { return size_of(queue) + size_of(list) != 0; }
     bool has_waiting() const {
         for (const Worker &worker : all)
             if (worker.is_announced) return true;
         return false;
     }
 };
-static_assert(sizeof(State) == workers * sizeof(Worker) + kinds + 2 && sizeof(Worker) == 17, "no byte is padding");
+static_assert(sizeof(State) == workers * sizeof(Worker) + 2 * kinds + 2 && sizeof(Worker) == 14, "no byte is padding");
 
 struct Hash {
     std::size_t operator()(const State &state) const {
@@ -182,13 +177,11 @@ class Search {
                                                                  : count_given;
     }
 
-    static void to_next(Worker &worker) { worker.step = size_of(worker.list) ? move_on : take; }
-
     void step(const State &from, std::size_t which, std::vector<State> &found) {
         switch (from.all[which].step) {
         case move_on: moves_on(from, which, found); return;
         case take: takes(from, which, found); return;
-        case see_lists: sees_lists(from, which, found); return;
+        case see_list: sees_list(from, which, found); return;
         case put: puts(from, which, found); return;
         case wake: wakes(from, which, found); return;
         case wake_all: wakes_all(from, which, found); return;
@@ -204,7 +197,7 @@ class Search {
     // The steps that come to one thing.
     void alone(State &state, Worker &worker) {
         switch (worker.step) {
-        case see_end: worker.step = state.finished ? ended : see_lists; return;
+        case see_end: worker.step = state.finished ? ended : see_list; return;
         case full_step:
             if (fault != Fault::no_full_step) see_all(worker);
             worker.step = fault == Fault::given_added_up_first ? add_given : add_done;
@@ -222,7 +215,7 @@ class Search {
         case count_done:
             if (fault != Fault::done_counted_before_body) store(worker, true);
             worker.is_in_body = worker.has_given = 0;
-            to_next(worker);
+            worker.step = move_on;
             return;
         case say_over:
             is_wrong = is_wrong || state.has_tasks();
@@ -249,7 +242,7 @@ class Search {
         case retract:
             see_all(worker);
             worker.is_announced = worker.is_current = 0;
-            to_next(worker);
+            worker.step = move_on;
             return;
         default: return;
         }
@@ -281,11 +274,11 @@ class Search {
         found.push_back(from);
         found.back().all[which].step = take;
         for (std::size_t kind = 0; kind < kinds; kind++) {
-            if (from.all[which].list[kind] == 0) continue;
+            if (from.list[kind] == 0) continue;
             found.push_back(from);
             Worker &worker = found.back().all[which];
             see_all(worker);
-            worker.list[kind]--;
+            found.back().list[kind]--;
             found.back().queue[kind]++;
             worker.step = see_others;
         }
@@ -304,17 +297,15 @@ class Search {
         found.back().all[which].step = see_end;
     }
 
-    void sees_lists(const State &from, std::size_t which, std::vector<State> &found) const {
-        bool looks = fault != Fault::lists_not_looked_into_again || !from.all[which].is_announced;
+    void sees_list(const State &from, std::size_t which, std::vector<State> &found) const {
+        bool looks = fault != Fault::list_not_looked_into &&
+                     (fault != Fault::list_not_looked_into_again || !from.all[which].is_announced);
         std::size_t before = found.size();
-        for (std::size_t other = 0; looks && other < workers; other++) {
-            if (fault == Fault::lists_not_looked_into && other != which) continue;
-            for (std::size_t kind = 0; kind < kinds; kind++) {
-                if (from.all[other].list[kind] == 0) continue;
-                found.push_back(from);
-                found.back().all[other].list[kind]--;
-                begin(found.back().all[which], kind);
-            }
+        for (std::size_t kind = 0; looks && kind < kinds; kind++) {
+            if (from.list[kind] == 0) continue;
+            found.push_back(from);
+            found.back().list[kind]--;
+            begin(found.back().all[which], kind);
         }
         if (found.size() > before) return;
         found.push_back(from);
@@ -326,7 +317,7 @@ class Search {
             worker.step = worker.has_looked || fault == Fault::end_not_looked_for ? announce : full_step;
     }
 
-    // A give: into the queue, or into the worker's list where the queue has no room.
+    // A give: into the queue, or into the list where the queue has no room, or the list had tasks.
     void puts(const State &from, std::size_t which, std::vector<State> &found) const {
         for (int into_list = 0; into_list < 2; into_list++) {
             if (into_list && from.refusals == 0) continue;
@@ -336,7 +327,7 @@ class Search {
             see_all(worker);
             worker.still_gives--;
             worker.has_given = 1;
-            (into_list ? worker.list : state.queue)[0]++;
+            (into_list ? state.list : state.queue)[0]++;
             state.refusals = static_cast<std::uint8_t>(state.refusals - into_list);
             if (fault == Fault::given_counted_after_give) store(worker, false);
             worker.step = see_others;
@@ -344,7 +335,12 @@ class Search {
         }
     }
 
-    void after_give(Worker &worker) const { worker.is_in_body ? go_on(worker) : to_next(worker); }
+    void after_give(Worker &worker) const {
+        if (worker.is_in_body)
+            go_on(worker);
+        else
+            worker.step = move_on;
+    }
 
     // The word changes, and one that sleeps is woken, if there is one.
     void wakes(const State &from, std::size_t which, std::vector<State> &found) const {

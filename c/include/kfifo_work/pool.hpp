@@ -3,6 +3,7 @@
 #define KFIFO_WORK_POOL_HPP
 
 #include "../kfifo.hpp"
+#include "list.hpp"
 #include "options.hpp"
 #include "tasks.hpp"
 #include "worker.hpp"
@@ -112,6 +113,24 @@ template <typename Task> class Pool {
         stop();
     }
 
+    // Puts a task into the queue: false where that has no room. One that is worn out ends the run: else all tasks would
+    // go through the list from then on, slowly, and whether the run ends would hang on how takes meet the end.
+    bool has_put(kfifo_handle *by, std::uint64_t word) {
+        kfifo_status status = kfifo_give(by, word);
+        if (__builtin_expect(status == KFIFO_WORN, 0)) wear();
+        return status == KFIFO_DONE;
+    }
+
+    // Moves tasks of the list into the queue, where that has room.
+    void move_on(kfifo_handle *by) {
+        list.move_on([=](std::uint64_t word) { return has_put(by, word); });
+    }
+
+    // The oldest task of the list, for a worker that found the queue empty.
+    kfifo_status hand_over(kfifo_handle *to, std::uint64_t &word) {
+        return list.hand_over(to, word, [=](std::uint64_t other) { return has_put(to, other); });
+    }
+
     std::uint64_t sum(std::atomic<std::uint64_t> Worker<Task>::*count) const {
         std::uint64_t all = 0;
         for (const Worker<Task> &worker : workers) all += (worker.*count).load(std::memory_order_seq_cst);
@@ -120,12 +139,11 @@ template <typename Task> class Pool {
 
     kfifo_waits *waits() const { return KFIFO_WAITS(&passes[0]); }
 
-    // Workers read these, and write the second one where they have no room in the queue.
     std::vector<Worker<Task>> workers;
-    std::atomic<std::size_t> lists{0}; // how many workers have tasks in their lists
-    bool is_open = false;              // set by the only worker, before it starts others
+    bool is_open = false; // set by the only worker, before it starts others
     kfifo_handle passes[64] = {};
     Chains chains;
+    List list;
 
   private:
     static std::size_t number_of(std::size_t threads) {
@@ -134,14 +152,15 @@ template <typename Task> class Pool {
         return threads == 0 ? 1 : threads < KFIFO_MAX_THREADS ? threads : KFIFO_MAX_THREADS;
     }
 
-    // Opens the queue, and moves the tasks of the only worker into it.
+    // Opens the queue, and moves the tasks of the list into it.
     bool open() {
         Sizes sizes(k, workers.size());
         if (kfifo_open_values_with(sizes.k, sizes.capacity, KFIFO_LAST, KFIFO_RESERVE, sizes.generations, passes,
                                    workers.size()) != KFIFO_DONE)
             return false;
         is_open = true;
-        workers[0].move_on(std::numeric_limits<std::size_t>::max());
+        list.move_on([this](std::uint64_t word) { return has_put(&passes[0], word); },
+                     std::numeric_limits<std::size_t>::max());
         return true;
     }
 
@@ -182,10 +201,7 @@ template <typename Task> class Pool {
     bool next_left(std::uint64_t &word) {
         for (Worker<Task> &worker : workers)
             if (worker.has_taken(word)) return true;
-        if (is_open && kfifo_take(&passes[0], &word) == KFIFO_DONE) return true;
-        for (Worker<Task> &worker : workers)
-            if (worker.has_listed(word)) return true;
-        return false;
+        return (is_open && kfifo_take(&passes[0], &word) == KFIFO_DONE) || list.take(word);
     }
 
     Runs loop;
