@@ -126,7 +126,7 @@ template <typename Task, typename Call> struct Loop {
 // calling thread is one of the workers. With one worker the tasks are done in their order. Workers are started as the
 // tasks come, so a run of one task that gives none starts no thread. One that finds no task sleeps.
 // Cost: a task costs as a kfifo_give and a kfifo_take. With the second task the run opens its queue, 0.8 megabytes with
-// k = 16, and it starts a thread for each of the next ones, until all are started.
+// k = 16, and starts a thread. Each that comes up starts the next one where tasks wait, and later gives do, up to all.
 //
 //     report = kfifo::work::run<Stack>({0}, [&](Stack stack, auto &more) {
 //         auto distance = static_cast<std::uint8_t>(distances[stack] + 1);

@@ -63,8 +63,7 @@ template <typename Task> class Pool {
 
     // Does all tasks, of which there are `tasks` at first. Throws what a task threw first.
     void work(std::size_t tasks) {
-        if (tasks > 1 && workers.size() > 1 && open())
-            for (std::size_t i = 1; i < tasks && may_start(); i++) start_worker();
+        if (tasks > 1 && workers.size() > 1 && open()) start_worker();
         loop(workers[0], call);
         join();
 #ifdef __cpp_exceptions
@@ -88,8 +87,8 @@ template <typename Task> class Pool {
         return all;
     }
 
-    // A give starts a worker, until all are started, where none sleeps. The first one opens the queue: where there is
-    // no memory for it, the calling thread goes on alone, and the next give tries again.
+    // A give starts a worker, until all are started, where none sleeps or is still to come up. The first one opens the
+    // queue: where there is no memory for it, the calling thread goes on alone, and the next give tries again.
     void after_give() {
         if (__builtin_expect(may_start(), 0) && (is_open || open())) start_worker();
     }
@@ -165,19 +164,36 @@ template <typename Task> class Pool {
     }
 
     bool may_start() const {
-        if (started.load(std::memory_order_relaxed) >= limit.load(std::memory_order_relaxed)) return false;
+        std::size_t all = started.load(std::memory_order_relaxed);
+        if (all >= limit.load(std::memory_order_relaxed) || up.load(std::memory_order_relaxed) != all) return false;
         return !is_stopped() && !(is_open && (kfifo_waits_state(waits()) & KFIFO_WAITS_TAKERS));
     }
 
-    // Starts one more worker. Where the system refuses a thread, the run goes on with those that it has, and gives back
-    // the other handles, whose generation others would look into.
     void start_worker() {
         std::unique_lock<std::mutex> lock(starting, std::try_to_lock);
+        if (lock) start_next();
+    }
+
+    // A worker comes up, and starts the next one where tasks wait for it. Where each of the first gives started one in
+    // its place, a search gave its first states one after the other while workers ran ahead, and did much twice.
+    void come_up() {
+        std::lock_guard<std::mutex> lock(starting);
+        up.fetch_add(1, std::memory_order_relaxed);
+        std::uint64_t ended = sum(&Worker<Task>::done);
+        if (sum(&Worker<Task>::given) - ended > started.load(std::memory_order_relaxed) && may_start()) start_next();
+    }
+
+    // Starts one more worker, by whoever has the lock. Where the system refuses a thread, the run goes on with those
+    // that it has, and gives back the other handles, whose generation others would look into.
+    void start_next() {
         std::size_t which = started.load(std::memory_order_relaxed);
-        if (!lock || which >= limit.load(std::memory_order_relaxed)) return;
+        if (which >= limit.load(std::memory_order_relaxed)) return;
         KFIFO_TRY {
             if (threads.empty()) threads.reserve(workers.size());
-            threads.emplace_back([this, which] { loop(workers[which], call); });
+            threads.emplace_back([this, which] {
+                come_up();
+                loop(workers[which], call);
+            });
             started.store(which + 1, std::memory_order_relaxed);
         }
         KFIFO_CATCH {
@@ -208,7 +224,7 @@ template <typename Task> class Pool {
     void *call;
     std::uint32_t k;
     std::atomic<bool> stopped{false};
-    std::atomic<std::size_t> started{1}, limit;
+    std::atomic<std::size_t> started{1}, up{1}, limit; // how many workers were started, run, and may be started
     std::mutex starting;
     std::vector<std::thread> threads;
     std::atomic<bool> has_failed{false}, is_worn{false};
