@@ -200,7 +200,7 @@ def of_work():
     yield None if said else "bench/work.py --again --out docs/bench --page writes another section on work"
     _, found = measured[0]
     tasks = [work.median(found, it, "tasks") for it in work.OURS]
-    told = f"{min(tasks):.2f} to {max(tasks):.2f} tasks a stack"
+    told = f"{min(tasks):.3f} to {max(tasks):.3f} tasks a stack"
     yield None if told in (ROOT / "docs/WORK.md").read_text() else f"docs/WORK.md: docs/bench/work.md has {told}"
 
 
