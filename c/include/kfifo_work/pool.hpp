@@ -122,12 +122,12 @@ template <typename Task> class Pool {
 
     // Moves tasks of the list into the queue, where that has room.
     void move_on(kfifo_handle *by) {
-        list.move_on([=](std::uint64_t word) { return has_put(by, word); });
+        list.move_on([this, by](std::uint64_t word) { return has_put(by, word); });
     }
 
     // The oldest task of the list, for a worker that found the queue empty.
     kfifo_status hand_over(kfifo_handle *to, std::uint64_t &word) {
-        return list.hand_over(to, word, [=](std::uint64_t other) { return has_put(to, other); });
+        return list.hand_over(to, word, [this, to](std::uint64_t other) { return has_put(to, other); });
     }
 
     std::uint64_t sum(std::atomic<std::uint64_t> Worker<Task>::*count) const {
