@@ -844,7 +844,7 @@ KFIFO_MUST_USE static inline kfifo_status kfifo_give_once(kfifo_handle *handle, 
    grow, FINISHED, WORN or BAD_CALL, and the value stays the caller's. It does not wait. If there is no memory for the
    next generation until the reserve is used up, takes return WORN. They may then no longer reach a value whose give
    returned DONE: a close gives it back.
-   Cost: some 40 instructions more than a kfifo_put. It asks for memory only where it opens a generation.
+   Cost: some 30 instructions more than a kfifo_put. It asks for memory only where it opens a generation.
 
        if (kfifo_give(&handles[0], 7) != KFIFO_DONE) return 1;
 */
@@ -864,7 +864,7 @@ KFIFO_MUST_USE static inline kfifo_status kfifo_take_once(kfifo_handle *handle, 
 
 /* Takes one of the k oldest values, and wakes a thread that waits for room: DONE, and writes it; else EMPTY, FINISHED,
    WORN or BAD_CALL, and *value stays. It does not wait.
-   Cost: some 40 instructions more than a kfifo_get, and a look into each older generation.
+   Cost: some 30 instructions more than a kfifo_get, and a look into each older generation.
 
        while (kfifo_take(&handles[1], &value) == KFIFO_DONE) sum += value;
 */

@@ -311,7 +311,7 @@ template <typename T> struct ValueQueue<T>::Handle::LastCell {
 
     // Takes a value, if there is one: that of the cell that was kept, or one of the queue.
     template <typename Calls> kfifo_status take(Calls &&calls, kfifo_waits *waits) {
-        cell = std::exchange(by.kept, kfifo_cell_at{});
+        cell = by.take_kept();
         kfifo_status status = KFIFO_DONE;
         if (!cell.block) status = calls(by.handle, [&] { return by.look(waits, &cell); });
         is_received = has_value = status == KFIFO_DONE;

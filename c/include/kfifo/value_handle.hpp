@@ -417,7 +417,6 @@ template <typename T> class ValueQueue<T>::Handle {
                 (void)kfifo_after_take(KFIFO_WAITS(by.handle), KFIFO_DONE);
                 return;
             }
-            by.kept.block = nullptr;
             detail::value_in<T>(cell).~T();
             (void)kfifo_bare_release(by.handle);
         }
@@ -430,6 +429,15 @@ template <typename T> class ValueQueue<T>::Handle {
         kfifo_cell_at cell;
         bool is_out = false;
     };
+
+    // Takes the cell that was kept, or none.
+    kfifo_cell_at take_kept() {
+        kfifo_cell_at cell = kept;
+        // Where there is none, nothing is written. Handles in an array share cache lines: if each take wrote its
+        // handle, it would take the line from the other threads.
+        if (__builtin_expect(cell.block != nullptr, 0)) kept.block = nullptr;
+        return cell;
+    }
 
     // Receives a cell. Where it gets none, it wakes a thread that waits for room: else Received does so.
     kfifo_status look(kfifo_waits *waits, kfifo_cell_at *cell) {
@@ -449,7 +457,7 @@ template <typename T> class ValueQueue<T>::Handle {
     template <typename Calls, typename Use, typename None> auto receive(Calls calls, Use use, None none) {
         kfifo_waits *waits = usable();
         detail::InCall in_call(handle, "a take of kfifo::ValueQueue");
-        kfifo_cell_at cell = kept;
+        kfifo_cell_at cell = take_kept();
         if (!cell.block) {
             kfifo_status status = calls(handle, [&] { return look(waits, &cell); });
             if (status != KFIFO_DONE) return none(static_cast<Miss>(detail::checked(status)));
