@@ -92,7 +92,7 @@ def workloads(small):
     for nanoseconds in (100, 1000, 10000):
         for threads in (1, THREADS):
             shown = {"nanoseconds": f"{nanoseconds / 1000:g} µs, ns"} if threads > 1 else {}
-            title = f"Tasks of {nanoseconds / 1000:g} microseconds that give two each, on {threads} thread"
+            title = f"Tasks of {nanoseconds / 1000:g} µs that give two each, on {threads} thread"
             words = ["tree", nanoseconds, depth - (nanoseconds == 10000) * 3]
             yield Workload(title + "s" * (threads > 1), words, {"nanoseconds": "ns a task"}, everybody, threads, shown)
     waits = {"median": "median", "99": "99 of 100", "99.9": "99.9 of 100"}
@@ -104,7 +104,7 @@ def workloads(small):
     yield Workload(title, ["idle", seconds], used, OURS)
     lists = [*OURS, STEALS, *(RUST[:1] if has_rayon() else [])]
     for tasks in (1, 2, THREADS, 100):
-        yield Workload(f"A run of {tasks} tasks", ["runs", tasks], used, lists)
+        yield Workload(f"A run of {tasks} task" + "s" * (tasks != 1), ["runs", tasks], used, lists)
 
 
 def has_rayon():
