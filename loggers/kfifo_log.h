@@ -9,19 +9,19 @@
  *          bool done = my_enqueue(queue, item);
  *          kfifo_log_end(&logs[t], done ? KFIFO_LOG_DONE : KFIFO_LOG_FULL, 0);
  *      and kfifo_log_begin_dequeue(&logs[t]) with KFIFO_LOG_GOT and the item, or with KFIFO_LOG_EMPTY and 0.
- *   4. Give each item a number of its own, 1 to 16,777,215, as from a counter of each producer that starts where no
- *      other gets to.
- *   5. Put some hundred items in before the threads start, and dequeue after their join until the queue is empty, in a
- *      log of its own. In a queue that is nearly empty a wrong order hardly shows, and of one that is left filled
+ *   4. Give each item a number of its own, 1 to 16,777,215, for example from a counter for each producer that starts
+ *      where no other gets to.
+ *   5. Put some hundred items in before the threads start. After joining them, dequeue until the queue is empty, in a
+ *      log of its own. In a queue that is nearly empty a wrong order hardly shows, and if the queue is left filled,
  *      nobody can see that an item is lost.
  *   6. kfifo_log_write(stdout, logs, count), and then:
  *          ./my_test > log.csv && kfifo judge < log.csv
- *      Look at the line `calls <number>, items left <number>` too: 0 calls are no test, and items left are lost ones if
- *      the log ends in a dequeue that found the queue empty.
+ *      Look at the line `calls <number>, items left <number>` too: 0 calls are no test, and items left are lost items
+ *      if the log ends in a dequeue that found the queue empty.
  *
- * A log that is full takes no more calls, and kfifo_log_write refuses it: calls that are missing would make the
- * verdict wrong. A log costs 32 bytes a call; kfifo judges 16,777,215 calls at most. Each log is its
- * thread's alone: there is no lock, and memory is taken by kfifo_log_open only.
+ * A log that is full takes no more calls, and kfifo_log_write refuses it: missing calls would make the verdict wrong.
+ * A log costs 32 bytes a call; kfifo judges 16,777,215 calls at most. Each log is its thread's alone: there is no lock,
+ * and only kfifo_log_open takes memory.
  */
 #ifndef KFIFO_LOG_H
 #define KFIFO_LOG_H

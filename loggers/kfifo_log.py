@@ -3,24 +3,24 @@
 It needs the standard library alone.
 
 How to use it:
- 1. Copy this file beside your queue, and say `import kfifo_log`.
+ 1. Copy this file beside your queue, and write `import kfifo_log`.
  2. Before the threads start, make a log for each: `logs = [kfifo_log.ThreadLog(t, calls) for t in range(threads)]`, t
     below 64.
  3. Make each call through it: `log.enqueue(item, queue.put_nowait)` and `log.dequeue(queue.get_nowait)`. An enqueue
     that raises `queue.Full` or returns False is logged as full, and a dequeue that raises `queue.Empty` or returns
     None as empty. For other answers call `begin_enqueue(item)` or `begin_dequeue()`, and after the call
     `end(answer)`, or `end("got", item)`.
- 4. Give each item a number of its own, 1 to 16,777,215, as from a counter of each producer that starts where no other
-    gets to.
- 5. Put some hundred items in before the threads start, and dequeue after their join until the queue is empty, in a log
-    of its own. In a queue that is nearly empty a wrong order hardly shows, and of one that is left filled nobody can
+ 4. Give each item a number of its own, 1 to 16,777,215, for example from a counter for each producer that starts where
+    no other gets to.
+ 5. Put some hundred items in before the threads start. After joining them, dequeue until the queue is empty, in a log
+    of its own. In a queue that is nearly empty a wrong order hardly shows, and if the queue is left filled, nobody can
     see that an item is lost.
  6. `kfifo_log.write(logs, sys.stdout)`, and then:
     `python3 my_test.py > log.csv && kfifo judge < log.csv`
-    Look at the line `calls <number>, items left <number>` too: 0 calls are no test, and items left are lost ones if the
-    log ends in a dequeue that found the queue empty.
+    Look at the line `calls <number>, items left <number>` too: 0 calls are no test, and items left are lost items if
+    the log ends in a dequeue that found the queue empty.
 
-A log that is full takes no more calls, and `write` refuses it: calls that are missing would make the verdict wrong.
+A log that is full takes no more calls, and `write` refuses it: missing calls would make the verdict wrong.
 `kfifo` judges 16,777,215 calls at most. Each log is its thread's alone: there is no lock, and its arrays are made
 before the run. (The numbers that pass through them are objects, which the interpreter makes as it goes.)
 """

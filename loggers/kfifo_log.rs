@@ -1,25 +1,25 @@
 //! Logs each call that threads make of your own queue, so that `kfifo` can judge the run. It needs std alone.
 //!
 //! How to use it:
-//! 1. Copy this file beside your queue, and say `mod kfifo_log;`.
+//! 1. Copy this file beside your queue, and write `mod kfifo_log;`.
 //! 2. Before the threads start: `let mut logs = kfifo_log::thread_logs(threads, calls);`, at most 64 threads. Give
-//!    each thread its own, as by `logs.iter_mut()` in a `std::thread::scope`.
+//!    each thread its own, for example by `logs.iter_mut()` in a `std::thread::scope`.
 //! 3. Make each call through it: `log.enqueue(item, || queue.push(item))` and `log.dequeue(|| queue.pop())`. A `bool`
 //!    is taken as done or full, an `Option<u32>` as got or empty; for other answers return an `Enqueued` or a
 //!    `Dequeued`.
-//! 4. Give each item a number of its own, 1 to 16,777,215, as from a counter of each producer that starts where no
-//!    other gets to.
-//! 5. Put some hundred items in before the threads start, and dequeue after their join until the queue is empty, in a
-//!    log of its own. In a queue that is nearly empty a wrong order hardly shows, and of one that is left filled nobody
-//!    can see that an item is lost.
+//! 4. Give each item a number of its own, 1 to 16,777,215, for example from a counter for each producer that starts
+//!    where no other gets to.
+//! 5. Put some hundred items in before the threads start. After joining them, dequeue until the queue is empty, in a
+//!    log of its own. In a queue that is nearly empty a wrong order hardly shows, and if the queue is left filled,
+//!    nobody can see that an item is lost.
 //! 6. `kfifo_log::write(&logs, std::io::stdout())?`, and then:
 //!    `my_test > log.csv && kfifo judge < log.csv`
-//!    Look at the line `calls <number>, items left <number>` too: 0 calls are no test, and items left are lost ones if
+//!    Look at the line `calls <number>, items left <number>` too: 0 calls are no test, and items left are lost items if
 //!    the log ends in a dequeue that found the queue empty.
 //!
-//! A log that is full takes no more calls, and `write` refuses it: calls that are missing would make the verdict
-//! wrong. `kfifo` judges 16,777,215 calls at most. Each log is its thread's alone: there is no lock, and memory is
-//! taken by `thread_logs` only.
+//! A log that is full takes no more calls, and `write` refuses it: missing calls would make the verdict wrong.
+//! `kfifo` judges 16,777,215 calls at most. Each log is its thread's alone: there is no lock, and only `thread_logs`
+//! takes memory.
 
 #![allow(dead_code)] // a queue need not have every answer
 
