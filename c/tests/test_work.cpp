@@ -263,6 +263,8 @@ void stops(std::size_t threads) {
         tasks_of<Counted>(0, numbers),
         [&](Counted task, auto &more) {
             done(task.value);
+            // Else the others may do them all while the worker with task 300 has no processor.
+            while (task.value >= 900 && task.value < numbers && !more.is_stopped()) std::this_thread::yield();
             if (task.value < 500) more.give(Counted(task.value + numbers));
             if (task.value == 300) {
                 more.stop();
