@@ -220,10 +220,12 @@ std::string progress() {
         _exit(0);
     }
     waitpid(child, nullptr, 0);
-    char bytes[65536];
-    const ssize_t count = read(own, bytes, sizeof bytes);
+    // What the child wrote last may come later than its end. A read fails only after all of it.
+    std::string said;
+    char bytes[4096];
+    for (ssize_t count = 0; (count = read(own, bytes, sizeof bytes)) > 0;) said.append(bytes, std::size_t(count));
     close(own);
-    return std::string(bytes, count > 0 ? std::size_t(count) : 0);
+    return said;
 }
 
 // Whether each line of progress is as wanted, and the last one is cleared.
