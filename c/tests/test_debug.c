@@ -8,7 +8,8 @@
 #include "test_ends.h"
 #include <pthread.h>
 #include <sched.h>
-#include <time.h>
+#include <stdatomic.h>
+#include <sys/syscall.h>
 
 enum { THREADS = 2 };
 
@@ -71,15 +72,33 @@ static const struct {
 };
 enum { CALLS = sizeof calls / sizeof calls[0] };
 
+/* The thread that waits. */
+static atomic_int waits_in;
+
+/* Waits until it sleeps. Before that it is in no call for a moment, after it has announced itself. */
+static void until_it_sleeps(void) {
+    char path[64], state = 0;
+    snprintf(path, sizeof path, "/proc/self/task/%d/stat", atomic_load(&waits_in));
+    while (state != 'S') {
+        FILE *file = fopen(path, "r");
+        if (!file || fscanf(file, "%*d (%*[^)]) %c", &state) != 1) exit(2);
+        fclose(file);
+        sched_yield();
+    }
+}
+
 static void *wait_for_item(void *handle) {
+    atomic_store(&waits_in, (int)syscall(SYS_gettid));
     return kfifo_get_wait(handle, &item, KFIFO_FOREVER) == KFIFO_DONE ? handle : NULL;
 }
 
 static void *wait_for_value(void *handle) {
+    atomic_store(&waits_in, (int)syscall(SYS_gettid));
     return kfifo_take_wait(handle, &value, KFIFO_FOREVER) == KFIFO_DONE ? handle : NULL;
 }
 
 static void *wait_for_cell(void *handle) {
+    atomic_store(&waits_in, (int)syscall(SYS_gettid));
     return kfifo_receive_wait(handle, &cell, KFIFO_FOREVER) == KFIFO_DONE ? handle : NULL;
 }
 
@@ -92,7 +111,7 @@ static void call_at_the_same_time(size_t index) {
     if (pthread_create(&other, NULL, sleeps, handle)) exit(2);
     kfifo_waits *waits = KFIFO_WAITS(handle);
     while (kfifo_waits_state(waits) < KFIFO_WAITS_TAKER) sched_yield();
-    nanosleep(&(struct timespec){0, 20000000}, NULL); /* it has announced itself, looks once more, and then sleeps */
+    until_it_sleeps();
     /* Of an array the first handle is in no call. */
     int has_all =
         strstr(calls[index].name, "close") || strstr(calls[index].name, "abandon") || strstr(calls[index].name, "room");
