@@ -262,11 +262,9 @@ void stops(std::size_t threads) {
     auto report = kfifo::work::run<Counted>(
         tasks_of<Counted>(0, numbers),
         [&](Counted task, auto &more) {
-            // The system may hold up the worker that is to stop the run. The others do not run far ahead then.
-            while (task.value >= 1000 && !more.is_stopped()) std::this_thread::yield();
-            done(task.value);
             // Else the others may do them all while the worker with task 300 has no processor.
-            while (task.value >= 900 && task.value < numbers && !more.is_stopped()) std::this_thread::yield();
+            while (task.value >= 900 && !more.is_stopped()) std::this_thread::yield();
+            done(task.value);
             if (task.value < 500) more.give(Counted(task.value + numbers));
             if (task.value == 300) {
                 more.stop();
