@@ -192,7 +192,8 @@ pub(crate) type Value = MaybeUninit<u64>;
 // - `close_values`: DONE writes the values that are in the queue. There is room for `values_room` of them, else it does
 //   nothing.
 //
-// They require of the caller that one thread at a time uses a handle, and that it is open.
+// They require of the caller that one thread at a time uses a handle, that it is open, and that the handles of a close
+// are of one queue.
 unsafe extern "C" {
     pub(crate) fn kfifo_c_open_cells(
         k: u32,

@@ -3,7 +3,9 @@
 //! same in every run.
 #![tactic(auto)]
 
-ghost use Rattle.std.specs.Prelude.{◌≡◌, OnOk};
+ghost use Rattle.std.specs.Prelude.{◌≡◌, IfOk, OnOk, map};
+ghost use Rattle.kfifo_renewing.specs.Renewing.{AreOfOneQueue};
+ghost use Rattle.kfifo_renewing.specs.Renewing.{IsOfSameQueue};
 ghost use Rattle.example_values.specs.declared.worker.TheConstants.{TEXTS};
 
 mod worker;
@@ -11,7 +13,7 @@ mod worker;
 use kfifo_live::Sizes;
 use kfifo_renewing::{DEFAULT_RESERVE, Renewals, RenewingHandle, close, open_with};
 use kfifo_words::MAX_VERSION;
-use std::alloc::Global;
+use std::alloc::{AllocError, Global};
 use std::thread::{Threads, map_vec};
 use worker::{Tally, Worker};
 
@@ -33,23 +35,38 @@ struct Totals {
 
 /// What a thread does with its handle.
 fn work(alloc: Global, handle: RenewingHandle<String>) -> Worker
-    ensures { OnOk result.ended (result.made.texts ≡ TEXTS) }
+    ensures made { OnOk result.ended (result.made.texts ≡ TEXTS) }
+    ensures handle { IsOfSameQueue handle result.handle }
 {
     let mut worker = Worker::new(handle);
     worker.work(alloc);
     worker
 }
 
+/// The workers' handles, in their order.
+fn handles_back(
+    alloc: Global,
+    workers: Vec<Worker>,
+) -> Result<Vec<RenewingHandle<String>>, AllocError>
+    ensures { IfOk result (λ handles. handles.items ≡ map (λ w. w.handle) workers.items) }
+{
+    workers
+        .into_iter()
+        .map(|worker| worker.handle)
+        .collect(alloc)
+}
+
 /// Closes the queue when its threads have ended, and adds up what was made, taken and left.
-fn finish(alloc: Global, workers: Vec<Worker>) -> anyhow::Result<Totals> {
+fn finish(alloc: Global, workers: Vec<Worker>) -> anyhow::Result<Totals>
+    requires { AreOfOneQueue (map (λ w. w.handle) workers.items) }
+{
     let mut totals = Totals::default();
-    let mut handles = Vec::new(alloc);
-    for worker in workers {
+    for worker in &workers {
         worker.ended?;
         totals.made.add_all(worker.made);
         totals.out.add_all(worker.out);
-        handles.push(worker.handle)?;
     }
+    let handles = handles_back(alloc, workers)?;
     for text in close(alloc, handles)? {
         totals.out.add(text.as_str());
     }

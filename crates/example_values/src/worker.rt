@@ -1,5 +1,6 @@
 //! What one thread does with its handle.
 ghost use Rattle.std.specs.Prelude.{◌≡◌, ◌+◌, ◌%◌, ◌^◌, IsErr, OnOk, length};
+ghost use Rattle.kfifo_renewing.specs.Renewing.{IsOfSameQueue};
 ghost use Rattle.example_values.specs.Takes.{TakesOne};
 
 use kfifo_live::{Given, Taken};
@@ -93,14 +94,16 @@ impl Worker {
     /// Makes 1,000 texts, gives each to the queue, and takes one after each.
     pub fn work(&mut self, alloc: Global)
         requires { self.old.made.texts ≡ 0 }
-        ensures { OnOk self.new.ended (self.new.made.texts ≡ TEXTS) }
+        ensures made { OnOk self.new.ended (self.new.made.texts ≡ TEXTS) }
+        ensures handle { IsOfSameQueue self.old.handle self.new.handle }
     {
         self.ended = self.make_texts(alloc);
     }
 
     fn make_texts(&mut self, alloc: Global) -> Result<(), Fault>
         requires { self.old.made.texts ≡ 0 }
-        ensures { OnOk result (self.new.made.texts ≡ TEXTS) }
+        ensures made { OnOk result (self.new.made.texts ≡ TEXTS) }
+        ensures handle { IsOfSameQueue self.old.handle self.new.handle }
     {
         for number in 0..TEXTS {
             let text = format!(in alloc; "text {number}")?;
@@ -113,7 +116,8 @@ impl Worker {
 
     /// Gives a text. While the queue is full, takes others to make room. What the queue does not get, the thread keeps.
     fn give(&mut self, text: String) -> Result<(), Fault>
-        ensures { self.new.made ≡ self.old.made }
+        ensures made { self.new.made ≡ self.old.made }
+        ensures handle { IsOfSameQueue self.old.handle self.new.handle }
     {
         let mut offered = text;
         for _try in 0..TRIES {
@@ -143,6 +147,7 @@ impl Worker {
     /// Takes one of the k oldest texts, if there is one.
     fn take(&mut self) -> Result<(), Fault>
         ensures made { self.new.made ≡ self.old.made }
+        ensures handle { IsOfSameQueue self.old.handle self.new.handle }
         ensures takes { TakesOne (IsErr result) self.old.out.texts self.new.out.texts self.old.handle self.new.handle }
     {
         match self.handle.take() {

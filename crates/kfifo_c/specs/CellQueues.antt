@@ -1,7 +1,6 @@
 -- What C is told of a cell's layout, and what closing a queue of cells says of its handles.
 use Rattle.std.specs.Prelude.{◌≡◌, ℕ, ◌%◌, ◌==◌, ◌&&◌, Bool, not, Option, Some, List, [], ◌∷◌, ◌++◌}
-use Rattle.kfifo_renewing.specs.Cells.{LeavesCells}
-use Rattle.kfifo_renewing.specs.Renewing.{Gathers, HeldIn}
+use Rattle.kfifo_renewing.specs.Cells.{ClosesAllCells}
 use Rattle.kfifo_c.specs.AllHandles.{AreAll}
 use Rattle.kfifo_c.specs.CellLeft.{LeftSeated}
 use Rattle.kfifo_c.specs.CellSeats.{CellSeated}
@@ -20,8 +19,6 @@ all_cells (cells ∷ generations) = cells ++ all_cells generations
 -- the renewing queue says of a close
 pub record ClosesCells (handles : List (Option CellSeated)) (left : Option LeftSeated) : Type 0 where
   pub all : AreAll handles
-  pub held : List (HeldIn (Unit {0}))
-  pub gathers : Gathers all.last held
   pub generations : List (List ℕ)
-  pub leaves : LeavesCells held generations
+  pub closes : ClosesAllCells (all.others ++ all.last ∷ []) generations
   pub left_is : left ≡ Some (all_cells generations)

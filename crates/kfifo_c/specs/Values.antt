@@ -58,6 +58,6 @@ pub record MayCloseValues (handles : List (Option ValueSeated)) (room : ℕ) : T
 pub record ClosesValues (handles : List (Option ValueSeated)) (old new : List ℕ) (count : ℕ) : Type 0 where
   pub all : AreAll handles
   pub left : List ℕ
-  pub closes : ClosesAll all.last left
+  pub closes : ClosesAll (all.others ++ all.last ∷ []) left
   pub count_is : count ≡ length left
   pub written : new ≡ left ++ drop (length left) old

@@ -1,5 +1,5 @@
 -- What a handle has joined stays so as it sees more of the history, makes calls, leaves generations and joins others.
-use Rattle.std.proofs.Common.{◌≡◌, ◌<◌, ◌≤◌, ◌+◌, ◌⊎◌, ⊎_elim, ℕ, zero, suc, List, [], ◌∷◌, ◌++◌, All, map, take, drop}
+use Rattle.std.proofs.Common.{◌≡◌, ◌<◌, ◌≤◌, ◌+◌, ◌⊎◌, ⊎_elim, ℕ, zero, suc, List, [], ◌∷◌, ◌++◌, All, take, drop}
 use Rattle.std.proofs.Common.{length, slice_get, slice_index_or, ◌≢◌, ◌==◌, Bool, true, false, MatchBool, None, Option}
 use Rattle.std.proofs.Common.{Some, arith, inl, inr, refl, sym, ap, ◌∙◌, subst}
 use Rattle.std.specs.List.{Contains}
@@ -27,29 +27,7 @@ use Rattle.kfifo_renewing.proofs.Histories.{contains-later, gone-later, left-lat
 use Rattle.kfifo_renewing.proofs.Histories.{was_first}
 use Rattle.kfifo_renewing.proofs.Keeping.{kept-gone, kept-placed}
 use Rattle.kfifo_renewing.proofs.Departures.{leaves-refl}
-use Rattle.kfifo_renewing.proofs.Parts.{all-next, all-without}
-
-contains-cons : {A : Type 0} (y x : A) (xs : List A) → Contains xs x → Contains (y ∷ xs) x
-contains-cons y x xs (k, inside, is) = (suc k, omega (arith, inside), is)
-
-contains-head : {A : Type 0} (x : A) (xs : List A) → Contains (x ∷ xs) x
-contains-head x xs = (zero, omega arith, refl)
-
--- what is in a list is there without the element at a place, or is that one
-contains-without : {A : Type 0} (xs : List A) (i : ℕ) (x : A) → Contains xs x
-    → Contains (take i xs ++ drop (i + 1) xs) x ⊎ (slice_get xs i ≡ Some x)
-contains-without [] i x (k, inside, is) = absurd (omega (arith, inside))
-contains-without (y ∷ xs) zero x (zero, inside, is) = inr (ap Some is)
-contains-without (y ∷ xs) zero x (suc k, inside, is) = inl (k, omega (arith, inside), is)
-contains-without (y ∷ xs) (suc i) x (zero, inside, is) =
-    inl (subst (λ z. Contains (y ∷ (take i xs ++ drop (suc i + 1) (y ∷ xs))) z) is
-    (contains-head y (take i xs ++ drop (suc i + 1) (y ∷ xs))))
-contains-without (y ∷ xs) (suc i) x (suc k, inside, is) = ⊎_elim
-    (λ rest. inl (subst (λ n. Contains (y ∷ (take i xs ++ drop n (y ∷ xs))) x) (let e : suc (i + 1) ≡ suc i + 1 =
-    omega arith in e)
-    (contains-cons y x (take i xs ++ drop (i + 1) xs) rest)))
-    inr
-    (contains-without xs i x (k, omega (arith, inside), is))
+use Rattle.kfifo_renewing.proofs.Parts.{all-next, all-without, contains-cons, contains-head, contains-map, contains-without}
 
 -- the element at an index
 pub get-at : {A : Type 0} (xs : List A) (i : ℕ) (x d : A) → i < length xs → x ≡ slice_index_or xs i d
@@ -57,13 +35,6 @@ pub get-at : {A : Type 0} (xs : List A) (i : ℕ) (x d : A) → i < length xs �
 get-at [] i x d inside is = absurd (omega (arith, inside))
 get-at (y ∷ xs) zero x d inside is = ap Some (sym is)
 get-at (y ∷ xs) (suc i) x d inside is = get-at xs i x d (omega (arith, inside)) is
-
-contains-map : {A B : Type 0} (f : A → B) (xs : List A) (x : A) → Contains xs x → Contains (map f xs) (f x)
-contains-map f [] x (k, inside, is) = absurd (omega (arith, inside))
-contains-map f (y ∷ xs) x (zero, inside, is) =
-    subst (λ z. Contains (map f (y ∷ xs)) (f z)) is (contains-head (f y) (map f xs))
-contains-map f (y ∷ xs) x (suc k, inside, is) =
-    contains-cons (f y) (f x) (map f xs) (contains-map f xs x (k, omega (arith, inside), is))
 
 module _ {T : Type 0} where
   pub part-later : (xs ys : List Change) (p : PartView T) → IsPrefix xs ys → IsPart xs p → IsPart ys p

@@ -8,7 +8,8 @@ pub mod Joining
 pub mod Following
 pub mod Looking
 pub mod Giving
-pub mod Closing
+pub mod Endings
+pub mod Queues
 pub mod Counting
 pub mod Departures
 pub mod Refusing

@@ -1,11 +1,69 @@
 -- Lists: what holds of all their elements, and lists of threads.
-use Rattle.std.proofs.Common.{◌≡◌, ◌==◌, ◌+◌, ℕ, zero, suc, not, List, [], ◌∷◌, ◌++◌, All, take, drop, length, sym, ap}
-use Rattle.std.proofs.Common.{Bool, arith, ◌∙◌, subst}
+use Rattle.std.proofs.Common.{◌≡◌, ◌==◌, ◌+◌, ◌⊎◌, ⊎_elim, ℕ, zero, suc, not, List, [], ◌∷◌, ◌++◌, All, take, drop}
+use Rattle.std.proofs.Common.{Bool, true, false, Some, arith, cond, filter, inl, inr, length, map, refl, slice_get}
+use Rattle.std.proofs.Common.{slice_index_or, sym, ap, ◌∙◌, subst}
+use Rattle.std.specs.List.{Contains}
 use Rattle.kfifo_renewing.specs.Joining.{PartView}
 use Rattle.std.proofs.lemmas.List.{append-nil, drop_all, take_all}
-use Rattle.std.proofs.lemmas.List.Elements.{All-append, All-drop, All-take, filter-append}
+use Rattle.std.proofs.lemmas.List.Elements.{All-append, All-drop, All-take, Contains-get_or, filter-append}
 use Rattle.kfifo_live.specs.Schedule.{count_up}
 use Rattle.kfifo_renewing.specs.Renewing.{other_threads, without}
+
+pub contains-cons : {A : Type 0} (y x : A) (xs : List A) → Contains xs x → Contains (y ∷ xs) x
+contains-cons y x xs (k, inside, is) = (suc k, omega (arith, inside), is)
+
+pub contains-head : {A : Type 0} (x : A) (xs : List A) → Contains (x ∷ xs) x
+contains-head x xs = (zero, omega arith, refl)
+
+-- what is in a list is there without the element at a place, or is that one
+pub contains-without : {A : Type 0} (xs : List A) (i : ℕ) (x : A) → Contains xs x
+    → Contains (take i xs ++ drop (i + 1) xs) x ⊎ (slice_get xs i ≡ Some x)
+contains-without [] i x (k, inside, is) = absurd (omega (arith, inside))
+contains-without (y ∷ xs) zero x (zero, inside, is) = inr (ap Some is)
+contains-without (y ∷ xs) zero x (suc k, inside, is) = inl (k, omega (arith, inside), is)
+contains-without (y ∷ xs) (suc i) x (zero, inside, is) =
+    inl (subst (λ z. Contains (y ∷ (take i xs ++ drop (suc i + 1) (y ∷ xs))) z) is
+    (contains-head y (take i xs ++ drop (suc i + 1) (y ∷ xs))))
+contains-without (y ∷ xs) (suc i) x (suc k, inside, is) = ⊎_elim
+    (λ rest. inl (subst (λ n. Contains (y ∷ (take i xs ++ drop n (y ∷ xs))) x) (let e : suc (i + 1) ≡ suc i + 1 =
+    omega arith in e)
+    (contains-cons y x (take i xs ++ drop (i + 1) xs) rest)))
+    inr
+    (contains-without xs i x (k, omega (arith, inside), is))
+
+pub contains-map : {A B : Type 0} (f : A → B) (xs : List A) (x : A) → Contains xs x → Contains (map f xs) (f x)
+contains-map f [] x (k, inside, is) = absurd (omega (arith, inside))
+contains-map f (y ∷ xs) x (zero, inside, is) =
+    subst (λ z. Contains (map f (y ∷ xs)) (f z)) is (contains-head (f y) (map f xs))
+contains-map f (y ∷ xs) x (suc k, inside, is) =
+    contains-cons (f y) (f x) (map f xs) (contains-map f xs x (k, omega (arith, inside), is))
+
+-- an element of the images is the image of one
+pub contains-image : {A B : Type 0} (f : A → B) (xs : List A) (y : B) → Contains (map f xs) y
+    → (x : A) × Contains xs x × (f x ≡ y)
+contains-image f [] y (k, inside, is) = absurd (omega (arith, inside))
+contains-image f (x ∷ xs) y (zero, inside, is) = (x, contains-head x xs, is)
+contains-image f (x ∷ xs) y (suc k, inside, is) =
+    let rest = contains-image f xs y (k, omega (arith, inside), is) in
+    (rest.0, contains-cons x rest.0 xs rest.1, rest.2)
+
+contains-cond : {A : Type 0} (b : Bool) (y x : A) (xs : List A) → Contains xs x → Contains (cond b (y ∷ xs) xs) x
+contains-cond true y x xs c = contains-cons y x xs c
+contains-cond false y x xs c = c
+
+-- an element that passes the test is among those that do
+pub contains-filter : {A : Type 0} (p : A → Bool) (xs : List A) (x : A) → Contains xs x → p x ≡ true
+    → Contains (filter p xs) x
+contains-filter p [] x (k, inside, is) passes = absurd (omega (arith, inside))
+contains-filter p (y ∷ xs) x (zero, inside, is) passes =
+    subst (λ b. Contains (cond b (y ∷ filter p xs) (filter p xs)) x) (sym (ap p is ∙ passes))
+    (subst (Contains (y ∷ filter p xs)) is (contains-head y (filter p xs)))
+contains-filter p (y ∷ xs) x (suc k, inside, is) passes =
+    contains-cond (p y) y x (filter p xs) (contains-filter p xs x (k, omega (arith, inside), is) passes)
+
+-- what holds of each element of a list
+pub all-from-contains : {A : Type 0} (P : A → Type 0) (xs : List A) → ((x : A) → Contains xs x → P x) → All P xs
+all-from-contains P xs each k d inside = each (slice_index_or xs k d) (Contains-get_or xs k d inside)
 
 module _ {A : Type 0} where
   pub all-next : (P : A → Type 0) (x : A) (xs ys : List A) → ys ≡ x ∷ xs → All P ys → P x × All P xs

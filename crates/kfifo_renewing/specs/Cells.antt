@@ -1,19 +1,19 @@
 -- What the calls of a handle of a queue of cells do. A cell is that of a token of its generation: token x has cell x -
 -- 1.
-use Rattle.std.specs.Prelude.{◌≡◌, ◌≢◌, ◌⊎◌, ◌++◌, ℕ, false, true, List, [], ◌∷◌, map, Option, Some, None}
+use Rattle.std.specs.Prelude.{◌≡◌, ◌≢◌, ◌⊎◌, ◌++◌, ℕ, false, true, List, [], ◌∷◌, Option, Some, None}
 use Rattle.std.specs.Option.{option_or}
 use Rattle.kfifo_live.specs.declared.payload.Given.{Given}
 use Rattle.kfifo_live.specs.declared.payload.Given.TheVariants as G
 use Rattle.kfifo_live.specs.declared.payload.Taken.{Taken}
 use Rattle.kfifo_pool.specs.Cells.{CancelsCell, PublishesCell, ReleasesCell, ReservesCell, cell_in}
-use Rattle.kfifo_live.specs.Pass.{Closes, IsPassOf, OpenQueue}
+use Rattle.kfifo_live.specs.Pass.{Closes, OpenQueue}
 use Rattle.kfifo_pool.specs.Pooled.{Pooled, passes_in}
 use Rattle.kfifo_renewing.specs.declared.cells.CellCall.{CellCall}
 use Rattle.kfifo_renewing.specs.declared.cells.CellCall.TheVariants as C
 use Rattle.kfifo_renewing.specs.declared.memory.CellAt.{CellAt}
 use Rattle.kfifo_renewing.specs.Memory.{ReceivesAt, ReceivesAtOrSeals, cells_in}
-use Rattle.kfifo_renewing.specs.Renewing.{Follows, Generations, HeldIn, IsAtNewest, IsBehind, TakesBy, other_threads}
-use Rattle.kfifo_renewing.specs.Renewing.{with_newest}
+use Rattle.kfifo_renewing.specs.Renewing.{IsClosedBy, Follows, Gathers, Generations, HeldIn, IsAtNewest, IsBehind}
+use Rattle.kfifo_renewing.specs.Renewing.{TakesBy, with_newest}
 
 module _ {T : Type 0} where
   -- What a call with the cell of a handle in one generation did. NoToken: there is no such cell, and nothing is done
@@ -84,18 +84,21 @@ module _ {T : Type 0} where
       × CallsOnce C.Release released old mid × TakesBy ReceivesAt ReceivesAtOrSeals answer mid new
 
   -- What a close of a generation of cells returned: by this handle, and the handles of all other threads
-  pub record CellsWereLeft (h : Pooled T) (cells : List ℕ) : Type 0 where
+  pub record CellsWereLeft (handles : List (Generations T)) (h : HeldIn T) (cells : List ℕ) : Type 0 where
     pub queue : OpenQueue
-    pub of : IsPassOf queue h.held.pass.pass
     pub others : List (Pooled T)
-    pub each_other : map (λ o. o.held.pass.pass.thread) others
-        ≡ other_threads h.held.pass.pass.thread queue.opened.threads
+    pub by : IsClosedBy handles queue h others
     pub tokens : List ℕ
-    pub closes : Closes queue (passes_in (others ++ h ∷ [])) tokens
+    pub closes : Closes queue (passes_in (others ++ h.handle ∷ [])) tokens
     pub cells_are : cells ≡ cells_in tokens
 
   -- what such closes returned, one after the other
-  abbrev pub LeavesCells : List (HeldIn T) → List (List ℕ) → Type 0
-  LeavesCells [] left = left ≡ []
-  LeavesCells (h ∷ hs) left = (first : List ℕ) × (rest : List (List ℕ)) × (left ≡ first ∷ rest)
-      × CellsWereLeft h.handle first × LeavesCells hs rest
+  abbrev pub LeavesCells : List (Generations T) → List (HeldIn T) → List (List ℕ) → Type 0
+  LeavesCells handles [] left = left ≡ []
+  LeavesCells handles (h ∷ hs) left = (first : List ℕ) × (rest : List (List ℕ)) × (left ≡ first ∷ rest)
+      × CellsWereLeft handles h first × LeavesCells handles hs rest
+
+  -- What a close by these handles returned, as `ClosesAll` says of payloads
+  abbrev pub ClosesAllCells : List (Generations T) → List (List ℕ) → Type 0
+  ClosesAllCells handles left = (last : Generations T) × (others : List (Generations T))
+      × (handles ≡ others ++ last ∷ []) × (all : List (HeldIn T)) × Gathers last all × LeavesCells others all left

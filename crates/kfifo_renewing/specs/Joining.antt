@@ -6,7 +6,7 @@ use Rattle.kfifo_pool.specs.Pooled.{Pooled, no_cells}
 use Rattle.kfifo_live.specs.Pass.{IsPassOf, IsSamePass, IsSealedEmpty}
 use Rattle.kfifo_live.specs.declared.view.Opening.{Opening}
 use Rattle.kfifo_renewing.specs.History.{HasLeft, HasRisen, IsGone, IsMade, IsPlaced, WasNewest, place_count}
-use Rattle.kfifo_renewing.specs.Renewing.{HeldIn, IsFresh, IsOpenedAs, Numbered}
+use Rattle.kfifo_renewing.specs.Renewing.{Generations, HeldIn, IsFresh, IsOpenedAs, Numbered, all_of}
 use Rattle.kfifo_renewing.specs.declared.change.Change.{Change}
 
 -- a part in a generation: the handle there, and the number and the place of the generation
@@ -65,6 +65,15 @@ module _ {T : Type 0} where
   -- numbers, and as two beginnings of the history tell
   abbrev pub AreAmong : ℕ → ℕ → List (PartView T) → List Change → List Change → Type 0
   AreAmong first end parts old new = (n : ℕ) → first < n → n < end → WasNewest old n → HasLeft new n ⊎ HasNumber parts n
+
+  -- handles in one generation
+  abbrev pub IsBeside : Pooled T → Pooled T → Type 0
+  IsBeside h k = (k.held.pass.pass.table ≡ h.held.pass.pass.table) × (k.held.pass.pass.opened ≡ h.held.pass.pass.opened)
+
+  -- each part of these handles is among these parts
+  abbrev pub HaveParts : List (Generations T) → List (PartView T) → Type 0
+  HaveParts handles parts = (g : Generations T) (h : HeldIn T) → Contains handles g → Contains (all_of g) h
+      → Contains (held_by parts) h
 
   -- each generation that was the newest before this one has gone, or one of these parts is in it
   abbrev pub HasOlder : List Change → List (PartView T) → ℕ → Type 0

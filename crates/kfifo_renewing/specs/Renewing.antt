@@ -157,6 +157,16 @@ module _ {T : Type 0} where
   abbrev pub all_of : Generations T → List (HeldIn T)
   all_of g = g.older ++ record { handle = g.newest; number = g.number } ∷ []
 
+  -- these handles are of one queue: they have one history, and one opening
+  abbrev pub AreOfOneQueue : List (Generations T) → Type 0
+  AreOfOneQueue handles = (opened : Opening) × (book : Book)
+      × All (λ g. (g.opened ≡ opened) × (g.book ≡ book)) handles
+
+  -- a handle is of the same queue as before
+  pub record IsOfSameQueue (old new : Generations T) : Type 0 where
+    pub opened : new.opened ≡ old.opened
+    pub book : new.book ≡ old.book
+
   -- the handle, once it has seen this much of the history
   abbrev pub with_seen : Generations T → List Change → Generations T
   with_seen g log = record {
@@ -431,20 +441,32 @@ module _ {T : Type 0} where
   abbrev pub TakesFromOldest : Taken T → Generations T → Generations T → Type 0
   TakesFromOldest = TakesBy ReceivesOne ReceivesOneOrSeals
 
-  -- What a close of a generation returned: by this handle, and the handles of all other threads
-  pub record WereLeft (h : Pooled T) (payloads : List T) : Type 0 where
-    pub queue : OpenQueue
-    pub of : IsPassOf queue h.held.pass.pass
-    pub others : List (Pooled T)
+  -- Each of these handles that is in the generation with this number has its own handle there among these
+  abbrev pub HaveOwnAmong : List (Generations T) → ℕ → List (Pooled T) → Type 0
+  HaveOwnAmong handles number all = (g : Generations T) (h : HeldIn T) → Contains handles g → Contains (all_of g) h
+      → h.number ≡ number → Contains all h.handle
+
+  -- Who closes a generation, whose queue this is, with this handle: the handles there of all other threads, in their
+  -- order, the own ones of these handles of the renewing queue among them
+  pub record IsClosedBy (handles : List (Generations T)) (queue : OpenQueue) (h : HeldIn T) (others : List (Pooled T))
+      : Type 0 where
+    pub of : IsPassOf queue h.handle.held.pass.pass
     pub each_other : map (λ o. o.held.pass.pass.thread) others
-        ≡ other_threads h.held.pass.pass.thread queue.opened.threads
-    pub closes : PayCloses queue h.held.pass (map (λ o. o.held.pass) others) payloads
+        ≡ other_threads h.handle.held.pass.pass.thread queue.opened.threads
+    pub theirs : HaveOwnAmong handles h.number others
+
+  -- What a close of a generation returned: by this handle, and the handles of all other threads
+  pub record WereLeft (handles : List (Generations T)) (h : HeldIn T) (payloads : List T) : Type 0 where
+    pub queue : OpenQueue
+    pub others : List (Pooled T)
+    pub by : IsClosedBy handles queue h others
+    pub closes : PayCloses queue h.handle.held.pass (map (λ o. o.held.pass) others) payloads
 
   -- what such closes returned, one after the other
-  abbrev pub ClosesEach : List (HeldIn T) → List T → Type 0
-  ClosesEach [] payloads = payloads ≡ []
-  ClosesEach (h ∷ hs) payloads = (first : List T) × (rest : List T) × (payloads ≡ first ++ rest)
-      × WereLeft h.handle first × ClosesEach hs rest
+  abbrev pub ClosesEach : List (Generations T) → List (HeldIn T) → List T → Type 0
+  ClosesEach handles [] payloads = payloads ≡ []
+  ClosesEach handles (h ∷ hs) payloads = (first : List T) × (rest : List T) × (payloads ≡ first ++ rest)
+      × WereLeft handles h first × ClosesEach handles hs rest
 
   -- What a close has by its last handle: the handle followed others to the generation that was the newest of the queue
   -- at a look, so it is in each that has not gone: in these, the oldest first
@@ -452,8 +474,9 @@ module _ {T : Type 0} where
   Gathers last all = (here : Generations T) × Follows last here × IsAtNewest last here × HasAll here
       × (all ≡ all_of here)
 
-  -- What a close returned by its last handle: the handle followed others to the generation that was the newest of the
-  -- queue at a look, so it is in each that has not gone, and each of its generations was closed, the oldest first
-  abbrev pub ClosesAll : Generations T → List T → Type 0
-  ClosesAll last payloads = (here : Generations T) × Follows last here × IsAtNewest last here × HasAll here
-      × ClosesEach (all_of here) payloads
+  -- What a close by these handles returned: the last of them followed others to the generation that was the newest of
+  -- the queue at a look, so it is in each that has not gone, and each of its generations was closed, the oldest first.
+  -- All that a handle did in one of these is in the one schedule by which that was closed
+  abbrev pub ClosesAll : List (Generations T) → List T → Type 0
+  ClosesAll handles payloads = (last : Generations T) × (others : List (Generations T))
+      × (handles ≡ others ++ last ∷ []) × (all : List (HeldIn T)) × Gathers last all × ClosesEach others all payloads

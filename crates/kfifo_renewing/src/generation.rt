@@ -1,6 +1,8 @@
 //! A generation: a queue of payloads, with the handles that wait in it for their threads.
-ghost use Rattle.std.specs.Prelude.{◌≡◌, ◌<◌, ◌≤◌, ◌+◌, ◌++◌, [], ◌∷◌, All, IfOk, IfSome, length, map, true};
+ghost use Rattle.std.specs.Prelude.{◌≡◌, ◌<◌, ◌≤◌, ◌+◌, ◌++◌, ◌⊎◌, [], ◌∷◌, All, IfOk, IfSome, Some, length, map, true};
 ghost use Rattle.std.specs.Prelude.{vec_capacity};
+ghost use Rattle.std.specs.List.{Contains};
+ghost use Rattle.kfifo_pool.specs.Pooled.{Pooled};
 ghost use Rattle.kfifo_live.specs.Pass.{IsPassOf};
 ghost use Rattle.kfifo_renewing.specs.History.{IsMade};
 ghost use Rattle.kfifo_renewing.specs.Renewing.{IsFresh, IsUntouched, Numbered, other_threads, without};
@@ -111,27 +113,67 @@ fn handle_in<T: Drop>(place: Counted<Option<Waiting<T>>>, thread: u32) -> Option
     }
 }
 
-/// Adds the handle of this thread, which waits in this place, to those of the others, unless the thread is the own one.
+/// The handle of this thread, if it is among these. It is then no longer there.
+fn take_of<T: Drop>(handles: &mut Vec<PooledHandle<T>>, thread: u32) -> Option<PooledHandle<T>>
+    ensures thread { IfSome result (λ h. h.held.pass.pass.thread ≡ thread) }
+    ensures found { IfSome result (Contains handles.old.items) }
+    ensures fewer { (h : Pooled T) → Contains handles.new.items h → Contains handles.old.items h }
+    ensures others { (h : Pooled T) → Contains handles.old.items h → Contains handles.new.items h ⊎ (result ≡ Some h) }
+{
+    let mut index = 0;
+    while index < handles.len() {
+        if handles[index].pass().thread() == thread {
+            return Some(handles.remove(index));
+        }
+        index += 1;
+    }
+    None
+}
+
+/// The handle of this thread: the one that is among these, and then no longer is, or else the one that waits in this
+/// place.
+fn handle_of<T: Drop>(
+    theirs: &mut Vec<PooledHandle<T>>,
+    place: Counted<Option<Waiting<T>>>,
+    thread: u32,
+) -> Result<PooledHandle<T>, CloseFault>
+    requires { All (λ h. IsPassOf place h.held.pass.pass) theirs.old.items }
+    ensures of { IfOk result (λ h. IsPassOf place h.held.pass.pass × (h.held.pass.pass.thread ≡ thread)) }
+    ensures fewer { (h : Pooled T) → Contains theirs.new.items h → Contains theirs.old.items h }
+    ensures others { IfOk result (λ r. (h : Pooled T) → Contains theirs.old.items h
+        → Contains theirs.new.items h ⊎ (r ≡ h)) }
+{
+    if let Some(handle) = take_of(theirs, thread) {
+        return Ok(handle);
+    }
+    let handle = handle_in(place, thread).ok_or(CloseFault::MissingPass)?;
+    Ok(handle)
+}
+
+/// Adds the handle of this thread to those of the others, unless the thread is the own one.
 fn add_other<T: Drop>(
     others: &mut Vec<PooledHandle<T>>,
+    theirs: &mut Vec<PooledHandle<T>>,
     place: Counted<Option<Waiting<T>>>,
     thread: u32,
     own: u32,
 ) -> Result<(), CloseFault>
-    requires { length others.old.items < vec_capacity others.old }
+    requires room { length others.old.items < vec_capacity others.old }
+    requires of { All (λ h. IsPassOf place h.held.pass.pass) theirs.old.items }
     ensures room { IfOk result (λ _. (vec_capacity others.new ≡ vec_capacity others.old)
         × (length others.new.items ≤ length others.old.items + 1)) }
     ensures of { IfOk result (λ _. All (λ h. IsPassOf place h.held.pass.pass) others.old.items
         → All (λ h. IsPassOf place h.held.pass.pass) others.new.items) }
     ensures threads { IfOk result (λ _. map (λ h. h.held.pass.pass.thread) others.new.items
         ≡ map (λ h. h.held.pass.pass.thread) others.old.items ++ without own (thread ∷ [])) }
+    ensures fewer { (h : Pooled T) → Contains theirs.new.items h → Contains theirs.old.items h }
+    ensures moved { IfOk result (λ _. (h : Pooled T) → Contains others.old.items h ⊎ Contains theirs.old.items h
+        → Contains others.new.items h ⊎ Contains theirs.new.items h) }
 {
     if thread == own {
         return Ok(());
     }
-    let Some(handle) = handle_in(place, thread) else {
-        return Err(CloseFault::MissingPass);
-    };
+    let handle = handle_of(theirs, place, thread)?;
     others.push_reserved(handle);
     Ok(())
 }
@@ -251,17 +293,22 @@ impl<T: Drop> Generation<T> {
         self.givers.load(SeqCst) != 0
     }
 
-    /// The queue, the handles of all its threads but this one, in their order, if all of them wait here, and the memory
-    /// of its cells.
+    /// The queue, the handles of all its threads but this one, in their order, and the memory of its cells: those of
+    /// `theirs`, and of the other threads those that wait here.
+    ///
+    /// MissingPass where one is elsewhere, or a thread has two.
     pub(crate) fn into_parts(
         self,
         alloc: Global,
         threads: u32,
         own: u32,
+        mut theirs: Vec<PooledHandle<T>>,
     ) -> Result<(PooledQueue<T>, Vec<PooledHandle<T>>, CellMemory), CloseFault>
+        requires { All (λ h. IsPassOf self.queue h.held.pass.pass) theirs.items }
         ensures queue { IfOk result (λ r. r.0 ≡ self.queue) }
         ensures of { IfOk result (λ r. All (λ h. IsPassOf self.queue h.held.pass.pass) r.1.items) }
         ensures others { IfOk result (λ r. map (λ h. h.held.pass.pass.thread) r.1.items ≡ other_threads own threads) }
+        ensures theirs { IfOk result (λ r. (h : Pooled T) → Contains theirs.items h → Contains r.1.items h) }
     {
         let Generation {
             queue,
@@ -275,10 +322,10 @@ impl<T: Drop> Generation<T> {
             if thread >= threads {
                 return Err(CloseFault::MissingPass);
             }
-            add_other(&mut others, place, thread, own)?;
+            add_other(&mut others, &mut theirs, place, thread, own)?;
             thread += 1;
         }
-        if thread < threads {
+        if thread < threads || !theirs.is_empty() {
             return Err(CloseFault::MissingPass);
         }
         Ok((queue, others, memory))

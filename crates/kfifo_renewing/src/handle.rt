@@ -512,24 +512,37 @@ impl<T: Drop, K: Kind<T>> RenewingHandle<T, K> {
         address_of(&self.shared)
     }
 
-    /// Gives the handle up: what the handles share, and the generations that it has joined, the oldest first.
-    pub(crate) fn into_joined(
-        self,
-    ) -> Result<(Arc<Shared<T>, Global>, Vec<Leaving<Joined<T>>>), AllocError>
-        ensures shared { IfOk result (λ r. (opening_in r.0.value ≡ self.opened) × (r.0.value.bare ≡ K.bare)) }
-        ensures joined { IfOk result (λ r. held_by r.1.items ≡ all_of self) }
-        ensures of { IfOk result (λ r. All (λ p. IsOpenedAs (opening_in r.0.value) p.handle) r.1.items) }
+    /// Gives the handle up.
+    pub(crate) fn into_joined(self) -> Result<JoinedAll<T>, AllocError>
+        ensures shared { IfOk result (λ r. (opening_in r.shared.value ≡ self.opened) × (r.shared.value.bare ≡ K.bare)) }
+        ensures history { IfOk result (λ r. (r.history.book ≡ self.book) × All (IsPart r.history.log) r.parts.items) }
+        ensures joined { IfOk result (λ r. held_by r.parts.items ≡ all_of self) }
+        ensures of { IfOk result (λ r. All (λ p. IsOpenedAs (opening_in r.shared.value) p.handle) r.parts.items) }
     {
         let Self {
             shared,
+            history,
             newest,
             older,
             ..
         } = self;
-        let mut all = older.into_parts();
-        all.push(newest)?;
-        Ok((shared, all))
+        let mut parts = older.into_parts();
+        parts.push(newest)?;
+        Ok(JoinedAll {
+            shared,
+            history,
+            parts,
+        })
     }
+}
+
+/// What a handle had that was given up: what the handles of its queue share, what it has seen of the history, and the
+/// generations that it has joined, the oldest first.
+#[derive(Drop)]
+pub(crate) struct JoinedAll<T: Drop> {
+    pub(crate) shared: Arc<Shared<T>, Global>,
+    pub(crate) history: History,
+    pub(crate) parts: Vec<Leaving<Joined<T>>>,
 }
 
 /// Leaves these generations, in which their thread has begun no call and which it may join again.

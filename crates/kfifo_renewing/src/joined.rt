@@ -118,6 +118,14 @@ impl<T: Drop> Leaving<Joined<T>> {
         generation.give_back(thread, handle, true);
     }
 
+    /// The handle in the generation, which is given up.
+    pub(crate) fn into_handle(self) -> PooledHandle<T>
+        ensures { result ≡ self.handle }
+    {
+        let (_, handle) = self.into_part().into_parts();
+        handle
+    }
+
     /// Whether the handle has a cell of the generation.
     pub(crate) fn has_cell(&self) -> bool
         ensures { result ≡ false ↔ (self.now.handle.cells ≡ no_cells) }

@@ -1,20 +1,21 @@
 //! Closing a queue of cells. What was left lies in the memory of its generation, which is the caller's until then.
-ghost use Rattle.std.specs.Prelude.{◌≡◌, ◌++◌, ◌∷◌, [], All, IfOk, List, map, true, ℕ};
-ghost use Rattle.kfifo_renewing.specs.Joining.{held_by};
+ghost use Rattle.std.specs.Prelude.{◌≡◌, All, IfOk, List, map, true, ℕ};
+ghost use Rattle.kfifo_renewing.specs.Cells.{CellsWereLeft, ClosesAllCells, LeavesCells};
+ghost use Rattle.kfifo_renewing.specs.Joining.{HaveParts, IsBeside, IsPart, held_by, held_in};
 ghost use Rattle.kfifo_renewing.specs.Memory.{cells_in};
-ghost use Rattle.kfifo_renewing.specs.Renewing.{Generations, Gathers, HeldIn, IsOpenedAs, opening_with};
-ghost use Rattle.kfifo_renewing.specs.Cells.{CellsWereLeft, LeavesCells};
+ghost use Rattle.kfifo_renewing.specs.Renewing.{AreOfOneQueue, Generations, HaveOwnAmong, IsOpenedAs, opening_with};
+ghost use Rattle.kfifo_renewing.specs.declared.change.Change.{Change};
 
+use crate::closing::{Ended, Gathered, end, gather};
 use crate::handle::RenewingHandle;
 use crate::joined::Joined;
 use crate::kind::Cells;
 use crate::leaving::Leaving;
 use crate::memory::{CellAt, CellMemory};
-use crate::queue::gather;
 use kfifo_live::{CloseFault, Sizes};
+use kfifo_pool::PooledHandle;
 use std::alloc::{AllocError, Global};
 use std::marker::Model;
-use std::sync::Arc;
 
 /// The cells that were left in a generation of a closed queue, with their memory, which is freed when this is dropped.
 ///
@@ -51,41 +52,51 @@ impl LeftCells {
     }
 }
 
-/// The cells that are left in a generation, by the handle of this part and those that wait there.
+/// The cells that are left in a generation, by the handle of this part, and by these and those that wait there.
 fn close_one(
     alloc: Global,
     joined: Leaving<Joined<()>>,
+    theirs: Vec<PooledHandle<()>>,
     sizes: &Sizes,
 ) -> Result<LeftCells, CloseFault>
-    requires { IsOpenedAs (opening_with true sizes.now) joined.handle }
-    ensures { IfOk result (λ left. CellsWereLeft joined.handle left) }
+    requires opened { IsOpenedAs (opening_with true sizes.now) joined.handle }
+    requires theirs { All (λ h. IsBeside joined.handle h) theirs.items }
+    ensures { IfOk result (λ left. (handles : List (Generations (Unit {0})))
+        → HaveOwnAmong handles joined.number theirs.items → CellsWereLeft handles (held_in joined) left) }
 {
-    let (generation, handle) = joined.into_part().into_parts();
-    let Some(generation) = Arc::into_inner(generation) else {
-        return Err(CloseFault::MissingPass);
-    };
-    let thread = handle.pass().thread();
-    let (queue, mut handles, memory) = generation.into_parts(alloc, sizes.threads, thread)?;
-    let Ok(()) = handles.push(handle) else {
+    let Ended {
+        queue,
+        handle,
+        mut others,
+        memory,
+    } = end(alloc, joined, theirs, sizes.threads)?;
+    let Ok(()) = others.push(handle) else {
         return Err(CloseFault::Memory);
     };
-    let tokens = queue.close(alloc, handles)?;
+    let tokens = queue.close(alloc, others)?;
     let left = LeftCells::new(alloc, tokens, memory)?;
     Ok(left)
 }
 
 /// The cells that are left in these generations, those of the first one first.
-fn close_each(
-    alloc: Global,
-    all: Vec<Leaving<Joined<()>>>,
-    sizes: &Sizes,
-) -> Result<Vec<LeftCells>, CloseFault>
-    requires { All (λ p. IsOpenedAs (opening_with true sizes.now) p.handle) all.items }
-    ensures { IfOk result (λ left. LeavesCells (held_by all.items) left.items) }
+fn close_each(alloc: Global, gathered: Gathered<()>) -> Result<Vec<LeftCells>, CloseFault>
+    requires opened { All (λ p. IsOpenedAs (opening_with true gathered.sizes) p.handle) gathered.all.items
+        × All (λ p. IsOpenedAs (opening_with true gathered.sizes) p.handle) gathered.theirs.parts.items }
+    requires parts { (log : List Change) × All (IsPart log) gathered.all.items
+        × All (IsPart log) gathered.theirs.parts.items }
+    ensures { IfOk result (λ left. (handles : List (Generations (Unit {0})))
+        → HaveParts handles gathered.theirs.parts.items
+        → LeavesCells handles (held_by gathered.all.items) left.items) }
 {
+    let Gathered {
+        all,
+        mut theirs,
+        sizes,
+    } = gathered;
     let mut left = Vec::with_capacity(alloc, all.len())?;
     for joined in all {
-        let closed = close_one(alloc, joined, sizes)?;
+        let here = theirs.take(alloc, joined.number())?;
+        let closed = close_one(alloc, joined, here, &sizes)?;
         let Ok(()) = left.push(closed) else {
             return Err(CloseFault::Memory);
         };
@@ -97,19 +108,19 @@ fn close_each(
 /// oldest first, with their memory.
 ///
 /// The last handle first follows the others. In each generation they are what is left after the one schedule of all
-/// calls there, in the order of `PooledQueue::close`. A cell that a handle had reserved or received is not among them.
+/// calls there, in the order of `PooledQueue::close`. All that a handle of the queue did there is in that schedule. A
+/// cell that a handle had reserved or received is not among them.
 ///
-/// MissingPass where one of its handles is still elsewhere, or none is given; Memory where an allocation failed. The
-/// cells are then gone with their memory, and nobody reads what was in them.
+/// The handles are of one queue. MissingPass where one of its handles is still elsewhere, or none is given; Memory
+/// where an allocation failed. The cells are then gone with their memory, and nobody reads what was in them.
 pub fn close_cells(
     alloc: Global,
     handles: Vec<RenewingHandle<(), Cells>>,
 ) -> Result<Vec<LeftCells>, CloseFault>
-    ensures { IfOk result (λ left. (last : Generations (Unit {0})) × (others : List (Generations (Unit {0})))
-        × (handles.items ≡ others ++ last ∷ []) × (all : List (HeldIn (Unit {0}))) × Gathers last all
-        × LeavesCells all left.items) }
+    requires { AreOfOneQueue handles.items }
+    ensures { IfOk result (λ left. ClosesAllCells handles.items left.items) }
 {
-    let (all, sizes) = gather(handles)?;
-    let left = close_each(alloc, all, &sizes)?;
+    let gathered = gather(alloc, handles)?;
+    let left = close_each(alloc, gathered)?;
     Ok(left)
 }

@@ -5,6 +5,7 @@
 mod capacity;
 mod cells;
 mod change;
+mod closing;
 mod fault;
 mod generation;
 mod handle;
@@ -22,6 +23,7 @@ mod places;
 mod queue;
 mod taking;
 
+pub use closing::close;
 pub use fault::{CapacityFault, RenewFault};
 pub use handle::RenewingHandle;
 pub use kfifo_exclusive::Exclusive;
@@ -29,4 +31,4 @@ pub use kind::{Cells, Kind, Payloads};
 pub use left::{LeftCells, close_cells};
 pub use memory::{CellAt, CellLayout};
 pub use opening::{open, open_cells, open_cells_with, open_with};
-pub use queue::{DEFAULT_RESERVE, NO_RENEWAL, Renewals, close};
+pub use queue::{DEFAULT_RESERVE, NO_RENEWAL, Renewals};

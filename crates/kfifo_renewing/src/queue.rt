@@ -1,20 +1,14 @@
-//! What the handles of a renewing queue share, and its end.
-ghost use Rattle.std.specs.Prelude.{◌≡◌, ◌<◌, ◌≤◌, ◌*◌, ◌++◌, All, IfOk, IfSome, List, [], ◌∷◌};
-ghost use Rattle.std.specs.Prelude.{◌+◌, false, true};
+//! What the handles of a renewing queue share.
+ghost use Rattle.std.specs.Prelude.{◌≡◌, ◌<◌, ◌≤◌, ◌+◌, ◌*◌, All, IfOk, IfSome, false, true};
 ghost use Rattle.kfifo_live.specs.Pass.{IsPassOf};
 ghost use Rattle.logbook.specs.Pages.{may_write, nib};
 ghost use Rattle.kfifo_renewing.specs.History.{AreLabels, IsPlaced, WasNewest, key_of, place_count};
 ghost use Rattle.kfifo_renewing.specs.declared.places.Lineage.{Lineage};
-ghost use Rattle.kfifo_renewing.specs.Joining.{held_by};
-ghost use Rattle.kfifo_renewing.specs.Renewing.{AreInRange, ClosesAll, ClosesEach, Generations};
-ghost use Rattle.kfifo_renewing.specs.Renewing.{Gathers};
-ghost use Rattle.kfifo_renewing.specs.Renewing.{IsOfLineage, IsPlan};
-ghost use Rattle.kfifo_renewing.specs.Renewing.{IsOpenedAs, IsUntouched, WereLeft};
-ghost use Rattle.kfifo_renewing.specs.Renewing.{opening_in, opening_with, room_of};
+ghost use Rattle.kfifo_renewing.specs.Renewing.{AreInRange, IsOfLineage, IsPlan, IsUntouched, opening_in};
+ghost use Rattle.kfifo_renewing.specs.Renewing.{opening_with, room_of};
 ghost use Rattle.kfifo_renewing.specs.declared.queue.TheConstants.{DEFAULT_RESERVE};
 
 use crate::generation::Generation;
-use crate::handle::RenewingHandle;
 use crate::history::{History, Numbers};
 use crate::joined::Joined;
 use crate::kind::Kind;
@@ -22,7 +16,7 @@ use crate::label::Label;
 use crate::leaving::Leaving;
 use crate::memory::{CellLayout, CellMemory};
 use crate::places::{Lineage, Places};
-use kfifo_live::{CloseFault, SPARE_TOKENS, Sizes};
+use kfifo_live::{SPARE_TOKENS, Sizes};
 use kfifo_pool::{PooledHandle, PooledQueue};
 use logbook::Pen;
 use std::alloc::{AllocError, Global};
@@ -180,7 +174,7 @@ impl<T: Drop> Shared<T> {
     }
 
     /// What each generation is opened with.
-    fn sizes(&self) -> Sizes
+    pub(crate) fn sizes(&self) -> Sizes
         ensures { result ≡ self.now.sizes }
     {
         self.places.lineage.sizes
@@ -292,83 +286,4 @@ pub(crate) fn share<T: Drop>(
         alloc,
     };
     Ok((Arc::new(alloc, shared)?, place, history))
-}
-
-/// The generations of a queue, with the handle of the last of these, by all its handles: the others then wait there.
-/// And what each generation was opened with.
-pub(crate) fn gather<T: Drop, K: Kind<T>>(
-    mut handles: Vec<RenewingHandle<T, K>>,
-) -> Result<(Vec<Leaving<Joined<T>>>, Sizes), CloseFault>
-    ensures all { IfOk result (λ r. (last : Generations T) × (others : List (Generations T))
-        × (handles.items ≡ others ++ last ∷ []) × Gathers last (held_by r.0.items)) }
-    ensures of { IfOk result (λ r. All (λ p. IsOpenedAs (opening_with K.bare r.1) p.handle) r.0.items) }
-{
-    let Some(mut last) = handles.pop() else {
-        return Err(CloseFault::MissingPass);
-    };
-    let Some(_) = last.generations() else {
-        return Err(CloseFault::Memory);
-    };
-    // The passes of the others then wait in their generations.
-    drop(handles);
-    let (shared, all) = last.into_joined()?;
-    let Some(shared) = Arc::into_inner(shared) else {
-        return Err(CloseFault::MissingPass);
-    };
-    let sizes = shared.sizes();
-    // With the places the last other parts in the generations go.
-    drop(shared);
-    Ok((all, sizes))
-}
-
-/// The payloads that are left in a generation, by the handle of this part and those that wait there.
-fn close_one<T: Drop>(
-    alloc: Global,
-    joined: Leaving<Joined<T>>,
-    sizes: &Sizes,
-) -> Result<Vec<T>, CloseFault>
-    requires { IsOpenedAs (opening_with false sizes.now) joined.handle }
-    ensures { IfOk result (λ left. WereLeft joined.handle left.items) }
-{
-    let (generation, handle) = joined.into_part().into_parts();
-    let Some(generation) = Arc::into_inner(generation) else {
-        return Err(CloseFault::MissingPass);
-    };
-    let thread = handle.pass().thread();
-    let (queue, others, _) = generation.into_parts(alloc, sizes.threads, thread)?;
-    let left = queue.close_with(alloc, handle, others)?;
-    Ok(left)
-}
-
-/// The payloads that are left in these generations, those of the first one first.
-fn close_each<T: Drop>(
-    alloc: Global,
-    all: Vec<Leaving<Joined<T>>>,
-    sizes: &Sizes,
-) -> Result<Vec<T>, CloseFault>
-    requires { All (λ p. IsOpenedAs (opening_with false sizes.now) p.handle) all.items }
-    ensures { IfOk result (λ left. ClosesEach (held_by all.items) left.items) }
-{
-    let mut left = Vec::new(alloc);
-    for joined in all {
-        let mut values = close_one(alloc, joined, sizes)?;
-        left.append(&mut values)?;
-    }
-    Ok(left)
-}
-
-/// Closes a queue by all its handles, and returns the payloads that are left, those of the oldest generation first.
-///
-/// The last handle first follows the others. Of each of its generations they are what is left after the one schedule of
-/// all calls there, in the order of `PayQueue::close`.
-///
-/// MissingPass where one of its handles is still elsewhere, or none is given; Memory where an allocation failed. The
-/// payloads are then dropped.
-pub fn close<T: Drop>(alloc: Global, handles: Vec<RenewingHandle<T>>) -> Result<Vec<T>, CloseFault>
-    ensures { IfOk result (λ left. (last : Generations T) × (others : List (Generations T))
-        × (handles.items ≡ others ++ last ∷ []) × ClosesAll last left.items) }
-{
-    let (all, sizes) = gather(handles)?;
-    let left = close_each(alloc, all, &sizes)?;
-    Ok(left)
 }

@@ -1,11 +1,16 @@
 //! Queues of cells: each cell is in one place, in the generation in which it was reserved.
+ghost use Rattle.std.specs.Prelude.{◌≡◌, IfOk, map};
+ghost use Rattle.kfifo_renewing.specs.Renewing.{AreOfOneQueue};
+ghost use Rattle.kfifo_renewing.specs.Renewing.{IsOfSameQueue};
+
 use kfifo_live::{CloseFault, Given, Sizes, Taken};
 use kfifo_renewing::{
     CapacityFault, CellLayout, Cells, DEFAULT_RESERVE, LeftCells, RenewFault, Renewals,
     RenewingHandle, close_cells, open_cells, open_cells_with,
 };
 use kfifo_words::MAX_VERSION;
-use std::alloc::Global;
+use std::alloc::{AllocError, Global};
+use std::marker::Model;
 use std::process::Abort;
 use std::sync::atomic::{AtomicU64, Ordering};
 use std::test::Fail;
@@ -34,38 +39,41 @@ fn layout() -> CellLayout {
 }
 
 /// The handles of a queue with k = 1 and room for so many cells.
-fn open(alloc: Global, capacity: u32, threads: u32) -> Result<Vec<Handle>, CapacityFault> {
-    open_cells(alloc, 1, capacity, threads, layout())
+fn open(alloc: Global, capacity: u32, threads: u32) -> Result<Handles, CapacityFault> {
+    let handles = open_cells(alloc, 1, capacity, threads, layout())?;
+    Ok(Handles { handles })
 }
 
 /// The handles of a queue with k = 1 and room for 8 cells. Each generation has so many versions, and half of them are
 /// its reserve.
-fn open_short(
-    alloc: Global,
-    threads: u32,
-    last: u64,
-    generations: u32,
-) -> Result<Vec<Handle>, Fail> {
+fn open_short(alloc: Global, threads: u32, last: u64, generations: u32) -> Result<Handles, Fail> {
     let sizes = Sizes::for_capacity(1, 8, threads, last)?;
     let renewals = Renewals {
         reserve: (last / 2).min(DEFAULT_RESERVE),
         generations,
     };
-    Ok(open_cells_with(alloc, sizes, layout(), renewals)?)
+    let handles = open_cells_with(alloc, sizes, layout(), renewals)?;
+    Ok(Handles { handles })
 }
 
-fn reserve(handle: &mut Handle) -> Option<u32> {
+fn reserve(handle: &mut Handle) -> Option<u32>
+    ensures { IsOfSameQueue handle.old handle.new }
+{
     match handle.reserve() {
         Some(at) => Some(at.index),
         None => None,
     }
 }
 
-fn publish(handle: &mut Handle) -> Given<()> {
+fn publish(handle: &mut Handle) -> Given<()>
+    ensures { IsOfSameQueue handle.old handle.new }
+{
     handle.publish()
 }
 
-fn receive(handle: &mut Handle) -> Taken<u32> {
+fn receive(handle: &mut Handle) -> Taken<u32>
+    ensures { IsOfSameQueue handle.old handle.new }
+{
     match handle.receive() {
         Taken::Got(at) => Taken::Got(at.index),
         Taken::Empty => Taken::Empty,
@@ -74,24 +82,134 @@ fn receive(handle: &mut Handle) -> Taken<u32> {
     }
 }
 
-/// The cell that a take got, if it got one.
-fn got(handle: &mut Handle) -> Option<u32> {
-    match receive(handle) {
-        Taken::Got(cell) => Some(cell),
-        _ => None,
-    }
-}
-
-fn release(handle: &mut Handle) -> Given<()> {
+fn release(handle: &mut Handle) -> Given<()>
+    ensures { IsOfSameQueue handle.old handle.new }
+{
     handle.release()
 }
 
-fn cancel(handle: &mut Handle) -> Given<()> {
+fn cancel(handle: &mut Handle) -> Given<()>
+    ensures { IsOfSameQueue handle.old handle.new }
+{
     handle.cancel()
 }
 
-fn close(alloc: Global, handles: Vec<Handle>) -> Result<Vec<LeftCells>, CloseFault> {
-    close_cells(alloc, handles)
+/// The handles of one queue. A call is that of the handle in this place; with no handle there it returns what no test
+/// wants.
+#[derive(Drop)]
+struct Handles {
+    handles: Vec<Handle>,
+}
+
+impl Model for Handles {
+    ghost Value = { Unit {0} };
+
+    ghost view = { λ h. tt };
+
+    ghost invariant = { λ h. AreOfOneQueue h.handles.items };
+}
+
+impl Handles {
+    fn reserve(&mut self, place: usize) -> Option<u32> {
+        let Some(handle) = self.handles.get_mut(place) else {
+            return None;
+        };
+        reserve(handle)
+    }
+
+    fn publish(&mut self, place: usize) -> Given<()> {
+        let Some(handle) = self.handles.get_mut(place) else {
+            return Given::Worn(());
+        };
+        publish(handle)
+    }
+
+    fn receive(&mut self, place: usize) -> Taken<u32> {
+        let Some(handle) = self.handles.get_mut(place) else {
+            return Taken::Worn;
+        };
+        receive(handle)
+    }
+
+    fn release(&mut self, place: usize) -> Given<()> {
+        let Some(handle) = self.handles.get_mut(place) else {
+            return Given::Worn(());
+        };
+        release(handle)
+    }
+
+    fn cancel(&mut self, place: usize) -> Given<()> {
+        let Some(handle) = self.handles.get_mut(place) else {
+            return Given::Worn(());
+        };
+        cancel(handle)
+    }
+
+    fn generations(&mut self, place: usize) -> Option<usize> {
+        let Some(handle) = self.handles.get_mut(place) else {
+            return None;
+        };
+        handle.generations()
+    }
+
+    /// The cell that a take got, if it got one.
+    fn got(&mut self, place: usize) -> Option<u32> {
+        match self.receive(place) {
+            Taken::Got(cell) => Some(cell),
+            _ => None,
+        }
+    }
+
+    /// Reserves a cell and publishes it. Where that generation has no version left, it cancels the cell, and publishes
+    /// one of the next generation. Returns the cell that it published.
+    fn give(&mut self, place: usize) -> Option<u32> {
+        for _try in 0..2 {
+            let cell = self.reserve(place)?;
+            match self.publish(place) {
+                Given::Done => return Some(cell),
+                Given::Worn(()) => {
+                    let _ = self.cancel(place);
+                }
+                _ => return None,
+            }
+        }
+        None
+    }
+
+    /// Publishes cells until none is free. Returns which, in their order.
+    fn fill(&mut self, alloc: Global, place: usize) -> Result<Vec<u32>, Fail> {
+        let mut cells = Vec::new(alloc);
+        for _ in 0..MANY {
+            let Some(cell) = self.give(place) else {
+                break;
+            };
+            cells.push(cell)?;
+        }
+        Ok(cells)
+    }
+
+    /// Receives these cells, in this order, and then none.
+    fn empty(&mut self, rt: &impl Abort, place: usize, cells: &[u32]) {
+        for cell in cells.iter() {
+            assert_eq!(rt; self.receive(place), Taken::Got(*cell));
+        }
+        assert_eq!(rt; self.receive(place), Taken::Empty);
+    }
+
+    /// Drops the last handle.
+    fn drop_last(&mut self) {
+        drop(self.handles.pop());
+    }
+
+    fn into_vec(self) -> Vec<Handle>
+        ensures { AreOfOneQueue result.items }
+    {
+        self.handles
+    }
+
+    fn close(self, alloc: Global) -> Result<Vec<LeftCells>, CloseFault> {
+        close_cells(alloc, self.handles)
+    }
 }
 
 /// How many cells were left.
@@ -103,62 +221,24 @@ fn count_left(left: &[LeftCells]) -> usize {
     count
 }
 
-/// Reserves a cell and publishes it. Where that generation has no version left, it cancels the cell, and publishes one
-/// of the next generation. Returns the cell that it published.
-fn give(handle: &mut Handle) -> Option<u32> {
-    for _try in 0..2 {
-        let cell = reserve(handle)?;
-        match publish(handle) {
-            Given::Done => return Some(cell),
-            Given::Worn(()) => {
-                let _ = cancel(handle);
-            }
-            _ => return None,
-        }
-    }
-    None
-}
-
-/// Publishes cells until none is free. Returns which, in their order.
-fn fill(alloc: Global, handle: &mut Handle) -> Result<Vec<u32>, Fail> {
-    let mut cells = Vec::new(alloc);
-    for _ in 0..MANY {
-        let Some(cell) = give(handle) else {
-            break;
-        };
-        cells.push(cell)?;
-    }
-    Ok(cells)
-}
-
-/// Receives these cells, in this order, and then none.
-fn empty(rt: &impl Abort, handle: &mut Handle, cells: &[u32]) {
-    for cell in cells.iter() {
-        assert_eq!(rt; receive(handle), Taken::Got(*cell));
-    }
-    assert_eq!(rt; receive(handle), Taken::Empty);
-}
-
 /// With k = 1 cells come out in the order in which they went in, and each is another one.
 #[test]
 fn cells_come_in_order(rt: HostRuntime) -> Result<(), Fail> {
     let mut handles = open(rt.alloc(), 8, 1)?;
-    if let Some(handle) = handles.first_mut() {
-        for _round in 0..100 {
-            let mut cells = Vec::new(rt.alloc());
-            for _ in 0..8_u32 {
-                let Some(cell) = reserve(handle) else {
-                    return Err(Fail::new("no cell was free"));
-                };
-                assert!(rt; !cells.contains(&cell));
-                cells.push(cell)?;
-                assert_eq!(rt; reserve(handle), Some(cell));
-                assert_eq!(rt; publish(handle), Given::Done);
-            }
-            empty(&rt, handle, cells.as_slice());
+    for _round in 0..100 {
+        let mut cells = Vec::new(rt.alloc());
+        for _ in 0..8_u32 {
+            let Some(cell) = handles.reserve(0) else {
+                return Err(Fail::new("no cell was free"));
+            };
+            assert!(rt; !cells.contains(&cell));
+            cells.push(cell)?;
+            assert_eq!(rt; handles.reserve(0), Some(cell));
+            assert_eq!(rt; handles.publish(0), Given::Done);
         }
+        handles.empty(&rt, 0, cells.as_slice());
     }
-    assert_eq!(rt; count_left(close(rt.alloc(), handles)?.as_slice()), 0);
+    assert_eq!(rt; count_left(handles.close(rt.alloc())?.as_slice()), 0);
     Ok(())
 }
 
@@ -166,21 +246,19 @@ fn cells_come_in_order(rt: HostRuntime) -> Result<(), Fail> {
 #[test]
 fn calls_without_a_cell_do_nothing(rt: HostRuntime) -> Result<(), Fail> {
     let mut handles = open(rt.alloc(), 8, 1)?;
-    if let Some(handle) = handles.first_mut() {
-        assert_eq!(rt; publish(handle), Given::NoToken(()));
-        assert_eq!(rt; cancel(handle), Given::NoToken(()));
-        assert_eq!(rt; release(handle), Given::NoToken(()));
-        assert!(rt; reserve(handle).is_some());
-        assert_eq!(rt; cancel(handle), Given::Done);
-        assert_eq!(rt; cancel(handle), Given::NoToken(()));
-        assert_eq!(rt; publish(handle), Given::NoToken(()));
-        assert_eq!(rt; receive(handle), Taken::Empty);
-        assert!(rt; give(handle).is_some());
-        assert!(rt; matches!(receive(handle), Taken::Got(_)));
-        assert_eq!(rt; release(handle), Given::Done);
-        assert_eq!(rt; release(handle), Given::NoToken(()));
-    }
-    assert_eq!(rt; count_left(close(rt.alloc(), handles)?.as_slice()), 0);
+    assert_eq!(rt; handles.publish(0), Given::NoToken(()));
+    assert_eq!(rt; handles.cancel(0), Given::NoToken(()));
+    assert_eq!(rt; handles.release(0), Given::NoToken(()));
+    assert!(rt; handles.reserve(0).is_some());
+    assert_eq!(rt; handles.cancel(0), Given::Done);
+    assert_eq!(rt; handles.cancel(0), Given::NoToken(()));
+    assert_eq!(rt; handles.publish(0), Given::NoToken(()));
+    assert_eq!(rt; handles.receive(0), Taken::Empty);
+    assert!(rt; handles.give(0).is_some());
+    assert!(rt; matches!(handles.receive(0), Taken::Got(_)));
+    assert_eq!(rt; handles.release(0), Given::Done);
+    assert_eq!(rt; handles.release(0), Given::NoToken(()));
+    assert_eq!(rt; count_left(handles.close(rt.alloc())?.as_slice()), 0);
     Ok(())
 }
 
@@ -189,17 +267,16 @@ fn calls_without_a_cell_do_nothing(rt: HostRuntime) -> Result<(), Fail> {
 fn has_room_beside_a_handle_that_keeps_cells(rt: HostRuntime) -> Result<(), Fail> {
     let capacity = 64;
     let mut handles = open(rt.alloc(), capacity, 8)?;
-    if let [giver, taker, other, ..] = handles.as_mut_slice() {
-        for _round in 0..8 {
-            let cells = fill(rt.alloc(), giver)?;
-            assert!(rt; cells.len() >= capacity as usize);
-            empty(&rt, taker, cells.as_slice());
-            let cells = fill(rt.alloc(), other)?;
-            assert!(rt; cells.len() >= capacity as usize);
-            empty(&rt, giver, cells.as_slice());
-        }
+    let (giver, taker, other) = (0, 1, 2);
+    for _round in 0..8 {
+        let cells = handles.fill(rt.alloc(), giver)?;
+        assert!(rt; cells.len() >= capacity as usize);
+        handles.empty(&rt, taker, cells.as_slice());
+        let cells = handles.fill(rt.alloc(), other)?;
+        assert!(rt; cells.len() >= capacity as usize);
+        handles.empty(&rt, giver, cells.as_slice());
     }
-    assert_eq!(rt; count_left(close(rt.alloc(), handles)?.as_slice()), 0);
+    assert_eq!(rt; count_left(handles.close(rt.alloc())?.as_slice()), 0);
     Ok(())
 }
 
@@ -207,20 +284,18 @@ fn has_room_beside_a_handle_that_keeps_cells(rt: HostRuntime) -> Result<(), Fail
 #[test]
 fn outlives_the_versions_of_its_generations(rt: HostRuntime) -> Result<(), Fail> {
     let mut handles = open_short(rt.alloc(), 1, 64, 1)?;
-    if let Some(handle) = handles.first_mut() {
-        let mut before = give(handle);
-        for _ in 0..3_000 {
-            let next = give(handle);
-            assert!(rt; next.is_some());
-            assert_eq!(rt; got(handle), before);
-            before = next;
-        }
-        assert_eq!(rt; got(handle), before);
-        assert_eq!(rt; receive(handle), Taken::Empty);
-        assert_eq!(rt; release(handle), Given::NoToken(()));
-        assert_eq!(rt; handle.generations(), Some(1));
+    let mut before = handles.give(0);
+    for _ in 0..3_000 {
+        let next = handles.give(0);
+        assert!(rt; next.is_some());
+        assert_eq!(rt; handles.got(0), before);
+        before = next;
     }
-    assert_eq!(rt; count_left(close(rt.alloc(), handles)?.as_slice()), 0);
+    assert_eq!(rt; handles.got(0), before);
+    assert_eq!(rt; handles.receive(0), Taken::Empty);
+    assert_eq!(rt; handles.release(0), Given::NoToken(()));
+    assert_eq!(rt; handles.generations(0), Some(1));
+    assert_eq!(rt; count_left(handles.close(rt.alloc())?.as_slice()), 0);
     Ok(())
 }
 
@@ -229,29 +304,28 @@ fn outlives_the_versions_of_its_generations(rt: HostRuntime) -> Result<(), Fail>
 #[test]
 fn cells_in_hand_outlive_changes(rt: HostRuntime) -> Result<(), Fail> {
     let mut handles = open_short(rt.alloc(), 2, 64, 1)?;
-    if let [slow, fast] = handles.as_mut_slice() {
-        let first = give(fast);
-        assert_eq!(rt; got(slow), first);
-        let reserved = reserve(slow);
-        assert!(rt; reserved.is_some());
-        assert!(rt; reserved != first);
-        for _ in 0..1_000 {
-            let cell = give(fast);
-            assert!(rt; cell.is_some());
-            assert_eq!(rt; got(fast), cell);
-        }
-        let young = give(fast);
-        assert_eq!(rt; reserve(slow), reserved);
-        assert_eq!(rt; publish(slow), Given::Done);
-        assert_eq!(rt; publish(slow), Given::NoToken(()));
-        assert_eq!(rt; release(slow), Given::Done);
-        assert_eq!(rt; got(fast), reserved);
-        assert_eq!(rt; got(fast), young);
-        assert_eq!(rt; receive(fast), Taken::Empty);
-        assert_eq!(rt; receive(slow), Taken::Empty);
-        assert_eq!(rt; slow.generations(), Some(1));
+    let (slow, fast) = (0, 1);
+    let first = handles.give(fast);
+    assert_eq!(rt; handles.got(slow), first);
+    let reserved = handles.reserve(slow);
+    assert!(rt; reserved.is_some());
+    assert!(rt; reserved != first);
+    for _ in 0..1_000 {
+        let cell = handles.give(fast);
+        assert!(rt; cell.is_some());
+        assert_eq!(rt; handles.got(fast), cell);
     }
-    assert_eq!(rt; count_left(close(rt.alloc(), handles)?.as_slice()), 0);
+    let young = handles.give(fast);
+    assert_eq!(rt; handles.reserve(slow), reserved);
+    assert_eq!(rt; handles.publish(slow), Given::Done);
+    assert_eq!(rt; handles.publish(slow), Given::NoToken(()));
+    assert_eq!(rt; handles.release(slow), Given::Done);
+    assert_eq!(rt; handles.got(fast), reserved);
+    assert_eq!(rt; handles.got(fast), young);
+    assert_eq!(rt; handles.receive(fast), Taken::Empty);
+    assert_eq!(rt; handles.receive(slow), Taken::Empty);
+    assert_eq!(rt; handles.generations(slow), Some(1));
+    assert_eq!(rt; count_left(handles.close(rt.alloc())?.as_slice()), 0);
     Ok(())
 }
 
@@ -259,18 +333,15 @@ fn cells_in_hand_outlive_changes(rt: HostRuntime) -> Result<(), Fail> {
 #[test]
 fn grows_to_its_bound(rt: HostRuntime) -> Result<(), Fail> {
     let mut handles = open_short(rt.alloc(), 1, MAX_VERSION, 5)?;
-    let mut published = Vec::new(rt.alloc());
-    if let Some(handle) = handles.first_mut() {
-        let cells = fill(rt.alloc(), handle)?;
-        assert_eq!(rt; handle.generations(), Some(5));
-        assert!(rt; cells.len() >= 5 * 8);
-        empty(&rt, handle, cells.as_slice());
-        assert_eq!(rt; release(handle), Given::NoToken(()));
-        assert_eq!(rt; handle.generations(), Some(1));
-        published = fill(rt.alloc(), handle)?;
-        assert_eq!(rt; published.len(), cells.len());
-    }
-    let left = close(rt.alloc(), handles)?;
+    let cells = handles.fill(rt.alloc(), 0)?;
+    assert_eq!(rt; handles.generations(0), Some(5));
+    assert!(rt; cells.len() >= 5 * 8);
+    handles.empty(&rt, 0, cells.as_slice());
+    assert_eq!(rt; handles.release(0), Given::NoToken(()));
+    assert_eq!(rt; handles.generations(0), Some(1));
+    let published = handles.fill(rt.alloc(), 0)?;
+    assert_eq!(rt; published.len(), cells.len());
+    let left = handles.close(rt.alloc())?;
     assert_eq!(rt; left.len(), 5);
     let mut came = Vec::new(rt.alloc());
     for generation in left.iter() {
@@ -286,14 +357,12 @@ fn grows_to_its_bound(rt: HostRuntime) -> Result<(), Fail> {
 #[test]
 fn returns_what_is_left(rt: HostRuntime) -> Result<(), Fail> {
     let mut handles = open(rt.alloc(), 8, 2)?;
-    let mut left = None;
-    if let [one, other] = handles.as_mut_slice() {
-        assert!(rt; give(one).is_some());
-        left = give(one);
-        assert!(rt; matches!(receive(other), Taken::Got(_)));
-        assert!(rt; reserve(one).is_some());
-    }
-    let closed = close(rt.alloc(), handles)?;
+    let (one, other) = (0, 1);
+    assert!(rt; handles.give(one).is_some());
+    let left = handles.give(one);
+    assert!(rt; matches!(handles.receive(other), Taken::Got(_)));
+    assert!(rt; handles.reserve(one).is_some());
+    let closed = handles.close(rt.alloc())?;
     assert_eq!(rt; count_left(closed.as_slice()), 1);
     if let Some(generation) = closed.first() {
         for cell in generation.cells().iter() {
@@ -307,22 +376,20 @@ fn returns_what_is_left(rt: HostRuntime) -> Result<(), Fail> {
 #[test]
 fn goes_on_after_a_handle_was_dropped_with_cells(rt: HostRuntime) -> Result<(), Fail> {
     let mut handles = open_short(rt.alloc(), 2, 64, 1)?;
-    if let Some(mut gone) = handles.pop() {
-        assert!(rt; give(&mut gone).is_some());
-        assert!(rt; matches!(receive(&mut gone), Taken::Got(_)));
-        assert!(rt; reserve(&mut gone).is_some());
+    let gone = 1;
+    assert!(rt; handles.give(gone).is_some());
+    assert!(rt; matches!(handles.receive(gone), Taken::Got(_)));
+    assert!(rt; handles.reserve(gone).is_some());
+    handles.drop_last();
+    for _ in 0..1_000 {
+        let cell = handles.give(0);
+        assert!(rt; cell.is_some());
+        assert_eq!(rt; handles.got(0), cell);
     }
-    if let Some(handle) = handles.first_mut() {
-        for _ in 0..1_000 {
-            let cell = give(handle);
-            assert!(rt; cell.is_some());
-            assert_eq!(rt; got(handle), cell);
-        }
-        assert_eq!(rt; release(handle), Given::Done);
-        assert_eq!(rt; receive(handle), Taken::Empty);
-        assert_eq!(rt; handle.generations(), Some(1));
-    }
-    assert_eq!(rt; count_left(close(rt.alloc(), handles)?.as_slice()), 0);
+    assert_eq!(rt; handles.release(0), Given::Done);
+    assert_eq!(rt; handles.receive(0), Taken::Empty);
+    assert_eq!(rt; handles.generations(0), Some(1));
+    assert_eq!(rt; count_left(handles.close(rt.alloc())?.as_slice()), 0);
     Ok(())
 }
 
@@ -365,7 +432,9 @@ impl Owners {
 }
 
 /// Publishes a cell that nobody has, after as many tries as it takes.
-fn insist(handle: &mut Handle, owners: &Owners) -> bool {
+fn insist(handle: &mut Handle, owners: &Owners) -> bool
+    ensures { IsOfSameQueue handle.old handle.new }
+{
     for _try in 0..TRIES {
         if let Some(cell) = reserve(handle) {
             if owners.set(cell, 1) != Some(0) {
@@ -385,7 +454,9 @@ fn insist(handle: &mut Handle, owners: &Owners) -> bool {
 }
 
 /// Receives a cell that somebody published, after as many tries as it takes, and releases it.
-fn await_one(handle: &mut Handle, owners: &Owners) -> bool {
+fn await_one(handle: &mut Handle, owners: &Owners) -> bool
+    ensures { IsOfSameQueue handle.old handle.new }
+{
     for _try in 0..TRIES {
         if let Taken::Got(cell) = receive(handle) {
             return owners.set(cell, 0) == Some(1) && release(handle) == Given::Done;
@@ -403,8 +474,9 @@ struct Worker {
 }
 
 /// What a thread does: it publishes cells, or receives them.
-fn work(handle: Handle, publishes: bool, owners: &Owners) -> Worker {
-    let mut handle = handle;
+fn work(mut handle: Handle, publishes: bool, owners: &Owners) -> Worker
+    ensures { IsOfSameQueue handle result.handle }
+{
     let mut was_right = true;
     for _ in 0..EACH {
         let right = if publishes {
@@ -417,10 +489,20 @@ fn work(handle: Handle, publishes: bool, owners: &Owners) -> Worker {
     Worker { handle, was_right }
 }
 
+/// The workers' handles, in their order.
+fn handles_back(alloc: Global, workers: Vec<Worker>) -> Result<Vec<Handle>, AllocError>
+    ensures { IfOk result (λ handles. handles.items ≡ map (λ w. w.handle) workers.items) }
+{
+    workers
+        .into_iter()
+        .map(|worker| worker.handle)
+        .collect(alloc)
+}
+
 /// Four threads publish and four receive. At each moment each cell is with one handle or in the queue.
 #[test]
 fn no_two_handles_have_a_cell(rt: HostRuntime) -> Result<(), Fail> {
-    let handles = open(rt.alloc(), 16, 8)?;
+    let handles = open(rt.alloc(), 16, 8)?.into_vec();
     let owners = Owners::none(rt.alloc())?;
     let next = AtomicU64::new(0);
     let workers = map_vec(
@@ -431,11 +513,10 @@ fn no_two_handles_have_a_cell(rt: HostRuntime) -> Result<(), Fail> {
             work(handle, publishes, &owners)
         },
     )?;
-    let mut handles = Vec::new(rt.alloc());
-    for worker in workers {
+    for worker in &workers {
         assert!(rt; worker.was_right);
-        handles.push(worker.handle)?;
     }
-    assert_eq!(rt; count_left(close(rt.alloc(), handles)?.as_slice()), 0);
+    let handles = handles_back(rt.alloc(), workers)?;
+    assert_eq!(rt; count_left(close_cells(rt.alloc(), handles)?.as_slice()), 0);
     Ok(())
 }

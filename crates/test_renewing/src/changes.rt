@@ -1,19 +1,25 @@
 //! Changes from one generation to the next, by one thread.
 ghost use Rattle.std.specs.Prelude.{◌≡◌, All};
 
-use crate::plain::{close, give, open, open_with, take};
+use crate::plain::{Handles, give, open, open_with};
 use kfifo_live::{CloseFault, Given, OpenFault, Sizes, Taken};
 use kfifo_renewing::{RenewFault, Renewals, RenewingHandle};
 use kfifo_words::{MAX_VERSION, Shape};
 use std::process::Abort;
 use std::test::Fail;
 
-/// Gives a value and takes one, so many times. Each comes out as it was given, and in order.
-fn give_and_take(rt: &impl Abort, handle: &mut RenewingHandle<u64>, first: u64, count: u64) {
+/// Gives a value by the handle in this place and takes one, so many times. Each comes out as it was given, in order.
+fn give_and_take(
+    rt: &impl Abort,
+    handles: &mut Handles<u64>,
+    place: usize,
+    first: u64,
+    count: u64,
+) {
     for index in 0..count {
         let value = first.wrapping_add(index);
-        assert_eq!(rt; give(handle, value), Given::Done, "give {value}");
-        assert_eq!(rt; take(handle), Taken::Got(value), "take {value}");
+        assert_eq!(rt; handles.give(place, value), Given::Done, "give {value}");
+        assert_eq!(rt; handles.take(place), Taken::Got(value), "take {value}");
     }
 }
 
@@ -22,11 +28,9 @@ fn give_and_take(rt: &impl Abort, handle: &mut RenewingHandle<u64>, first: u64, 
 fn outlives_its_versions(rt: HostRuntime) -> Result<(), Fail> {
     let shape = Shape::new(1, 2, 8)?;
     let mut handles = open::<u64>(rt.alloc(), shape, 1, 4)?;
-    if let Some(handle) = handles.first_mut() {
-        give_and_take(&rt, handle, 0, 4_000);
-        assert_eq!(rt; take(handle), Taken::Empty);
-    }
-    assert_eq!(rt; close(rt.alloc(), handles)?.len(), 0);
+    give_and_take(&rt, &mut handles, 0, 0, 4_000);
+    assert_eq!(rt; handles.take(0), Taken::Empty);
+    assert_eq!(rt; handles.close(rt.alloc())?.len(), 0);
     Ok(())
 }
 
@@ -35,15 +39,13 @@ fn outlives_its_versions(rt: HostRuntime) -> Result<(), Fail> {
 fn keeps_the_order_over_changes(rt: HostRuntime) -> Result<(), Fail> {
     let shape = Shape::new(1, 4, 16)?;
     let mut handles = open::<u64>(rt.alloc(), shape, 1, 8)?;
-    if let Some(handle) = handles.first_mut() {
-        assert_eq!(rt; give(handle, 0), Given::Done);
-        assert_eq!(rt; give(handle, 1), Given::Done);
-        for value in 2..2_000 {
-            assert_eq!(rt; give(handle, value), Given::Done, "give {value}");
-            assert_eq!(rt; take(handle), Taken::Got(value - 2), "take {value}");
-        }
+    assert_eq!(rt; handles.give(0, 0), Given::Done);
+    assert_eq!(rt; handles.give(0, 1), Given::Done);
+    for value in 2..2_000 {
+        assert_eq!(rt; handles.give(0, value), Given::Done, "give {value}");
+        assert_eq!(rt; handles.take(0), Taken::Got(value - 2), "take {value}");
     }
-    let left = close(rt.alloc(), handles)?;
+    let left = handles.close(rt.alloc())?;
     assert_eq!(rt; left.as_slice(), [1_998, 1_999].as_slice());
     Ok(())
 }
@@ -76,16 +78,15 @@ fn begins_in_one_generation(rt: HostRuntime) -> Result<(), Fail> {
 fn waits_for_nobody(rt: HostRuntime) -> Result<(), Fail> {
     let shape = Shape::new(1, 2, 16)?;
     let mut handles = open::<u64>(rt.alloc(), shape, 2, 8)?;
-    if let [idle, busy] = handles.as_mut_slice() {
-        assert_eq!(rt; give(idle, 7), Given::Done);
-        assert_eq!(rt; take(busy), Taken::Got(7));
-        give_and_take(&rt, busy, 0, 2_000);
-        assert_eq!(rt; give(idle, 8), Given::Done);
-        assert_eq!(rt; take(busy), Taken::Got(8));
-        give_and_take(&rt, idle, 0, 2_000);
-        assert_eq!(rt; take(busy), Taken::Empty);
-    }
-    assert_eq!(rt; close(rt.alloc(), handles)?.len(), 0);
+    let (idle, busy) = (0, 1);
+    assert_eq!(rt; handles.give(idle, 7), Given::Done);
+    assert_eq!(rt; handles.take(busy), Taken::Got(7));
+    give_and_take(&rt, &mut handles, busy, 0, 2_000);
+    assert_eq!(rt; handles.give(idle, 8), Given::Done);
+    assert_eq!(rt; handles.take(busy), Taken::Got(8));
+    give_and_take(&rt, &mut handles, idle, 0, 2_000);
+    assert_eq!(rt; handles.take(busy), Taken::Empty);
+    assert_eq!(rt; handles.close(rt.alloc())?.len(), 0);
     Ok(())
 }
 
@@ -94,14 +95,13 @@ fn waits_for_nobody(rt: HostRuntime) -> Result<(), Fail> {
 fn carries_values_from_one_handle_to_another(rt: HostRuntime) -> Result<(), Fail> {
     let shape = Shape::new(1, 4, 32)?;
     let mut handles = open::<u64>(rt.alloc(), shape, 2, 8)?;
-    if let [giver, taker] = handles.as_mut_slice() {
-        assert_eq!(rt; give(giver, 0), Given::Done);
-        for value in 1..2_000 {
-            assert_eq!(rt; give(giver, value), Given::Done, "give {value}");
-            assert_eq!(rt; take(taker), Taken::Got(value - 1), "take {value}");
-        }
+    let (giver, taker) = (0, 1);
+    assert_eq!(rt; handles.give(giver, 0), Given::Done);
+    for value in 1..2_000 {
+        assert_eq!(rt; handles.give(giver, value), Given::Done, "give {value}");
+        assert_eq!(rt; handles.take(taker), Taken::Got(value - 1), "take {value}");
     }
-    let left = close(rt.alloc(), handles)?;
+    let left = handles.close(rt.alloc())?;
     assert_eq!(rt; left.as_slice(), [1_999].as_slice());
     Ok(())
 }
@@ -115,11 +115,9 @@ fn takes_what_a_dropped_handle_gave(rt: HostRuntime) -> Result<(), Fail> {
     if let Some(mut gone) = handles.pop() {
         assert_eq!(rt; give(&mut gone, 7), Given::Done);
     }
-    if let Some(handle) = handles.first_mut() {
-        assert_eq!(rt; take(handle), Taken::Got(7));
-        give_and_take(&rt, handle, 0, 2_000);
-    }
-    assert_eq!(rt; close(rt.alloc(), handles)?.len(), 0);
+    assert_eq!(rt; handles.take(0), Taken::Got(7));
+    give_and_take(&rt, &mut handles, 0, 0, 2_000);
+    assert_eq!(rt; handles.close(rt.alloc())?.len(), 0);
     Ok(())
 }
 
@@ -148,11 +146,12 @@ fn refuses_to_close_with_a_handle_missing(rt: HostRuntime) -> Result<(), Fail> {
     let mut handles = open_with::<u64>(rt.alloc(), shape, 2, 4, 1)?;
     let kept = handles.pop();
     assert_eq!(rt;
-        close(rt.alloc(), handles).err(),
+        handles.close(rt.alloc()).err(),
         Some(CloseFault::MissingPass)
     );
     drop(kept);
-    let none = close(rt.alloc(), Vec::<RenewingHandle<u64>>::new(rt.alloc()));
-    assert_eq!(rt; none.err(), Some(CloseFault::MissingPass));
+    let mut none = open_with::<u64>(rt.alloc(), shape, 1, 4, 1)?;
+    drop(none.pop());
+    assert_eq!(rt; none.close(rt.alloc()).err(), Some(CloseFault::MissingPass));
     Ok(())
 }

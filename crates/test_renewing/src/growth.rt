@@ -1,9 +1,7 @@
 //! Queues that grow where they have no room, and shrink.
-use crate::plain::{close, give, take};
+use crate::plain::Handles;
 use kfifo_live::{Given, Sizes, Taken};
-use kfifo_renewing::{
-    DEFAULT_RESERVE, NO_RENEWAL, RenewFault, Renewals, RenewingHandle, open, open_with,
-};
+use kfifo_renewing::{DEFAULT_RESERVE, NO_RENEWAL, RenewFault, Renewals, open, open_with};
 use kfifo_words::MAX_VERSION;
 use std::alloc::Global;
 use std::process::Abort;
@@ -15,31 +13,31 @@ fn open_growing(
     threads: u32,
     reserve: u64,
     generations: u32,
-) -> Result<Vec<RenewingHandle<u64>>, Fail> {
+) -> Result<Handles<u64>, Fail> {
     let sizes = Sizes::for_capacity(1, 8, threads, MAX_VERSION)?;
     let renewals = Renewals {
         reserve,
         generations,
     };
-    Ok(open_with(alloc, sizes, renewals)?)
+    Ok(Handles::open(alloc, sizes, renewals)?)
 }
 
-/// Gives values from 0 on until one is refused. Returns how many were not.
-fn fill(handle: &mut RenewingHandle<u64>, most: u64) -> u64 {
+/// Gives values from 0 on by the handle in this place, until one is refused. Returns how many were not.
+fn fill(handles: &mut Handles<u64>, place: usize, most: u64) -> u64 {
     for value in 0..most {
-        if give(handle, value) != Given::Done {
+        if handles.give(place, value) != Given::Done {
             return value;
         }
     }
     most
 }
 
-/// Takes so many values, which come out in their order.
-fn empty(rt: &impl Abort, handle: &mut RenewingHandle<u64>, count: u64) {
+/// Takes so many values by the handle in this place, which come out in their order.
+fn empty(rt: &impl Abort, handles: &mut Handles<u64>, place: usize, count: u64) {
     for value in 0..count {
-        assert_eq!(rt; take(handle), Taken::Got(value), "take {value}");
+        assert_eq!(rt; handles.take(place), Taken::Got(value), "take {value}");
     }
-    assert_eq!(rt; take(handle), Taken::Empty);
+    assert_eq!(rt; handles.take(place), Taken::Empty);
 }
 
 /// A capacity is rounded up to a multiple of the threads, and the tokens that handles may keep come on top of it.
@@ -58,19 +56,18 @@ fn the_capacity_is_what_a_queue_was_opened_for(rt: HostRuntime) -> Result<(), Fa
 #[test]
 fn values_are_counted(rt: HostRuntime) -> Result<(), Fail> {
     let mut handles = open_growing(rt.alloc(), 2, DEFAULT_RESERVE, 100)?;
-    if let [giver, taker] = handles.as_mut_slice() {
-        assert_eq!(rt; (giver.len(), taker.len()), (0, 0));
-        assert!(rt; giver.is_empty() && taker.is_empty());
-        assert_eq!(rt; fill(giver, 300), 300);
-        assert!(rt; giver.generations() > Some(1));
-        assert_eq!(rt; (giver.len(), taker.len()), (300, 300));
-        for value in 0..200 {
-            assert_eq!(rt; take(taker), Taken::Got(value));
-        }
-        assert_eq!(rt; (giver.len(), taker.len()), (100, 100));
-        assert!(rt; !giver.is_empty() && !taker.is_empty());
+    let (giver, taker) = (0, 1);
+    assert_eq!(rt; (handles.len(giver), handles.len(taker)), (0, 0));
+    assert!(rt; handles.is_empty(giver) && handles.is_empty(taker));
+    assert_eq!(rt; fill(&mut handles, giver, 300), 300);
+    assert!(rt; handles.generations(giver) > Some(1));
+    assert_eq!(rt; (handles.len(giver), handles.len(taker)), (300, 300));
+    for value in 0..200 {
+        assert_eq!(rt; handles.take(taker), Taken::Got(value));
     }
-    assert_eq!(rt; close(rt.alloc(), handles)?.len(), 100);
+    assert_eq!(rt; (handles.len(giver), handles.len(taker)), (100, 100));
+    assert!(rt; !handles.is_empty(giver) && !handles.is_empty(taker));
+    assert_eq!(rt; handles.close(rt.alloc())?.len(), 100);
     Ok(())
 }
 
@@ -79,14 +76,12 @@ fn values_are_counted(rt: HostRuntime) -> Result<(), Fail> {
 #[test]
 fn grows_and_shrinks(rt: HostRuntime) -> Result<(), Fail> {
     let mut handles = open_growing(rt.alloc(), 1, DEFAULT_RESERVE, 127)?;
-    if let Some(handle) = handles.first_mut() {
-        for _round in 0..3 {
-            assert_eq!(rt; fill(handle, 3_000), 3_000);
-            empty(&rt, handle, 3_000);
-            assert_eq!(rt; handle.generations(), Some(1));
-        }
+    for _round in 0..3 {
+        assert_eq!(rt; fill(&mut handles, 0, 3_000), 3_000);
+        empty(&rt, &mut handles, 0, 3_000);
+        assert_eq!(rt; handles.generations(0), Some(1));
     }
-    assert_eq!(rt; close(rt.alloc(), handles)?.len(), 0);
+    assert_eq!(rt; handles.close(rt.alloc())?.len(), 0);
     Ok(())
 }
 
@@ -94,27 +89,25 @@ fn grows_and_shrinks(rt: HostRuntime) -> Result<(), Fail> {
 #[test]
 fn stops_at_its_bound(rt: HostRuntime) -> Result<(), Fail> {
     let mut handles = open_growing(rt.alloc(), 1, NO_RENEWAL, 3)?;
-    if let Some(handle) = handles.first_mut() {
-        let count = fill(handle, 10_000);
-        assert!(rt; count >= 3 * 8);
-        assert!(rt; count < 10_000);
-        assert_ne!(rt; give(handle, count), Given::Done);
-        assert!(rt; !handle.lacks_memory());
-        let mut next = count;
-        for value in 0..count {
-            assert_eq!(rt; take(handle), Taken::Got(value), "take {value}");
-            if give(handle, next) == Given::Done {
-                next = next.wrapping_add(1);
-            }
+    let count = fill(&mut handles, 0, 10_000);
+    assert!(rt; count >= 3 * 8);
+    assert!(rt; count < 10_000);
+    assert_ne!(rt; handles.give(0, count), Given::Done);
+    assert!(rt; !handles.lacks_memory(0));
+    let mut next = count;
+    for value in 0..count {
+        assert_eq!(rt; handles.take(0), Taken::Got(value), "take {value}");
+        if handles.give(0, next) == Given::Done {
+            next = next.wrapping_add(1);
         }
-        assert!(rt; count < next);
-        for value in count..next {
-            assert_eq!(rt; take(handle), Taken::Got(value), "take {value}");
-        }
-        assert_eq!(rt; take(handle), Taken::Empty);
-        assert_eq!(rt; handle.generations(), Some(1));
     }
-    assert_eq!(rt; close(rt.alloc(), handles)?.len(), 0);
+    assert!(rt; count < next);
+    for value in count..next {
+        assert_eq!(rt; handles.take(0), Taken::Got(value), "take {value}");
+    }
+    assert_eq!(rt; handles.take(0), Taken::Empty);
+    assert_eq!(rt; handles.generations(0), Some(1));
+    assert_eq!(rt; handles.close(rt.alloc())?.len(), 0);
     Ok(())
 }
 
@@ -123,16 +116,15 @@ fn stops_at_its_bound(rt: HostRuntime) -> Result<(), Fail> {
 #[test]
 fn grows_between_two_handles(rt: HostRuntime) -> Result<(), Fail> {
     let mut handles = open_growing(rt.alloc(), 2, DEFAULT_RESERVE, 125)?;
-    if let [giver, taker] = handles.as_mut_slice() {
-        for _round in 0..3 {
-            assert_eq!(rt; fill(giver, 7_000), 7_000);
-            empty(&rt, taker, 7_000);
-        }
-        assert_eq!(rt; give(giver, 7), Given::Done);
-        assert_eq!(rt; take(taker), Taken::Got(7));
-        assert_eq!(rt; taker.generations(), Some(1));
+    let (giver, taker) = (0, 1);
+    for _round in 0..3 {
+        assert_eq!(rt; fill(&mut handles, giver, 7_000), 7_000);
+        empty(&rt, &mut handles, taker, 7_000);
     }
-    assert_eq!(rt; close(rt.alloc(), handles)?.len(), 0);
+    assert_eq!(rt; handles.give(giver, 7), Given::Done);
+    assert_eq!(rt; handles.take(taker), Taken::Got(7));
+    assert_eq!(rt; handles.generations(taker), Some(1));
+    assert_eq!(rt; handles.close(rt.alloc())?.len(), 0);
     Ok(())
 }
 
@@ -140,10 +132,8 @@ fn grows_between_two_handles(rt: HostRuntime) -> Result<(), Fail> {
 #[test]
 fn returns_what_is_left_of_all_generations(rt: HostRuntime) -> Result<(), Fail> {
     let mut handles = open_growing(rt.alloc(), 1, DEFAULT_RESERVE, 20)?;
-    if let Some(handle) = handles.first_mut() {
-        assert_eq!(rt; fill(handle, 500), 500);
-    }
-    let left = close(rt.alloc(), handles)?;
+    assert_eq!(rt; fill(&mut handles, 0, 500), 500);
+    let left = handles.close(rt.alloc())?;
     assert_eq!(rt; left.len(), 500);
     for (place, value) in left.iter().enumerate() {
         assert_eq!(rt; *value, place as u64);

@@ -1,7 +1,10 @@
 //! Changes from one generation to the next, by several threads at the same time.
-use crate::plain::{close, give, open, take};
+ghost use Rattle.std.specs.Prelude.{◌≡◌, IfOk, map};
+ghost use Rattle.kfifo_renewing.specs.Renewing.{IsOfSameQueue};
+
+use crate::plain::{give, open, take};
 use kfifo_live::{Given, Taken};
-use kfifo_renewing::RenewingHandle;
+use kfifo_renewing::{RenewingHandle, close};
 use kfifo_words::Shape;
 use std::alloc::{AllocError, Global};
 use std::process::Abort;
@@ -46,7 +49,9 @@ struct Worker {
 }
 
 /// Tries to give a payload until it is taken in. Whether it was.
-fn insist(handle: &mut RenewingHandle<Counted>, payload: Counted) -> bool {
+fn insist(handle: &mut RenewingHandle<Counted>, payload: Counted) -> bool
+    ensures { IsOfSameQueue handle.old handle.new }
+{
     let mut waiting = payload;
     for _try in 0..TRIES {
         match give(handle, waiting) {
@@ -60,7 +65,9 @@ fn insist(handle: &mut RenewingHandle<Counted>, payload: Counted) -> bool {
 }
 
 /// Tries to take a payload until there is one. Returns its number.
-fn await_one(handle: &mut RenewingHandle<Counted>) -> Option<u64> {
+fn await_one(handle: &mut RenewingHandle<Counted>) -> Option<u64>
+    ensures { IsOfSameQueue handle.old handle.new }
+{
     for _try in 0..TRIES {
         if let Taken::Got(payload) = take(handle) {
             return Some(payload.number);
@@ -84,7 +91,9 @@ fn play(
     role: Role,
     thread: u64,
     drops: &Arc<AtomicU64, Global>,
-) -> Result<Vec<u64>, AllocError> {
+) -> Result<Vec<u64>, AllocError>
+    ensures { IsOfSameQueue handle.old handle.new }
+{
     let mut numbers = Vec::new(alloc);
     for place in 0..role.gives.max(role.takes) {
         if place < role.gives {
@@ -116,6 +125,34 @@ fn role_of(thread: u64, alternates: bool) -> Role {
     }
 }
 
+/// What a thread does with its handle.
+fn work(
+    alloc: Global,
+    mut handle: RenewingHandle<Counted>,
+    thread: u64,
+    alternates: bool,
+    drops: &Arc<AtomicU64, Global>,
+) -> Worker
+    ensures { IsOfSameQueue handle result.handle }
+{
+    let role = role_of(thread, alternates);
+    let numbers = play(alloc, &mut handle, role, thread, drops);
+    Worker { handle, numbers }
+}
+
+/// The workers' handles, in their order.
+fn handles_back(
+    alloc: Global,
+    workers: Vec<Worker>,
+) -> Result<Vec<RenewingHandle<Counted>>, AllocError>
+    ensures { IfOk result (λ handles. handles.items ≡ map (λ w. w.handle) workers.items) }
+{
+    workers
+        .into_iter()
+        .map(|worker| worker.handle)
+        .collect(alloc)
+}
+
 /// The numbers that all workers took.
 fn numbers_of(alloc: Global, workers: &[Worker]) -> Result<Vec<u64>, AllocError> {
     let mut all = Vec::new(alloc);
@@ -137,25 +174,18 @@ fn work_all<R: Threads + Abort + Sync>(
     alternates: bool,
     drops: &Arc<AtomicU64, Global>,
 ) -> Result<Vec<u64>, Fail> {
-    let handles = open::<Counted>(alloc, Shape::new(2, 4, 64)?, threads, 8)?;
+    let handles = open::<Counted>(alloc, Shape::new(2, 4, 64)?, threads, 8)?.into_vec();
     let next = AtomicU64::new(0);
     let workers = map_vec(
         rt,
         handles,
         &|handle| {
-            let mut handle = handle;
             let thread = next.fetch_add(1, Ordering::SeqCst);
-            let role = role_of(thread, alternates);
-            let numbers = play(alloc, &mut handle, role, thread, drops);
-            Worker { handle, numbers }
+            work(alloc, handle, thread, alternates, drops)
         },
     )?;
     let numbers = numbers_of(alloc, workers.as_slice())?;
-    let handles = workers
-        .into_iter()
-        .map(|worker| worker.handle)
-        .collect(alloc)?;
-    let left: Vec<Counted> = close(alloc, handles)?;
+    let left = close(alloc, handles_back(alloc, workers)?)?;
     assert_eq!(rt; left.len(), 0);
     Ok(numbers)
 }

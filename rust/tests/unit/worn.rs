@@ -204,14 +204,15 @@ fn what_is_left_comes_out_once_after_a_close_that_is_refused() {
     assert!(refused > 0);
 }
 
-/// Here the library closes a queue, but cannot say what was left, as the handles are of two queues. What came out
-/// before is not lost, and nobody has a handle any more.
+/// Here the library closes a queue, but cannot say what was left. What came out before is not lost, and nobody has a
+/// handle any more.
 #[test]
 fn a_queue_goes_whose_close_loses_what_was_left() {
     let mut lost = 0;
     for last in 2..20 {
         let [mut worn, mut other] = [last, 9].map(|last| Worn::open(1, 16, 2, last));
         let left = worn.wear(3);
+        // A close asks for handles of one queue. These are of two, which comes to LOST as memory does that is refused.
         swap(
             worn.shared.handles.0[1].get_mut(),
             other.shared.handles.0[1].get_mut(),

@@ -2,7 +2,7 @@
 ghost use Rattle.std.specs.Prelude.{◌≡◌, ◌≢◌, ◌⊎◌, ◌↔◌, ◌==◌, None, IfOk, IsErr, IsTrue, All};
 ghost use Rattle.std.specs.List.{list_all};
 ghost use Rattle.kfifo_c.specs.Handles.{IsClosed, WereClosed, all_fields, behind, cells_behind};
-ghost use Rattle.kfifo_c.specs.AllHandles.{AreAll, seats_in};
+ghost use Rattle.kfifo_c.specs.AllHandles.{AreAll, AreSeatsOfOneQueue, seats_in};
 ghost use Rattle.kfifo_c.specs.Behind.{left_in};
 ghost use Rattle.kfifo_c.specs.CellQueues.{ClosesCells};
 
@@ -61,16 +61,17 @@ fn take_all(
 }
 
 /// Closes a queue by all its handles, as `kfifo_renewing::close_cells`, and holds the cells that are left, with their
-/// memory, in `left`. What was held there is lost. Returns BAD_CALL, with nothing done, where there are no handles, one
-/// is closed or of another kind, or they are not as many as the queue has; NO_MEMORY, with nothing done, and LOST, with
-/// the queue closed and the cells and their memory gone, where an allocation failed. It also returns LOST where the
-/// handles are of two queues.
+/// memory, in `left`. What was held there is lost. The handles of one call are of one queue. Returns BAD_CALL, with
+/// nothing done, where there are none, one is closed or of another kind, or they are not as many as the queue has;
+/// NO_MEMORY, with nothing done, and LOST, with the queue closed and the cells and their memory gone, where an
+/// allocation failed.
 #[unsafe(no_mangle)]
 pub extern "C" fn kfifo_c_close_cells(
     alloc: Global,
     passes: &mut [Handle],
     left: &mut LeftHandle,
 ) -> u32
+    requires { AreSeatsOfOneQueue (cells_behind passes.old) }
     ensures answers { (result ≡ 0) ⊎ (result ≡ 6) ⊎ (result ≡ 7) ⊎ (result ≡ 9) }
     ensures bad { (result ≡ 6) ↔ (¬ AreAll (cells_behind passes.old)) }
     ensures nothing { (result ≡ 6) ⊎ (result ≡ 7) → (behind passes.new ≡ behind passes.old)

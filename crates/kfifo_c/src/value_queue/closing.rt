@@ -2,7 +2,7 @@
 ghost use Rattle.std.specs.Prelude.{◌≡◌, ◌⊎◌, ◌++◌, ◌==◌, List, Option, Some, None, IfOk, IsErr, IsTrue, All};
 ghost use Rattle.std.specs.Prelude.{length, drop, map};
 ghost use Rattle.std.specs.List.{list_all};
-ghost use Rattle.kfifo_c.specs.AllHandles.{seats_in};
+ghost use Rattle.kfifo_c.specs.AllHandles.{AreSeatsOfOneQueue, seats_in};
 ghost use Rattle.kfifo_c.specs.Behind.{Behind, values_in};
 ghost use Rattle.kfifo_c.specs.Handles.{IsClosed, WereClosed, all_fields, behind, values_behind};
 ghost use Rattle.kfifo_c.specs.Values.{ClosesValues, LastFollows, MayCloseValues, NeedsRoom};
@@ -89,10 +89,10 @@ pub extern "C" fn kfifo_c_values_room(passes: &mut [Handle]) -> usize
 }
 
 /// Closes a queue by all its handles, as `kfifo_renewing::close`, and writes the values that are left, those of the
-/// oldest generation first, and how many. The last handle follows others. Returns BAD_CALL, with nothing else done,
-/// where there are none, one is closed or of another kind, they are not as many as the queue has, or there is not the
-/// room that `kfifo_c_values_room` returns; NO_MEMORY, with nothing else done, and LOST, with the queue closed and its
-/// values lost, where an allocation failed. It also returns LOST where the handles are of two queues.
+/// oldest generation first, and how many. The handles of one call are of one queue. The last one follows others.
+/// Returns BAD_CALL, with nothing else done, where there are none, one is closed or of another kind, they are not as
+/// many as the queue has, or there is not the room that `kfifo_c_values_room` returns; NO_MEMORY, with nothing else
+/// done, and LOST, with the queue closed and its values lost, where an allocation failed.
 #[unsafe(no_mangle)]
 pub extern "C" fn kfifo_c_close_values(
     alloc: Global,
@@ -100,6 +100,7 @@ pub extern "C" fn kfifo_c_close_values(
     values: &mut [u64],
     count: &mut usize,
 ) -> u32
+    requires { AreSeatsOfOneQueue (values_behind passes.old) }
     ensures answers { (result ≡ 0) ⊎ (result ≡ 6) ⊎ (result ≡ 7) ⊎ (result ≡ 9) }
     ensures bad { result ≡ 6 → ¬ MayCloseValues (values_behind passes.new) (length values.old) }
     ensures may { (result ≡ 0) ⊎ (result ≡ 9) → (seats : List (Option Behind))

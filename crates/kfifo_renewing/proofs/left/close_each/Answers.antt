@@ -1,41 +1,65 @@
 -- One generation more is closed.
 use Rattle.std.proofs.Common.{true, List, [], ◌∷◌, ◌++◌, append_assoc, arith, refl, sym, ap, ◌∙◌, subst}
-use Rattle.std.proofs.lemmas.List.{append-nil, map-append}
-use Rattle.std.proofs.lemmas.List.{nil_from_length}
+use Rattle.std.proofs.lemmas.List.{append-nil, map-append, nil_from_length}
 use Rattle.kfifo_renewing.specs.Cells.{LeavesCells}
 use Rattle.kfifo_renewing.specs.Joining.{PartView, held_by, held_in}
-use Rattle.kfifo_renewing.specs.Renewing.{HeldIn, IsOpenedAs, opening_with}
-use Rattle.kfifo_renewing.proofs.Closing.{leaves-more}
-use Rattle.kfifo_renewing.proofs.Parts.{all-next}
+use Rattle.kfifo_renewing.specs.Renewing.{HeldIn, opening_with}
+use Rattle.kfifo_renewing.proofs.Endings.{leaves-more, left-among, left-beside, left-first, left-more}
 use Rattle.kfifo_renewing.proofs.left.close_each.Goals as goal
+
+pub loop-joined-init : goal.loop-joined-init
+loop-joined-init c =
+    let is = c.into_iter-joined-iterator.ensures.into_iter_gives.0 in record {
+      same = refl;
+      rest = left-first (opening_with true c.args.gathered.sizes) c.args.gathered.theirs.least
+          c.args.gathered.all.items _ c.args.gathered.theirs.parts.items is c.requires.opened c.requires.parts;
+      left = ([], sym is, λ handles have. c.in_ok-left.ensures.items);
+    }
+
+pub close_one-requires-clause-theirs : goal.close_one-requires-clause-theirs
+close_one-requires-clause-theirs c =
+    let i = c.loop-joined.invariant in
+    left-beside (opening_with true c.args.gathered.sizes) c.args.gathered.theirs.parts.items c.loop-joined.theirs.least
+    c.number.result c.loop-joined.joined-iterator.rest.items c.next.new.self.rest.items c.loop-joined.theirs.parts.items
+    c.in-Some.joined c.in-Some.ensures.steps.0 c.number.ensures i.rest c.in_ok-here.here.items c.in_ok-here.ensures.taken
 
 pub loop-joined-preserved : goal.loop-joined-preserved
 loop-joined-preserved c =
     let T = Unit {0} in
     let i = c.loop-joined.invariant in
-    let done = i.left.0 in
+    let o = opening_with true c.args.gathered.sizes in
+    let all = c.args.gathered.theirs.parts.items in
+    let least = c.loop-joined.theirs.least in
+    let n = c.number.result in
+    let rest = c.loop-joined.joined-iterator.rest.items in
+    let more = c.next.new.self.rest.items in
+    let theirs = c.loop-joined.theirs.parts.items in
     let here = c.in-Some.joined in
     let next = c.in-Some.ensures.steps.0 in
+    let taken = c.in_ok-here.ensures in
+    let done = i.left.0 in
     record {
-      same = refl;
-      rest = (all-next (λ (p : PartView T). IsOpenedAs (opening_with true c.args.sizes.now) p.handle) here
-          c.next.new.self.rest.items c.loop-joined.joined-iterator.rest.items next i.rest).1;
+      same = i.same;
+      rest = left-more o all least n rest more theirs here next c.number.ensures i.rest c.take.new.self.least
+          c.take.new.self.parts.items taken.least.0 taken.least.1 taken.rest;
       left = (
         done ++ here ∷ [],
-        i.left.1 ∙ ap (λ l. done ++ l) next ∙ sym (append_assoc done (here ∷ []) c.next.new.self.rest.items),
-        subst (λ (hs : List (HeldIn T)). LeavesCells hs c.push.new.self.items)
+        i.left.1 ∙ ap (λ l. done ++ l) next ∙ sym (append_assoc done (here ∷ []) more),
+        λ handles have.
+            let own = left-among o all least n rest more theirs here next c.number.ensures i.rest
+            c.in_ok-here.here.items handles taken.taken taken.least.0 have in
+            subst (λ (hs : List (HeldIn T)). LeavesCells handles hs c.push.new.self.items)
             (sym (map-append (λ (p : PartView T). held_in p) done (here ∷ [])))
-            (subst (LeavesCells (held_by done ++ held_in here ∷ [])) (sym c.in-Ok.ensures.items)
-            (leaves-more (held_by done) c.loop-joined.left.items (held_in here) c.in_ok-closed.closed i.left.2
-            c.in_ok-closed.ensures)),
+            (subst (LeavesCells handles (held_by done ++ held_in here ∷ [])) (sym c.in-Ok.ensures.items)
+            (leaves-more handles (held_by done) c.loop-joined.left.items (held_in here) c.in_ok-closed.closed (i.left.2 handles have)
+            (c.in_ok-closed.ensures handles own))),
       );
     }
 
 pub returns : goal.returns
-returns c =
-    let T = Unit {0} in
+returns c handles have =
     let i = c.loop-joined.invariant in
     let over = nil_from_length c.loop-joined.joined-iterator.rest.items
     (omega (arith, c.in-None.ensures.steps.0, c.loop-joined.joined-iterator.rest.ok.0)) in
-    subst (λ (ps : List (PartView T)). LeavesCells (held_by ps) c.loop-joined.left.items)
-    (sym (i.left.1 ∙ ap (λ l. i.left.0 ++ l) over ∙ append-nil i.left.0)) i.left.2
+    subst (λ (ps : List (PartView (Unit {0}))). LeavesCells handles (held_by ps) c.loop-joined.left.items)
+    (sym (i.left.1 ∙ ap (λ l. i.left.0 ++ l) over ∙ append-nil i.left.0)) (i.left.2 handles have)

@@ -1,15 +1,17 @@
-use Rattle.std.proofs.Common.{true, ◌≡◌, ◌++◌, All, List}
+use Rattle.std.proofs.Common.{true, ◌≡◌, ◌++◌, List}
 use Rattle.kfifo_renewing.specs.Cells.{LeavesCells}
-use Rattle.kfifo_renewing.specs.Joining.{PartView, held_by}
-use Rattle.kfifo_renewing.specs.Renewing.{IsOpenedAs, opening_with}
+use Rattle.kfifo_renewing.specs.Joining.{HaveParts, PartView, held_by}
+use Rattle.kfifo_renewing.specs.Renewing.{Generations, opening_with}
+use Rattle.kfifo_renewing.proofs.Endings.{AreLeft}
 use Rattle.kfifo_renewing.proofs.left.close_each.Given as goal
 
 -- the cells so far are those that were left in the generations so far
 abbrev pub invariant-loop-joined : goal.invariant-loop-joined
 invariant-loop-joined l = record {
-  same : l.sizes ≡ l.fn.sizes;
-  rest : All (λ (p : PartView (Unit {0})). IsOpenedAs (opening_with true l.fn.sizes) p.handle)
-      l.joined-iterator.rest.items;
-  left : (done : List (PartView (Unit {0}))) × (l.fn.all.items ≡ done ++ l.joined-iterator.rest.items)
-      × LeavesCells (held_by done) l.left.items;
+  same : l.sizes ≡ l.fn.gathered.sizes;
+  rest : AreLeft (opening_with true l.fn.gathered.sizes) l.fn.gathered.theirs.parts.items l.theirs.least
+      l.joined-iterator.rest.items l.theirs.parts.items;
+  left : (done : List (PartView (Unit {0}))) × (l.fn.gathered.all.items ≡ done ++ l.joined-iterator.rest.items)
+      × ((handles : List (Generations (Unit {0}))) → HaveParts handles l.fn.gathered.theirs.parts.items
+      → LeavesCells handles (held_by done) l.left.items);
 }

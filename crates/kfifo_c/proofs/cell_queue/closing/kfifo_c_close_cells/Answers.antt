@@ -1,25 +1,28 @@
-use Rattle.std.proofs.Common.{◌≡◌, ◌++◌, ◌∷◌, [], Some, map, ap, sym, subst, ◌∙◌}
-use Rattle.kfifo_renewing.specs.Renewing.{Gathers}
+use Rattle.std.proofs.Common.{◌++◌, ◌∷◌, [], List, Some, map, ap, sym, subst, ◌∙◌}
+use Rattle.kfifo_renewing.specs.Cells.{ClosesAllCells}
+use Rattle.kfifo_renewing.specs.Renewing.{AreOfOneQueue}
 use Rattle.kfifo_c.specs.Handles.{cells_behind}
 use Rattle.kfifo_c.specs.Behind.{cells_in, left_in}
 use Rattle.kfifo_c.specs.AllHandles.{seats_in}
 use Rattle.kfifo_c.specs.CellSeats.{CellSeated}
-use Rattle.kfifo_c.proofs.AllHandles.{closing_last}
+use Rattle.kfifo_c.proofs.AllHandles.{all_seats}
 use Rattle.kfifo_c.proofs.HandleLists.{all_closed, cells}
 use Rattle.kfifo_c.proofs.cell_queue.closing.kfifo_c_close_cells.Goals as goal
+
+pub close_cells-requires : goal.close_cells-requires
+close_cells-requires c = subst (λ (seats : List CellSeated). AreOfOneQueue seats)
+    (sym (c.in-Ok-take_all.ensures.taken ∙ ap seats_in (ap (map cells_in) c.may_close.ensures.same))) c.requires
 
 pub returns-clause-done : goal.returns-clause-done
 returns-clause-done c = λ _.
     let all = c.may_close.ensures.may.0 c.if-not-may_close.false in
-    let closed = c.in-Ok-close_cells.ensures in
-    let last : closed.0 ≡ all.last = closing_last (cells_behind c.args.passes.now) all closed.1 closed.0
-    (sym (c.in-Ok-take_all.ensures.taken ∙ ap seats_in (ap (map cells_in) c.may_close.ensures.same)) ∙ closed.2) in
+    let taken = c.in-Ok-take_all.ensures.taken ∙ ap seats_in (ap (map cells_in) c.may_close.ensures.same)
+    ∙ all_seats (cells_behind c.args.passes.now) all in
     record {
       all = all;
-      held = closed.3;
-      gathers = subst (λ (seat : CellSeated). Gathers seat closed.3) last closed.4;
       generations = c.in-Ok-close_cells.cells.items;
-      leaves = closed.5;
+      closes = subst (λ (seats : List CellSeated). ClosesAllCells seats c.in-Ok-close_cells.cells.items) taken
+          c.in-Ok-close_cells.ensures;
       left_is = ap left_in c.of.ensures ∙ ap Some c.new-4.ensures;
     }
 

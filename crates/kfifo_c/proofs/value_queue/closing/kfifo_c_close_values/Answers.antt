@@ -1,12 +1,16 @@
 use Rattle.std.proofs.Common.{◌≡◌, ◌++◌, ◌∷◌, [], length, drop, vec_len, List, ap, sym, subst, ◌∙◌, arith, rules}
-use Rattle.kfifo_renewing.specs.Renewing.{ClosesAll}
+use Rattle.kfifo_renewing.specs.Renewing.{AreOfOneQueue, ClosesAll}
 use Rattle.kfifo_c.specs.declared.handle.Handle.{Handle}
 use Rattle.kfifo_c.specs.Handles.{all_fields, behind, values_behind}
 use Rattle.kfifo_c.specs.ValueSeats.{ValueSeated}
 use Rattle.kfifo_c.specs.Values.{LastFollows, NeedsRoom}
-use Rattle.kfifo_c.proofs.AllHandles.{closing_last, may_close}
+use Rattle.kfifo_c.proofs.AllHandles.{all_seats, may_close, still_of_one}
 use Rattle.kfifo_c.proofs.HandleLists.{all_closed, values}
 use Rattle.kfifo_c.proofs.value_queue.closing.kfifo_c_close_values.Goals as goal
+
+pub close-requires : goal.close-requires
+close-requires c = subst (λ (seats : List ValueSeated). AreOfOneQueue seats) (sym c.in-Ok.ensures.taken)
+    (still_of_one (behind c.args.passes.now) (behind c.room_of.new.handles) c.room_of.ensures.follows c.requires)
 
 pub returns-in_default-clause-nothing : goal.returns-in_default-clause-nothing
 returns-in_default-clause-nothing c = λ _.
@@ -39,15 +43,15 @@ pub returns-clause-done : goal.returns-clause-done
 returns-clause-done c = λ _.
     let os = values_behind c.room_of.new.handles in
     let all = (subst (λ o. NeedsRoom o os) c.in-Ok-Some.field-0-is c.in-Ok-Some.ensures.room).0 in
-    let left = c.in-Ok-close.left.items in let closed = c.in-Ok-close.ensures in
-    let last : closed.0 ≡ all.last = closing_last os all closed.1 closed.0 (sym c.in-Ok.ensures.taken ∙ closed.2) in
+    let left = c.in-Ok-close.left.items in
     let v : vec_len c.in-Ok-close.left ≡ length left = omega arith in (
       behind c.room_of.new.handles,
       c.room_of.ensures.follows,
       record {
         all = all;
         left = left;
-        closes = subst (λ (s : ValueSeated). ClosesAll s left) last closed.3;
+        closes = subst (λ (seats : List ValueSeated). ClosesAll seats left) (c.in-Ok.ensures.taken ∙ all_seats os all)
+            c.in-Ok-close.ensures;
         count_is = c.len.ensures ∙ v;
         written = c.write_values.ensures.written c.if-not-write_values.false
             ∙ ap (λ l. l ++ drop (length l) c.args.values.now) c.as_slice.ensures.value;

@@ -1,0 +1,54 @@
+-- The last handle has followed others, and these are its generations, and the parts of the others.
+use Rattle.std.proofs.Common.{◌≡◌, Bool, All, sym, ap, ◌∙◌, subst}
+use Rattle.kfifo_live.specs.declared.view.Opening.{Opening}
+use Rattle.kfifo_renewing.specs.Joining.{PartView}
+use Rattle.kfifo_renewing.specs.Renewing.{IsOpenedAs, opening_in, opening_with}
+use Rattle.kfifo_renewing.specs.declared.places.Lineage.{Lineage}
+use Rattle.kfifo_renewing.proofs.Endings.{one-queue}
+use Rattle.kfifo_renewing.proofs.Joining.{parts-later}
+use Rattle.kfifo_renewing.proofs.closing.gather.Goals as goal
+
+pub take_apart-requires : goal.take_apart-requires
+take_apart-requires g c k d inside =
+    let one = one-queue c.args.handles.items c.pop.new.self.items c.in-Some.last c.in-Some.ensures.items c.requires in
+    one.3 k d inside
+    ∙ sym (c.in_ok-shared.ensures.history.0 ∙ c.generations.ensures.follows.later.book ∙ one.5)
+
+pub returns-clause-all : goal.returns-clause-all
+returns-clause-all g c = (
+  c.in-Some.last,
+  c.pop.new.self.items,
+  c.in-Some.ensures.items,
+  (
+    c.generations.new.self,
+    c.generations.ensures.follows,
+    c.in-Some-generations.ensures.count.1,
+    c.generations.ensures.all,
+    c.in_ok-shared.ensures.joined,
+  ),
+  c.in_ok-theirs.ensures.all,
+)
+
+pub returns-clause-parts : goal.returns-clause-parts
+returns-clause-parts g c = (
+  c.take_apart.new.history.log,
+  parts-later c.in_ok-shared.field-0.history.log c.take_apart.new.history.log c.in_ok-shared.field-0.parts.items
+      c.in_ok-theirs.ensures.later c.in_ok-shared.ensures.history.1,
+  c.in_ok-theirs.ensures.parts,
+)
+
+pub returns-clause-opened : goal.returns-clause-opened
+returns-clause-opened g c =
+    let T = g.row.T.Denot in
+    let shared = c.in_ok-shared.field-0.shared.value in
+    let one = one-queue c.args.handles.items c.pop.new.self.items c.in-Some.last c.in-Some.ensures.items c.requires in
+    let same = c.in_ok-shared.ensures.shared.0 ∙ c.generations.ensures.follows.later.opened ∙ one.4 in
+    let sizes = c.sizes-sizes.ensures ∙ ap (λ (l : Lineage). l.sizes) c.in-Some-into_inner.ensures in
+    let as_asked : opening_in shared ≡ opening_with g.K.Kind.bare c.sizes-sizes.result =
+    ap (λ (b : Bool). opening_with b shared.sizes) c.in_ok-shared.ensures.shared.1
+    ∙ ap (opening_with g.K.Kind.bare) (sym sizes) in (
+      subst (λ (o : Opening). All (λ (p : PartView T). IsOpenedAs o p.handle) c.in_ok-shared.field-0.parts.items) as_asked
+          c.in_ok-shared.ensures.of,
+      subst (λ (o : Opening). All (λ (p : PartView T). IsOpenedAs o p.handle) c.in_ok-theirs.theirs.items)
+          (sym same ∙ as_asked) (c.in_ok-theirs.ensures.opened one.0 one.2),
+    )

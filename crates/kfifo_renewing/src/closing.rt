@@ -1,0 +1,258 @@
+//! The end of a renewing queue: all its handles are given up, and each of its generations is closed by their parts.
+ghost use Rattle.std.specs.Prelude.{◌≡◌, ◌≤◌, ◌+◌, ◌==◌, ◌++◌, [], ◌∷◌, All, IfOk, List, false, filter, map, not};
+ghost use Rattle.std.specs.List.{Contains};
+ghost use mathlib.Core.List.{IsPrefix};
+ghost use Rattle.kfifo_live.specs.Pass.{IsPassOf};
+ghost use Rattle.kfifo_pool.specs.Pooled.{Pooled};
+ghost use Rattle.kfifo_live.specs.declared.view.Opening.{Opening};
+ghost use Rattle.kfifo_renewing.specs.Joining.{HaveParts, IsBeside, IsPart, held_by, held_in};
+ghost use Rattle.kfifo_renewing.specs.declared.change.Change.{Change};
+ghost use Rattle.kfifo_renewing.specs.Renewing.{AreOfOneQueue, ClosesAll, ClosesEach, Gathers, Generations};
+ghost use Rattle.kfifo_renewing.specs.Renewing.{HaveOwnAmong};
+ghost use Rattle.kfifo_renewing.specs.Renewing.{IsOpenedAs, WereLeft, opening_with, other_threads};
+
+use crate::handle::{JoinedAll, RenewingHandle};
+use crate::history::History;
+use crate::joined::Joined;
+use crate::kind::Kind;
+use crate::leaving::Leaving;
+use crate::memory::CellMemory;
+use kfifo_live::{CloseFault, Sizes};
+use kfifo_pool::{PooledHandle, PooledQueue};
+use std::alloc::{AllocError, Global};
+use std::mem::replace;
+use std::sync::Arc;
+
+/// The parts of the other handles of a queue that is closed, in generations that are not closed yet.
+#[derive(Drop)]
+pub(crate) struct Theirs<T: Drop> {
+    parts: Vec<Leaving<Joined<T>>>,
+    /// The least number that such a generation may have.
+    least: u64,
+}
+
+impl<T: Drop> Theirs<T> {
+    /// The handles of these parts in the generation with this number, which are then no longer among them.
+    ///
+    /// MissingPass where a generation with this number, or a greater one, was closed before.
+    pub(crate) fn take(
+        &mut self,
+        alloc: Global,
+        number: u32,
+    ) -> Result<Vec<PooledHandle<T>>, CloseFault>
+        ensures least { IfOk result (λ _. (self.old.least ≤ number) × (self.new.least ≡ number + 1)) }
+        ensures taken { IfOk result (λ here. here.items
+            ≡ map (λ p. p.handle) (filter (λ p. p.number == number) self.old.parts.items)) }
+        ensures rest { IfOk result (λ _. self.new.parts.items
+            ≡ filter (λ p. not (p.number == number)) self.old.parts.items) }
+    {
+        // Generations come in the order of their numbers. No clause says so, and a look does.
+        if u64::from(number) < self.least {
+            return Err(CloseFault::MissingPass);
+        }
+        self.least = u64::from(number) + 1;
+        let here = take_numbered(alloc, &mut self.parts, number)?;
+        Ok(here)
+    }
+}
+
+/// The handles of these parts in the generation with this number, which are then no longer among them.
+fn take_numbered<T: Drop>(
+    alloc: Global,
+    parts: &mut Vec<Leaving<Joined<T>>>,
+    number: u32,
+) -> Result<Vec<PooledHandle<T>>, AllocError>
+    ensures taken { IfOk result (λ here. here.items
+        ≡ map (λ p. p.handle) (filter (λ p. p.number == number) parts.old.items)) }
+    ensures rest { IfOk result (λ _. parts.new.items ≡ filter (λ p. not (p.number == number)) parts.old.items) }
+{
+    let mut here = Vec::new(alloc);
+    let mut rest = Vec::new(alloc);
+    for part in replace(parts, Vec::new(alloc)) {
+        if part.number() == number {
+            here.push(part.into_handle())?;
+            continue;
+        }
+        rest.push(part)?;
+    }
+    *parts = rest;
+    Ok(here)
+}
+
+/// What is needed to close a queue: the parts of its last handle, the oldest generation first, those of its other
+/// handles, and what each generation was opened with.
+#[derive(Drop)]
+pub(crate) struct Gathered<T: Drop> {
+    pub(crate) all: Vec<Leaving<Joined<T>>>,
+    pub(crate) theirs: Theirs<T>,
+    pub(crate) sizes: Sizes,
+}
+
+/// A generation that is to be closed: its queue, the handle of one thread, those of all others, and the memory of its
+/// cells.
+#[derive(Drop)]
+pub(crate) struct Ended<T: Drop> {
+    pub(crate) queue: PooledQueue<T>,
+    pub(crate) handle: PooledHandle<T>,
+    pub(crate) others: Vec<PooledHandle<T>>,
+    pub(crate) memory: CellMemory,
+}
+
+/// The parts of these handles, and what they have seen of the history.
+fn take_apart<T: Drop, K: Kind<T>>(
+    alloc: Global,
+    handles: Vec<RenewingHandle<T, K>>,
+    history: &mut History,
+) -> Result<Vec<Leaving<Joined<T>>>, AllocError>
+    requires { All (λ g. g.book ≡ history.old.book) handles.items }
+    ensures later { IsPrefix history.old.log history.new.log }
+    ensures parts { IfOk result (λ parts. All (IsPart history.new.log) parts.items) }
+    ensures opened { IfOk result (λ parts. (o : Opening) → All (λ g. g.opened ≡ o) handles.items
+        → All (λ p. IsOpenedAs o p.handle) parts.items) }
+    ensures all { IfOk result (λ parts. HaveParts handles.items parts.items) }
+{
+    let mut theirs = Vec::new(alloc);
+    for handle in handles {
+        let JoinedAll {
+            history: seen,
+            mut parts,
+            ..
+        } = handle.into_joined()?;
+        history.learn(&seen);
+        theirs.append(&mut parts)?;
+    }
+    Ok(theirs)
+}
+
+/// The parts of all handles of a queue: those of the last one, which has followed the others, and theirs.
+pub(crate) fn gather<T: Drop, K: Kind<T>>(
+    alloc: Global,
+    mut handles: Vec<RenewingHandle<T, K>>,
+) -> Result<Gathered<T>, CloseFault>
+    requires { AreOfOneQueue handles.items }
+    ensures all { IfOk result (λ r. (last : Generations T) × (others : List (Generations T))
+        × (handles.items ≡ others ++ last ∷ []) × Gathers last (held_by r.all.items)
+        × HaveParts others r.theirs.parts.items) }
+    ensures parts { IfOk result (λ r. (log : List Change) × All (IsPart log) r.all.items
+        × All (IsPart log) r.theirs.parts.items) }
+    ensures opened { IfOk result (λ r. All (λ p. IsOpenedAs (opening_with K.bare r.sizes) p.handle) r.all.items
+        × All (λ p. IsOpenedAs (opening_with K.bare r.sizes) p.handle) r.theirs.parts.items) }
+{
+    let Some(mut last) = handles.pop() else {
+        return Err(CloseFault::MissingPass);
+    };
+    let Some(_) = last.generations() else {
+        return Err(CloseFault::Memory);
+    };
+    let JoinedAll {
+        shared,
+        mut history,
+        parts,
+    } = last.into_joined()?;
+    let theirs = take_apart(alloc, handles, &mut history)?;
+    let Some(shared) = Arc::into_inner(shared) else {
+        return Err(CloseFault::MissingPass);
+    };
+    // With the places the last other parts in the generations go.
+    let sizes = shared.sizes();
+    drop(shared);
+    Ok(Gathered {
+        all: parts,
+        theirs: Theirs {
+            parts: theirs,
+            least: 0,
+        },
+        sizes,
+    })
+}
+
+/// The generation of this part, with the handles of all threads in it: that of the part, these, and those that wait
+/// there.
+pub(crate) fn end<T: Drop>(
+    alloc: Global,
+    joined: Leaving<Joined<T>>,
+    theirs: Vec<PooledHandle<T>>,
+    threads: u32,
+) -> Result<Ended<T>, CloseFault>
+    requires { All (λ h. IsBeside joined.handle h) theirs.items }
+    ensures handle { IfOk result (λ r. r.handle ≡ joined.handle) }
+    ensures of { IfOk result (λ r. IsPassOf r.queue r.handle.held.pass.pass
+        × All (λ h. IsPassOf r.queue h.held.pass.pass) r.others.items) }
+    ensures others { IfOk result (λ r. map (λ h. h.held.pass.pass.thread) r.others.items
+        ≡ other_threads joined.handle.held.pass.pass.thread threads) }
+    ensures theirs { IfOk result (λ r. (h : Pooled T) → Contains theirs.items h → Contains r.others.items h) }
+{
+    let (generation, handle) = joined.into_part().into_parts();
+    let Some(generation) = Arc::into_inner(generation) else {
+        return Err(CloseFault::MissingPass);
+    };
+    let own = handle.pass().thread();
+    let (queue, others, memory) = generation.into_parts(alloc, threads, own, theirs)?;
+    Ok(Ended {
+        queue,
+        handle,
+        others,
+        memory,
+    })
+}
+
+/// The payloads that are left in a generation, by the handle of this part, and by these and those that wait there.
+fn close_one<T: Drop>(
+    alloc: Global,
+    joined: Leaving<Joined<T>>,
+    theirs: Vec<PooledHandle<T>>,
+    sizes: &Sizes,
+) -> Result<Vec<T>, CloseFault>
+    requires opened { IsOpenedAs (opening_with false sizes.now) joined.handle }
+    requires theirs { All (λ h. IsBeside joined.handle h) theirs.items }
+    ensures { IfOk result (λ left. (handles : List (Generations T))
+        → HaveOwnAmong handles joined.number theirs.items → WereLeft handles (held_in joined) left.items) }
+{
+    let Ended {
+        queue,
+        handle,
+        others,
+        ..
+    } = end(alloc, joined, theirs, sizes.threads)?;
+    let left = queue.close_with(alloc, handle, others)?;
+    Ok(left)
+}
+
+/// The payloads that are left in these generations, those of the first one first.
+fn close_each<T: Drop>(alloc: Global, gathered: Gathered<T>) -> Result<Vec<T>, CloseFault>
+    requires opened { All (λ p. IsOpenedAs (opening_with false gathered.sizes) p.handle) gathered.all.items
+        × All (λ p. IsOpenedAs (opening_with false gathered.sizes) p.handle) gathered.theirs.parts.items }
+    requires parts { (log : List Change) × All (IsPart log) gathered.all.items
+        × All (IsPart log) gathered.theirs.parts.items }
+    ensures { IfOk result (λ left. (handles : List (Generations T)) → HaveParts handles gathered.theirs.parts.items
+        → ClosesEach handles (held_by gathered.all.items) left.items) }
+{
+    let Gathered {
+        all,
+        mut theirs,
+        sizes,
+    } = gathered;
+    let mut left = Vec::new(alloc);
+    for joined in all {
+        let here = theirs.take(alloc, joined.number())?;
+        let mut values = close_one(alloc, joined, here, &sizes)?;
+        left.append(&mut values)?;
+    }
+    Ok(left)
+}
+
+/// Closes a queue by all its handles, and returns the payloads that are left, those of the oldest generation first.
+///
+/// The last handle first follows the others. Of each of its generations they are what is left after the one schedule of
+/// all calls there, in the order of `PayQueue::close`. All that a handle of the queue did there is in that schedule.
+///
+/// The handles are of one queue. MissingPass where one of its handles is still elsewhere, or none is given; Memory
+/// where an allocation failed. The payloads are then dropped.
+pub fn close<T: Drop>(alloc: Global, handles: Vec<RenewingHandle<T>>) -> Result<Vec<T>, CloseFault>
+    requires { AreOfOneQueue handles.items }
+    ensures { IfOk result (λ left. ClosesAll handles.items left.items) }
+{
+    let gathered = gather(alloc, handles)?;
+    let left = close_each(alloc, gathered)?;
+    Ok(left)
+}

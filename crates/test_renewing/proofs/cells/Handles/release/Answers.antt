@@ -1,0 +1,8 @@
+use Rattle.test_renewing.proofs.Queues.{still_queue}
+use Rattle.test_renewing.proofs.cells.Handles.release.Goals as goal
+
+pub invariant_of-self-2 : goal.invariant_of-self-2
+invariant_of-self-2 c =
+    still_queue c.self.inside.handles.items c.args.place c.in-Some.handle.now c.release.new.handle
+    c.in-Some.ensures.item.3.0 c.in-Some.ensures.value
+    c.release.ensures c.self.invariant

@@ -1,0 +1,8 @@
+use Rattle.test_renewing.proofs.Queues.{still_queue}
+use Rattle.test_renewing.proofs.plain.Handles.give.Goals as goal
+
+pub invariant_of-self-2 : goal.invariant_of-self-2
+invariant_of-self-2 g c =
+    still_queue c.self.inside.handles.items c.args.place c.in-Some.handle.now c.give.new.handle
+    c.in-Some.ensures.item.3.0 c.in-Some.ensures.value
+    c.give.ensures c.self.invariant

@@ -1,0 +1,5 @@
+use Rattle.kfifo_renewing.specs.Renewing.{IsOfSameQueue}
+use Rattle.test_renewing.proofs.threads.await_one.Given as goal
+
+abbrev pub invariant-loop-try : goal.invariant-loop-try
+invariant-loop-try l = IsOfSameQueue l.fn.handle l.handle
