@@ -8,7 +8,7 @@ use Rattle.kfifo_live.specs.Tokens.{new_token_passes}
 use Rattle.kfifo_pool.specs.Pooled.{Pooled, new_handle, new_handles}
 use Rattle.kfifo_renewing.specs.declared.change.Change.{Change}
 use Rattle.kfifo_renewing.specs.Renewing.{HeldIn, IsNew, IsUntouched, LeavesGone}
-use Rattle.kfifo_renewing.proofs.Histories.{left-later, made-later}
+use Rattle.kfifo_renewing.proofs.Histories.{gone-later, made-later}
 use Rattle.kfifo_renewing.proofs.Parts.{all-next}
 
 module _ {T : Type 0} where
@@ -21,7 +21,7 @@ module _ {T : Type 0} where
   leaves-later xs ys [] kept p none = none
   leaves-later xs ys (h ∷ hs) kept p (inl (rest, is, l)) = inl (rest, is, leaves-later xs ys hs rest p l)
   leaves-later xs ys (h ∷ hs) kept p (inr (left, free, l)) =
-      inr (left-later xs ys h.number p left, free, leaves-later xs ys hs kept p l)
+      inr (gone-later xs ys h.number p left, free, leaves-later xs ys hs kept p l)
 
   pub leaves-trans : (log : List Change) (a b c : List (HeldIn T)) → LeavesGone log a b → LeavesGone log b c
       → LeavesGone log a c

@@ -3,10 +3,11 @@ use Rattle.std.proofs.Common.{◌≡◌, ◌==◌, ◌≤◌, ◌+◌, ⊎_elim,
 use Rattle.std.proofs.Common.{All, map, filter, cond, append_assoc, arith, ap, refl, sym, ◌∙◌, subst}
 use Rattle.std.specs.List.{Contains}
 use Rattle.std.proofs.lemmas.List.{append-nil, map-append}
-use Rattle.std.proofs.lemmas.List.Elements.{All-contains, All-filter, All-map, Contains-append_left}
+use Rattle.std.proofs.lemmas.List.Elements.{All-contains, All-filter, All-map, All-weaker, Contains-append_left}
 use Rattle.std.proofs.lemmas.List.Elements.{Contains-append_right, Contains-push, Contains-push_cases, filter-append}
 use Rattle.std.proofs.lemmas.List.Elements.{filter_passes}
 use Rattle.std.proofs.lemmas.Bool.Decides.{nat_tests}
+use mathlib.Core.List.{IsPrefix}
 use Rattle.logbook.specs.Pages.{Book}
 use Rattle.kfifo_pool.specs.Pooled.{Pooled}
 use Rattle.kfifo_live.specs.Pass.{IsPassOf, OpenQueue}
@@ -15,8 +16,9 @@ use Rattle.kfifo_renewing.specs.declared.change.Change.{Change}
 use Rattle.kfifo_renewing.specs.Cells.{CellsWereLeft, LeavesCells}
 use Rattle.kfifo_renewing.specs.History.{IsMade}
 use Rattle.kfifo_renewing.specs.Joining.{HaveParts, IsBeside, IsPart, PartView, held_by, held_in}
-use Rattle.kfifo_renewing.specs.Renewing.{AreOfOneQueue, ClosesEach, Generations, HaveOwnAmong, HeldIn, IsClosedBy, IsOpenedAs}
-use Rattle.kfifo_renewing.specs.Renewing.{WereLeft, all_of, other_threads}
+use Rattle.kfifo_renewing.specs.Renewing.{AreOfOneQueue, ClosesEach, Generations, HaveOwnAmong, HaveSeen, HeldIn}
+use Rattle.kfifo_renewing.specs.Renewing.{IsClosedBy, IsOpenedAs, WereLeft, all_of, other_threads}
+use Rattle.kfifo_renewing.proofs.Histories.{prefix-trans}
 use Rattle.kfifo_renewing.proofs.Parts.{all-from-contains, all-next, contains-filter, contains-image, contains-map}
 
 module _ {T : Type 0} where
@@ -206,6 +208,13 @@ module _ {T : Type 0} where
     left-among found handles are up have =
         subst (λ k. HaveOwnAmong handles k found) number
         (subst (HaveOwnAmong handles n) (sym are) (own-among handles all theirs least n have left.keeps up))
+
+  -- what has all that handles have seen is still there in a longer beginning of the history
+  pub seen-later : (handles : List (Generations T)) (xs ys : List Change) → IsPrefix xs ys → HaveSeen handles xs
+      → HaveSeen handles ys
+  seen-later handles xs ys p seen =
+      All-weaker (λ (h : Generations T). IsPrefix h.seen xs) (λ (h : Generations T). IsPrefix h.seen ys)
+      (λ h was. prefix-trans h.seen xs ys was p) handles seen
 
   -- what handles of one queue have in common, the last of them and the others
   pub one-queue : (handles others : List (Generations T)) (last : Generations T) → handles ≡ others ++ last ∷ []

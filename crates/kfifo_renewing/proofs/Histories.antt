@@ -8,7 +8,7 @@ use Rattle.atomic_table.specs.Seated.{TableId}
 use mathlib.Core.List.{IsPrefix}
 use Rattle.kfifo_renewing.specs.declared.change.Change.{Change}
 use Rattle.kfifo_renewing.specs.declared.change.Change.TheVariants as C
-use Rattle.kfifo_renewing.specs.History.{HasLeft, HasRisen, IsGone, IsMade, WasNewest, made, making_of, newest_after}
+use Rattle.kfifo_renewing.specs.History.{HasRisen, IsGone, IsMade, WasNewest, made, making_of, newest_after}
 use Rattle.kfifo_renewing.specs.History.{newest_of}
 
 pub prefix-trans : {A : Type 0} (xs ys zs : List A) → IsPrefix xs ys → IsPrefix ys zs → IsPrefix xs zs
@@ -45,7 +45,6 @@ made-append (C.Newest n ∷ xs) ys = made-append xs ys
 made-append (C.Look t ∷ xs) ys = made-append xs ys
 made-append (C.Placed n i ∷ xs) ys = made-append xs ys
 made-append (C.Gone s ∷ xs) ys = made-append xs ys
-made-append (C.Undone n ∷ xs) ys = made-append xs ys
 
 pub newest-append : (n : ℕ) (xs ys : List Change) → newest_after n (xs ++ ys) ≡ newest_after (newest_after n xs) ys
 newest-append n [] ys = refl
@@ -54,7 +53,6 @@ newest-append n (C.Newest m ∷ xs) ys = newest-append m xs ys
 newest-append n (C.Look t ∷ xs) ys = newest-append n xs ys
 newest-append n (C.Placed m i ∷ xs) ys = newest-append n xs ys
 newest-append n (C.Gone s ∷ xs) ys = newest-append n xs ys
-newest-append n (C.Undone m ∷ xs) ys = newest-append n xs ys
 
 -- what was made stays so
 pub made-later : (xs ys : List Change) (n : ℕ) (t : TableId) → IsPrefix xs ys → IsMade xs n t → IsMade ys n t
@@ -175,7 +173,3 @@ gone-later xs ys n p gone = record {
   made = made-later xs ys n gone.sealed.queue.table p gone.made;
   empty = gone.empty;
 }
-
-pub left-later : (xs ys : List Change) (n : ℕ) → IsPrefix xs ys → HasLeft xs n → HasLeft ys n
-left-later xs ys n p (inl gone) = inl (gone-later xs ys n p gone)
-left-later xs ys n p (inr undone) = inr (contains-later xs ys (C.Undone n) p undone)

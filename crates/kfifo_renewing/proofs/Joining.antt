@@ -18,14 +18,14 @@ use Rattle.kfifo_live.specs.Pass.{IsPassOf}
 use Rattle.kfifo_live.specs.declared.view.Opening.{Opening}
 use Rattle.kfifo_renewing.specs.declared.change.Change.{Change}
 use Rattle.kfifo_renewing.specs.declared.change.Change.TheVariants as C
-use Rattle.kfifo_renewing.specs.History.{FindsThere, HasLeft, HasRisen, IsGone, IsKept, IsMade, IsPlaced, WasNewest}
+use Rattle.kfifo_renewing.specs.History.{FindsThere, HasRisen, IsGone, IsKept, IsMade, IsPlaced, WasNewest}
 use Rattle.kfifo_renewing.specs.History.{place_count}
 use Rattle.kfifo_renewing.specs.Joining.{AreAmong, AreSameParts, HasJoined, HasNumber, HasOlder, IsPart, IsSamePart}
 use Rattle.kfifo_renewing.specs.Joining.{PartView, held_by, held_in}
 use Rattle.kfifo_renewing.specs.Renewing.{Generations, HasAll, HeldIn, IsOpenedAs, LeavesGone, Numbered}
-use Rattle.kfifo_renewing.proofs.Histories.{contains-later, gone-later, left-later, made-later, was-below, was-later}
-use Rattle.kfifo_renewing.proofs.Histories.{was_first}
-use Rattle.kfifo_renewing.proofs.Keeping.{kept-gone, kept-placed}
+use Rattle.kfifo_renewing.proofs.Histories.{contains-later, gone-later, made-later, was-below, was-later}
+use Rattle.kfifo_renewing.proofs.Histories.{risen-was, was_first}
+use Rattle.kfifo_renewing.proofs.Keeping.{kept-placed}
 use Rattle.kfifo_renewing.proofs.Departures.{leaves-refl}
 use Rattle.kfifo_renewing.proofs.Parts.{all-next, all-without, contains-cons, contains-head, contains-map, contains-without}
 
@@ -169,12 +169,11 @@ module _ {T : Type 0} where
   }
 
   -- a handle that leaves an older generation that has gone
-  pub joined-less : (o : Opening) (shared book : Book) (log : List Change) (cells : List Cell) (g : Numbered)
-      (h : PartView T)
+  pub joined-less : (o : Opening) (shared book : Book) (log : List Change) (g : Numbered) (h : PartView T)
       (ps qs : List (PartView T)) (i : ℕ) (p : PartView T) → HasJoined o shared book log g h ps
       → qs ≡ take i ps ++ drop (i + 1) ps
-      → slice_get ps i ≡ Some p → IsKept cells log → HasLeft log p.number → HasJoined o shared book log g h qs
-  joined-less o shared book log cells g h ps qs i p j without at kept left = record {
+      → slice_get ps i ≡ Some p → IsGone log p.number → HasJoined o shared book log g h qs
+  joined-less o shared book log g h ps qs i p j without at gone = record {
     newest_opened = j.newest_opened;
     older_opened = all-without (λ (q : PartView T). IsOpenedAs o q.handle) ps qs i without j.older_opened;
     same_book = j.same_book;
@@ -191,9 +190,7 @@ module _ {T : Type 0} where
         (λ stays. inr (has.0, subst (λ l. Contains l has.0) (sym without) stays, has.2))
         (λ is.
         let same : p ≡ has.0 = cc (at, is) in
-        inl (subst (IsGone log) (ap (λ (q : PartView T). q.number) same ∙ has.2)
-        (kept-gone cells log p.number kept (subst (WasNewest log) (sym (ap (λ (q : PartView T). q.number) same ∙ has.2))
-        was) left)))
+        inl (subst (IsGone log) (ap (λ (q : PartView T). q.number) same ∙ has.2) gone))
         (contains-without ps i has.0 has.1))
         (j.all n was below);
   }
@@ -220,20 +217,20 @@ module _ {T : Type 0} where
       → AreAmong first end ps old xs
       → AreAmong first end ps old ys
   among-later first end ps old xs ys more among n above below was =
-      ⊎_elim (λ left. inl (left-later xs ys n more left)) (λ has. inr has) (among n above below was)
+      ⊎_elim (λ left. inl (gone-later xs ys n more left)) (λ has. inr has) (among n above below was)
 
   -- a handle that joins a later generation, and those between
-  pub joined-more : (o : Opening) (shared book mine : Book) (xs ys : List Change) (cells : List Cell)
-      (g next : Numbered) (h k : PartView T)
+  pub joined-more : (o : Opening) (shared book mine : Book) (xs ys : List Change) (g next : Numbered)
+      (h k : PartView T)
       (ps between qs : List (PartView T)) → HasJoined o shared book xs g h ps → mine ≡ book → IsPrefix xs ys
-      → IsKept cells ys → HasRisen ys
+      → HasRisen ys
       → (next.book ≡ book) → IsOpenedAs o k.handle → IsPassOf next.queue k.handle.held.pass.pass
       → k.number ≡ next.number → IsPart ys k
       → g.number < next.number → WasNewest xs next.number → All (λ (p : PartView T). IsOpenedAs o p.handle) between
       → All (IsPart ys) between
       → All (λ (p : PartView T). p.number < next.number) between → AreAmong g.number next.number between xs ys
       → qs ≡ (ps ++ h ∷ []) ++ between → HasJoined o shared mine ys next k qs
-  joined-more o shared book mine xs ys cells g next h k ps between qs j same more kept risen books opened of number part
+  joined-more o shared book mine xs ys g next h k ps between qs j same more risen books opened of number part
       later was all-opened parts below among is =
       let both : (P : PartView T → Type 0) → All P ps → P h → All P between → All P qs =
       λ P first mid last. subst (All P) (sym is) (All-append P (ps ++ h ∷ []) between (All-push P ps h first mid)
@@ -267,7 +264,7 @@ module _ {T : Type 0} where
               j.number ∙ at,
             ))
             (λ above. ⊎_elim
-            (λ left. inl (kept-gone cells ys n kept newest left))
+            inl
             (λ has. inr (number-in between qs n (λ p c. subst (λ l. Contains l p) (sym is)
             (Contains-append_right (ps ++ h ∷ []) between p c)) has))
             (among n above low before))
@@ -344,11 +341,11 @@ module _ {T : Type 0} where
   -- what looks at the places below an index have told
   abbrev pub LookedAt : ℕ → ℕ → ℕ → List (PartView T) → List Change → List Change → Type 0
   LookedAt first end index parts base log = (n i : ℕ) → first < n → n < end → i < index → IsPlaced base n i
-      → HasLeft log n ⊎ HasNumber parts n
+      → IsGone log n ⊎ HasNumber parts n
 
   found-by : (first end index : ℕ) (parts : List (PartView T)) (m : ℕ) (old new : List Change) (n : ℕ)
       → FindsThere index (Some m) old new → ((k : ℕ) → Some m ≡ Some k → first < k → k < end → HasNumber parts k)
-      → first < n → n < end → IsPlaced old n index → (b : Bool) → (m == n) ≡ b → HasLeft new n ⊎ HasNumber parts n
+      → first < n → n < end → IsPlaced old n index → (b : Bool) → (m == n) ≡ b → IsGone new n ⊎ HasNumber parts n
   found-by first end index parts m old new n finds known above below there true is =
       let same : m ≡ n = grind (arith, nat_tests) in
       inr (known n (ap Some same) above below)
@@ -358,7 +355,7 @@ module _ {T : Type 0} where
 
   found-here : (first end index : ℕ) (parts : List (PartView T)) (found : Option ℕ) (old new : List Change) (n : ℕ)
       → FindsThere index found old new → ((m : ℕ) → found ≡ Some m → first < m → m < end → HasNumber parts m)
-      → first < n → n < end → IsPlaced old n index → HasLeft new n ⊎ HasNumber parts n
+      → first < n → n < end → IsPlaced old n index → IsGone new n ⊎ HasNumber parts n
   found-here first end index parts None old new n finds known above below there =
       inl (finds.left n there (λ same. absurd cc))
   found-here first end index parts (Some m) old new n finds known above below there =
@@ -371,7 +368,7 @@ module _ {T : Type 0} where
       → LookedAt first end (index + 1) parts base new
   looked-more first end index parts found base old new looked before more finds known n i above below inside there =
       ⊎_elim
-      (λ less. ⊎_elim (λ left. inl (left-later old new n more left)) (λ has. inr has)
+      (λ less. ⊎_elim (λ left. inl (gone-later old new n more left)) (λ has. inr has)
       (looked n i above below less there))
       (λ no-less.
       let same : i ≡ index = omega (arith, no-less, inside) in
@@ -381,10 +378,12 @@ module _ {T : Type 0} where
 
   -- looks at all places tell of each generation that was the newest
   pub looked-all : (first end : ℕ) (parts : List (PartView T)) (cells : List Cell) (seen base log : List Change)
-      → IsKept cells base → IsPrefix seen base → LookedAt first end place_count parts base log
+      → IsKept cells base → IsPrefix seen base → WasNewest seen end → LookedAt first end place_count parts base log
       → AreAmong first end parts seen log
-  looked-all first end parts cells seen base log kept before looked n above below was =
-      let there = kept-placed cells base n kept (omega (arith, above)) (was-later seen base n before was) in
+  looked-all first end parts cells seen base log kept before newest looked n above below was =
+      let up = risen-was base end kept.holds.risen (was-later seen base end before newest) in
+      let there = kept-placed cells base n kept (omega (arith, above)) (was-later seen base n before was)
+      (omega (arith, below, up)) in
       looked n there.0 above below there.1 there.2
 
   pub part-at : (log : List Change) (ps : List (PartView T)) (i : ℕ) (p : PartView T) → All (IsPart log) ps
@@ -397,13 +396,13 @@ module _ {T : Type 0} where
   part-at log (q ∷ ps) (suc i) p all at = part-at log ps i p (all-next (IsPart log) q ps (q ∷ ps) refl all).1 at
 
   less-at : (log : List Change) (ps : List (PartView T)) (i : ℕ) (p : PartView T) → slice_get ps i ≡ Some p
-      → HasLeft log p.number
+      → IsGone log p.number
       → p.handle.cells ≡ no_cells → LeavesGone log (held_by ps) (held_by (take i ps ++ drop (i + 1) ps))
   less-at log [] i p at left none = absurd cc
   less-at log (q ∷ ps) zero p at left none =
       let same : q ≡ p = cc in
       inr (
-        subst (λ (x : PartView T). HasLeft log x.number) (sym same) left,
+        subst (λ (x : PartView T). IsGone log x.number) (sym same) left,
         ap (λ (x : PartView T). x.handle.cells)
             same ∙ none,
         leaves-refl log (held_by ps),
@@ -417,16 +416,7 @@ module _ {T : Type 0} where
   -- the handles of parts but one, whose generation has left its place
   pub held-less : (log : List Change) (ps qs : List (PartView T)) (i : ℕ) (p : PartView T)
       → qs ≡ take i ps ++ drop (i + 1) ps
-      → slice_get ps i ≡ Some p → HasLeft log p.number → p.handle.cells ≡ no_cells
+      → slice_get ps i ≡ Some p → IsGone log p.number → p.handle.cells ≡ no_cells
       → LeavesGone log (held_by ps) (held_by qs)
   held-less log ps qs i p is at left none =
       subst (λ l. LeavesGone log (held_by ps) (held_by l)) (sym is) (less-at log ps i p at left none)
-
-  -- a generation that is not among these, though it comes before this one, has gone if it was the newest
-  pub others-gone : (xs ys : List Change) (ps : List (PartView T)) (number n : ℕ) → IsPrefix xs ys → HasRisen ys
-      → WasNewest xs number
-      → HasOlder xs ps number → n < number → (HasNumber ps n → ⊥) → WasNewest ys n → IsGone ys n
-  others-gone xs ys ps number n more risen newest older below not was = ⊎_elim
-      (λ gone. gone-later xs ys n more gone)
-      (λ has. absurd (not has))
-      (older n (was-below xs ys n number more risen newest below was) below)

@@ -1,5 +1,5 @@
 -- Steps of the history keep its rule.
-use Rattle.std.proofs.Common.{◌≡◌, ◌≢◌, ◌+◌, ◌-◌, ◌<◌, ◌≤◌, ◌^◌, ◌==◌, ⊎_elim, ℕ, zero, suc, Bool, true, false, List}
+use Rattle.std.proofs.Common.{◌≡◌, ◌≢◌, ◌+◌, ◌-◌, ◌/◌, ◌%◌, ◌<◌, ◌≤◌, ◌^◌, ◌==◌, ⊎_elim, ℕ, zero, suc, Bool, true, false, List}
 use Rattle.std.proofs.Common.{[], ◌∷◌, ◌++◌, length, MatchBool, None, Option, Some, replicate, slice_set, refl, sym, ap}
 use Rattle.std.proofs.Common.{◌∙◌, subst, arith, inl, inr, length-append}
 use Rattle.std.proofs.lemmas.Bool.Decides.{nat_tests}
@@ -7,7 +7,7 @@ use Rattle.std.proofs.lemmas.List.{append-nil, get_or_append_left, get_or-append
 use Rattle.std.proofs.lemmas.List.{get_or-set_other, get_or-set_same, length-replicate, length-set}
 use Rattle.std.proofs.lemmas.List.{replicate-append-replicate, set-append_left, set-append_right, set-get_or}
 use Rattle.std.proofs.lemmas.List.Elements.{Contains-push}
-use Rattle.std.proofs.Math.Nat.{eq-zero-or-pos}
+use Rattle.std.proofs.Math.Nat.{div-add-mod, eq-zero-or-pos}
 use Rattle.std.specs.List.{Contains}
 use Rattle.atomic_table.specs.Seated.{TableId}
 use mathlib.Core.List.{IsPrefix}
@@ -19,10 +19,10 @@ use Rattle.kfifo_renewing.specs.declared.change.Change.TheVariants as C
 use Rattle.kfifo_renewing.specs.declared.change.Made.{Made}
 use Rattle.kfifo_renewing.specs.declared.change.Sealed.{Sealed}
 use Rattle.kfifo_renewing.specs.declared.change.Sight.{Sight}
-use Rattle.kfifo_renewing.specs.History.{Finds, FindsThere, HasLeft, HasRisen, Holds, IsGone, IsKept, IsPlaced}
-use Rattle.kfifo_renewing.specs.History.{IsUndone, Looks, LooksThere, Fills, TellsNext, TellsPlace, WasNewest}
-use Rattle.kfifo_renewing.specs.History.{WillNotBeNewest, key_of, made, making_of, newest_of, place_count, label_of}
-use Rattle.kfifo_renewing.proofs.Histories.{contains-later, contains-more, gone-later, left-later, made-append}
+use Rattle.kfifo_renewing.specs.History.{Finds, FindsThere, HasRisen, Holds, IsGone, IsKept, IsPlaced}
+use Rattle.kfifo_renewing.specs.History.{Looks, LooksThere, Fills, TellsNext, TellsPlace, WasNewest}
+use Rattle.kfifo_renewing.specs.History.{key_of, made, making_of, newest_of, place_count, label_of, shows}
+use Rattle.kfifo_renewing.proofs.Histories.{contains-later, contains-more, gone-later, made-append}
 use Rattle.kfifo_renewing.proofs.Histories.{newest-append, risen-more, risen-none, risen-was, was-later, was-less}
 use Rattle.kfifo_renewing.proofs.Histories.{was-made}
 
@@ -123,7 +123,14 @@ goes-by k v p f then cs after log more c a at set valid kept told = (
 first-only : (t : TableId) (e : Change) → Contains (making_of t ∷ []) e → (e ≡ making_of t → ⊥) → ⊥
 first-only t e has other = ⊎_elim (λ none. absurd (omega (arith, none.1))) other (contains-more [] (making_of t) e has)
 
--- no generation was put into a place
+-- an even number
+abbrev pub IsEven : ℕ → Type 0
+IsEven n = (half : ℕ) × (n ≡ half + half)
+
+pub even-by : (n : ℕ) → n % 2 ≡ 0 → IsEven n
+even-by n even = (n / 2, let whole = div-add-mod n 2 in omega (arith, whole, even))
+
+-- no generation was shown in a place
 first-place : (t : TableId) (i : ℕ) → TellsPlace (making_of t ∷ []) i 0
 first-place t i = record {
   there = λ n is. absurd (omega (arith, is));
@@ -143,11 +150,11 @@ first-holds t = record {
       (λ k. ((cell ((0, true) ∷ []) k).1 ≡ true) × TellsNext (making_of t ∷ []) k (cell ((0, true) ∷ []) k).0)
       (sym (was-made t n was))
       (refl, record { newest = λ none. refl; next = λ some. absurd (omega (arith, some)) });
-  placed = λ n some was. let first = was-made t n was in absurd (omega (arith, some, first));
+  placed = λ n some was below. let first = was-made t n was in absurd (omega (arith, some, first));
+  newest_there = λ n i is. absurd (first-only t (C.Placed n i) is (λ same. absurd cc));
   labelled = λ i inside. subst (λ (c : Cell). (c.1 ≡ true) × TellsPlace (making_of t ∷ []) i c.0)
       (sym (get_or-replicate place_count i (0, true) (0, false) inside)) (refl, first-place t i);
   gone = λ s is. absurd (first-only t (C.Gone s) is (λ same. absurd cc));
-  undone = λ n is. absurd (first-only t (C.Undone n) is (λ same. absurd cc));
 }
 
 pub kept_first : (t : TableId) → IsKept (replicate (place_count + 2) (0, true)) (making_of t ∷ [])
@@ -163,16 +170,10 @@ kept_first t =
 pub kept-risen : (cells : List Cell) (log : List Change) → IsKept cells log → HasRisen log
 kept-risen cells log kept = kept.holds.risen
 
--- a generation that was the newest and has left is gone
-pub kept-gone : (cells : List Cell) (log : List Change) (n : ℕ) → IsKept cells log → WasNewest log n → HasLeft log n
-    → IsGone log n
-kept-gone cells log n kept was (inl gone) = gone
-kept-gone cells log n kept was (inr undone) = (kept.holds.undone n undone).1 was
-
--- a generation that was the newest, but the first one, is in a place
+-- a generation that was the newest, but the first one and the newest, is in a place
 pub kept-placed : (cells : List Cell) (log : List Change) (n : ℕ) → IsKept cells log → 0 < n → WasNewest log n
-    → (i : ℕ) × (i < place_count) × IsPlaced log n i
-kept-placed cells log n kept some was = kept.holds.placed n some was
+    → n < newest_of log → (i : ℕ) × (i < place_count) × IsPlaced log n i
+kept-placed cells log n kept some was below = kept.holds.placed n some was below
 
 pub kept-below : (cells : List Cell) (log : List Change) (n : ℕ) → IsKept cells log → IsGone log n → n < newest_of log
 kept-below cells log n kept gone =
@@ -199,7 +200,7 @@ tells-same log e n w same t = record {
   next = λ some. ((t.next some).0, (t.next some).1, was-later log (log ++ e ∷ []) w (e ∷ [], refl) (t.next some).2);
 }
 
--- what the word of a place says stays so while an entry more puts nothing there
+-- what the word of a place says stays so while an entry more shows none there
 place-same : (log : List Change) (e : Change) (i w : ℕ) → ((n : ℕ) → e ≢ C.Placed n i) → TellsPlace log i w
     → TellsPlace (log ++ e ∷ []) i w
 place-same log e i w other t =
@@ -207,7 +208,7 @@ place-same log e i w other t =
     record {
       there = λ n is. contains-later log (log ++ e ∷ []) (C.Placed n i) more (t.there n is);
       stays = λ n is. ⊎_elim
-          (λ before. ⊎_elim inl (λ left. inr (left-later log (log ++ e ∷ []) n more left)) (t.stays n before))
+          (λ before. ⊎_elim inl (λ gone. inr (gone-later log (log ++ e ∷ []) n more gone)) (t.stays n before))
           (λ last. absurd (other n (sym last)))
           (contains-more log e (C.Placed n i) is);
       small = t.small;
@@ -219,12 +220,11 @@ pub holds-entry : (g : ℕ) (labels nexts labels' nexts' : List Cell) (log : Lis
     → made (e ∷ []) ≡ []
     → newest_of (log ++ e ∷ []) ≡ newest_of log → Holds log g labels nexts → length nexts' ≡ length nexts
     → ((n : ℕ) → WasNewest log n → cell nexts' n ≡ cell nexts n)
+    → ((n i : ℕ) → IsPlaced (log ++ e ∷ []) n i → WasNewest log n)
     → ((i : ℕ) → i < place_count → ((cell labels' i).1 ≡ true) × TellsPlace (log ++ e ∷ []) i (cell labels' i).0)
     → ((s : Sealed) → Contains (log ++ e ∷ []) (C.Gone s) → s.number < newest_of log)
-    → ((n : ℕ) → IsUndone (log ++ e ∷ []) n → WillNotBeNewest log g nexts' n
-    × (WasNewest log n → IsGone (log ++ e ∷ []) n))
     → Holds (log ++ e ∷ []) g labels' nexts'
-holds-entry g labels nexts labels' nexts' log e none same h long words labelled gone undone = record {
+holds-entry g labels nexts labels' nexts' log e none same h long words there labelled gone = record {
   count = ap length (made-append log (e ∷ []) ∙ ap (λ l. made log ++ l) none ∙ append-nil (made log)) ∙ h.count;
   each = long ∙ h.each;
   newest = subst (λ n. n ≤ g) (sym same) h.newest;
@@ -235,36 +235,28 @@ holds-entry g labels nexts labels' nexts' log e none same h long words labelled 
       let t = h.told n before in
       subst (λ c. (c.1 ≡ true) × TellsNext (log ++ e ∷ []) n c.0) (sym (words n before))
       (t.0, tells-same log e n (cell nexts n).0 same t.1);
-  placed = λ n some was.
-      let p = h.placed n some (was-less log e n same was) in
+  placed = λ n some was below.
+      let p = h.placed n some (was-less log e n same was) (subst (λ k. n < k) same below) in
       (p.0, p.1, contains-later log (log ++ e ∷ []) (C.Placed n p.0) (e ∷ [], refl) p.2);
+  newest_there = λ n i is. was-later log (log ++ e ∷ []) n (e ∷ [], refl) (there n i is);
   labelled = labelled;
   gone = λ s is. subst (λ k. s.number < k) (sym same) (gone s is);
-  undone = λ n is. (
-    ⊎_elim (λ low. inl (subst (λ k. n < k) (sym same) low)) inr (undone n is).0,
-    λ was. (undone n is).1 (was-less log e n same was),
-  );
 }
 
--- what was said of generations that have left is still said, where the entry more is of none
+-- what was said of generations that have gone is still said, where the entry more is of none
 pub gone-same : (g : ℕ) (labels nexts : List Cell) (log : List Change) (e : Change) → ((s : Sealed) → e ≢ C.Gone s)
     → Holds log g labels nexts
     → (s : Sealed) → Contains (log ++ e ∷ []) (C.Gone s) → s.number < newest_of log
 gone-same g labels nexts log e other h s is =
     ⊎_elim (λ before. h.gone s before) (λ last. absurd (other s (sym last))) (contains-more log e (C.Gone s) is)
 
-pub undone-more : (log : List Change) (e : Change) (g : ℕ) (nexts : List Cell) (n : ℕ)
-    → WillNotBeNewest log g nexts n × (WasNewest log n → IsGone log n)
-    → WillNotBeNewest log g nexts n × (WasNewest log n → IsGone (log ++ e ∷ []) n)
-undone-more log e g nexts n u = (u.0, λ was. gone-later log (log ++ e ∷ []) n (e ∷ [], refl) (u.1 was))
-
-pub undone-same : (g : ℕ) (labels nexts : List Cell) (log : List Change) (e : Change) → ((n : ℕ) → e ≢ C.Undone n)
-    → Holds log g labels nexts
-    → (n : ℕ) → IsUndone (log ++ e ∷ []) n → WillNotBeNewest log g nexts n
-    × (WasNewest log n → IsGone (log ++ e ∷ []) n)
-undone-same g labels nexts log e other h n is =
-    ⊎_elim (λ before. undone-more log e g nexts n (h.undone n before)) (λ last. absurd (other n (sym last)))
-    (contains-more log e (C.Undone n) is)
+-- what is in a place was the newest, where the entry more shows none
+pub there-same : (g : ℕ) (labels nexts : List Cell) (log : List Change) (e : Change)
+    → ((n i : ℕ) → e ≢ C.Placed n i) → Holds log g labels nexts
+    → (n i : ℕ) → IsPlaced (log ++ e ∷ []) n i → WasNewest log n
+there-same g labels nexts log e other h n i is =
+    ⊎_elim (λ before. h.newest_there n i before) (λ last. absurd (other n i (sym last)))
+    (contains-more log e (C.Placed n i) is)
 
 pub labelled-same : (g : ℕ) (labels nexts : List Cell) (log : List Change) (e : Change) → ((n i : ℕ) → e ≢ C.Placed n i)
     → Holds log g labels nexts
@@ -306,9 +298,9 @@ look-holds : (g : ℕ) (labels nexts : List Cell) (log : List Change) (sight : S
 look-holds g labels nexts log sight h =
     let e = C.Look sight in
     holds-entry g labels nexts labels nexts log e refl (newest-append 0 log (e ∷ [])) h refl (λ n was. refl)
+    (there-same g labels nexts log e (λ n i is. absurd cc) h)
     (labelled-same g labels nexts log e (λ n i is. absurd cc) h)
     (gone-same g labels nexts log e (λ n is. absurd cc) h)
-    (undone-same g labels nexts log e (λ n is. absurd cc) h)
 
 looks-goes : (v log : List Change) (sight : Sight) (n g : ℕ) (labels nexts : List Cell) → length labels ≡ place_count
     → IsPrefix v log → WasNewest log n
@@ -425,83 +417,85 @@ placed-same n m i j e = (cc, cc)
 pub gone-number : (s t : Sealed) → C.Gone s ≡ C.Gone t → s.number ≡ t.number
 gone-number s t e = cc
 
-pub undone-number : (n m : ℕ) → C.Undone n ≡ C.Undone m → n ≡ m
-undone-number n m e = cc
-
-puts-goes : (v log : List Change) (p : Nib) (n i g : ℕ) (a : Change) (labels nexts : List Cell)
+shows-goes : (v log : List Change) (p : Nib) (n i none g : ℕ) (a : Change) (labels nexts : List Cell)
     → length labels ≡ place_count → i < place_count
-    → n < 2 ^ 32 → Holds log g labels nexts → (b : Bool) → ((cell labels i).0 == 0) ≡ b
-    → Goes IsKept shown moved (label_of i) (v, (p, None)) (λ k. either (k == 0) (suc n) k)
-    (Fills (step (label_of i) 0 (suc n) a) (v, (p, None))) (words-of g labels nexts) log
-puts-goes v log p n i g a labels nexts all inside few h true found =
+    → n < 2 ^ 32 → IsEven none → WasNewest log n → Holds log g labels nexts → (b : Bool)
+    → ((cell labels i).0 == none) ≡ b
+    → Goes IsKept shown moved (label_of i) (v, (p, None)) (λ k. either (k == none) (shows n) k)
+    (Fills (step (label_of i) none (shows n) a) (v, (p, None))) (words-of g labels nexts) log
+shows-goes v log p n i none g a labels nexts all inside few (half, even) was h true found =
     let e = C.Placed n i in
-    let empty : (cell labels i).0 ≡ 0 = grind (arith, nat_tests) in
+    let empty : (cell labels i).0 ≡ none = grind (arith, nat_tests) in
     let below : i < length labels = omega (arith, inside, all) in
     let same : newest_of (log ++ e ∷ []) ≡ newest_of log = newest-append 0 log (e ∷ []) in
-    let here : TellsPlace (log ++ e ∷ []) i (suc n) = record {
+    let here : TellsPlace (log ++ e ∷ []) i (shows n) = record {
       there = λ m is.
           let number : n ≡ m = omega (arith, is) in
           subst (λ k. IsPlaced (log ++ e ∷ []) k i) number (Contains-push log e);
       stays = λ m is. ⊎_elim
           (λ before. ⊎_elim
-          (λ at. absurd (omega (arith, at, empty)))
-          (λ left. inr (left-later log (log ++ e ∷ []) m (e ∷ [], refl) left))
+          (λ at. absurd (omega (arith, at, empty, even)))
+          (λ gone. inr (gone-later log (log ++ e ∷ []) m (e ∷ [], refl) gone))
           ((h.labelled i inside).1.stays m before))
-          (λ last. inl (ap suc (sym (placed-same m n i i last).0)))
+          (λ last. inl (ap shows (sym (placed-same m n i i last).0)))
           (contains-more log e (C.Placed m i) is);
       small = omega (arith, few);
     } in
-    goes-by (label_of i) v p (λ k. either (k == 0) (suc n) k) (Fills (step (label_of i) 0 (suc n) a) (v, (p, None)))
-    (words-of g labels nexts) (words-of g (slice_set labels i (suc n, true)) nexts) log (e ∷ []) (cell labels i) keeps
-    (label-at g labels nexts i below) (rw found (set-label g labels nexts i (suc n, true) below)) tt
-    (kept-of g (slice_set labels i (suc n, true)) nexts (log ++ e ∷ []) (length-set labels i (suc n, true) ∙ all)
-    (holds-entry g labels nexts (slice_set labels i (suc n, true)) nexts log e refl same h refl (λ m was. refl)
-    (λ j in-it. label-written g labels nexts log e i (suc n) all
+    goes-by (label_of i) v p (λ k. either (k == none) (shows n) k)
+    (Fills (step (label_of i) none (shows n) a) (v, (p, None)))
+    (words-of g labels nexts) (words-of g (slice_set labels i (shows n, true)) nexts) log (e ∷ []) (cell labels i) keeps
+    (label-at g labels nexts i below) (rw found (set-label g labels nexts i (shows n, true) below)) tt
+    (kept-of g (slice_set labels i (shows n, true)) nexts (log ++ e ∷ []) (length-set labels i (shows n, true) ∙ all)
+    (holds-entry g labels nexts (slice_set labels i (shows n, true)) nexts log e refl same h refl (λ m was. refl)
+    (λ m j is. ⊎_elim (h.newest_there m j)
+    (λ last. subst (WasNewest log) (sym (placed-same m n j i last).0) was) (contains-more log e (C.Placed m j) is))
+    (λ j in-it. label-written g labels nexts log e i (shows n) all
     (λ m k apart at. absurd (apart (sym (placed-same n m i k at).1))) h here j in-it (j == i) refl)
-    (gone-same g labels nexts log e (λ t is. absurd cc) h)
-    (undone-same g labels nexts log e (λ m is. absurd cc) h)))
+    (gone-same g labels nexts log e (λ t is. absurd cc) h)))
     (λ m j number at is.
     let number-is : n ≡ m = omega (arith, number) in
     let place-is : i ≡ j = omega (arith, at) in
     subst (λ k. IsPlaced (log ++ e ∷ []) m k) place-is
     (subst (λ k. IsPlaced (log ++ e ∷ []) k i) number-is (Contains-push log e)))
-puts-goes v log p n i g a labels nexts all inside few h false found =
-    place-stays v log p i 0 (suc n) g labels nexts (Fills (step (label_of i) 0 (suc n) a) (v, (p, None))) all inside h
-    found
-    (λ m j number at is. absurd (let other : (cell labels i).0 ≡ 0 → ⊥ = λ same. grind (arith, nat_tests) in other is))
+shows-goes v log p n i none g a labels nexts all inside few even was h false found =
+    place-stays v log p i none (shows n) g labels nexts (Fills (step (label_of i) none (shows n) a) (v, (p, None))) all
+    inside h found
+    (λ m j number at is.
+    absurd (let other : (cell labels i).0 ≡ none → ⊥ = λ same. grind (arith, nat_tests) in other is))
 
--- a generation is put into a place, or nothing happens
-pub puts-moves : (v : List Change) (p : Nib) (n i : ℕ) (a : Change) → i < place_count → n < 2 ^ 32
-    → Moves IsKept shown moved (label_of i) (v, (p, None)) (λ k. either (k == 0) (suc n) k)
-    (Fills (step (label_of i) 0 (suc n) a) (v, (p, None)))
-puts-moves v p n i a inside few cs log kept pre away =
+-- a generation is shown in a place where none is, or nothing happens
+pub shows-moves : (v : List Change) (p : Nib) (n i none : ℕ) (a : Change) → i < place_count → n < 2 ^ 32 → IsEven none
+    → WasNewest v n
+    → Moves IsKept shown moved (label_of i) (v, (p, None)) (λ k. either (k == none) (shows n) k)
+    (Fills (step (label_of i) none (shows n) a) (v, (p, None)))
+shows-moves v p n i none a inside few even was cs log kept pre away =
     let g = kept.greatest in
     let P : List Cell → Type 0 = λ c. (label_of i < length c) × ((cell c (label_of i)).1 ≡ true)
-    × Goes IsKept shown moved (label_of i) (v, (p, None)) (λ k. either (k == 0) (suc n) k)
-    (Fills (step (label_of i) 0 (suc n) a) (v, (p, None))) c log in
+    × Goes IsKept shown moved (label_of i) (v, (p, None)) (λ k. either (k == none) (shows n) k)
+    (Fills (step (label_of i) none (shows n) a) (v, (p, None))) c log in
     subst P (sym kept.words) (
       label-within g kept.labels kept.nexts i kept.all inside,
       ap (λ c. c.1) (label-at g kept.labels kept.nexts i (let all = kept.all in omega (arith, inside, all)))
           ∙ (kept.holds.labelled i inside).0,
-      puts-goes v log p n i g a kept.labels kept.nexts kept.all inside few kept.holds ((cell kept.labels i).0 == 0)
-          refl,
+      shows-goes v log p n i none g a kept.labels kept.nexts kept.all inside few even (was-later v log n pre was)
+          kept.holds ((cell kept.labels i).0 == none) refl,
     )
 
 -- what the word of a place says is what a look finds
 pub found-there : (place found : ℕ) (answer : Option ℕ) (old new : List Change) → TellsPlace new place found
     → IsPrefix old new
-    → ((n : ℕ) → answer ≡ Some n → found ≡ suc n) → ((n : ℕ) → found ≡ suc n → answer ≡ Some n)
+    → ((n : ℕ) → answer ≡ Some n → found ≡ shows n) → ((n : ℕ) → found ≡ shows n → answer ≡ Some n)
     → FindsThere place answer old new
 found-there place found answer old new t more same back = record {
   there = λ n is. t.there n (same n is);
-  left = λ n is other. ⊎_elim (λ here. absurd (other (back n here))) (λ left. left)
+  left = λ n is other. ⊎_elim (λ here. absurd (other (back n here))) (λ gone. gone)
       (t.stays n (contains-later old new (C.Placed n place) more is));
 }
 
 -- whether a look at a place found the generation with this number
 pub has-found : (i n found : ℕ) (old new : List Change) → FindsThere i (Some found) old new → (b : Bool)
     → (found == n) ≡ b
-    → MatchBool b (IsPlaced new n i) (IsPlaced old n i → HasLeft new n)
+    → MatchBool b (IsPlaced new n i) (IsPlaced old n i → IsGone new n)
 has-found i n found old new finds true is =
     let same : found ≡ n = grind (arith, nat_tests) in
     finds.there n (ap Some same)
@@ -509,5 +503,5 @@ has-found i n found old new finds false is =
     let other : found ≢ n = λ same. grind (arith, nat_tests) in
     λ there. finds.left n there (λ same. other cc)
 
-pub has-none : (i n : ℕ) (old new : List Change) → FindsThere i None old new → IsPlaced old n i → HasLeft new n
+pub has-none : (i n : ℕ) (old new : List Change) → FindsThere i None old new → IsPlaced old n i → IsGone new n
 has-none i n old new finds there = finds.left n there (λ same. absurd cc)

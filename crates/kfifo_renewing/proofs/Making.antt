@@ -1,7 +1,8 @@
 -- Steps that make a generation, or make one the newest, keep the rule of the history.
-use Rattle.std.proofs.Common.{◌≡◌, ◌≢◌, ◌+◌, ◌<◌, ◌^◌, ◌==◌, ⊎_elim, ℕ, suc, Bool, true, false, List, [], ◌∷◌, ◌++◌}
+use Rattle.std.proofs.Common.{◌≡◌, ◌≢◌, ◌+◌, ◌<◌, ◌≤◌, ◌⊎◌, ◌^◌, ◌==◌, ⊎_elim, ℕ, suc, Bool, true, false, List, [], ◌∷◌, ◌++◌}
 use Rattle.std.proofs.Common.{length, None, Some, slice_get, slice_set, refl, sym, ap, ◌∙◌, subst, arith, inl, inr}
 use Rattle.std.proofs.Common.{append_assoc, length-append}
+use Rattle.std.proofs.lemmas.Bool.{cases_lt}
 use Rattle.std.proofs.lemmas.Bool.Decides.{nat_tests}
 use Rattle.std.proofs.lemmas.List.{append-nil, get_or_append_left, get_or-set_other, get_or-set_same, length-set}
 use Rattle.atomic_table.specs.Seated.{TableId}
@@ -16,10 +17,18 @@ use Rattle.kfifo_renewing.specs.History.{newest_of, place_count}
 use Rattle.kfifo_renewing.proofs.Histories.{contains-later, get-last, made-append, newest-append}
 use Rattle.kfifo_renewing.proofs.Histories.{risen-more, risen-was, was-later, was-less}
 use Rattle.kfifo_renewing.proofs.Histories.{was-more, was-now}
-use Rattle.kfifo_renewing.proofs.Keeping.{goes-by, gone-same, home-set, kept-of, labelled-same, load-same, moved}
-use Rattle.kfifo_renewing.proofs.Keeping.{next-at, next-within, set-next, shown, table-same, tells-same, undone-same}
+use Rattle.kfifo_renewing.proofs.Keeping.{goes-by, gone-same, kept-of, labelled-same, load-same, moved, there-same}
+use Rattle.kfifo_renewing.proofs.Keeping.{next-at, next-within, set-next, shown, table-same, tells-same}
 use Rattle.kfifo_renewing.proofs.Keeping.{within, words-of}
-use Rattle.kfifo_renewing.proofs.Emptying.{away-next}
+
+-- the pen of a word that is not at home
+away-next : (g : ℕ) (labels nexts : List Cell) (n : ℕ) → length labels ≡ place_count
+    → Away (nib may_write (key_of n) 0) (words-of g labels nexts)
+    → (n < length nexts) × ((cell nexts n).1 ≡ false)
+away-next g labels nexts n all away =
+    let a = away refl in
+    let long = length-append labels nexts in
+    (let below = a.0 in omega (arith, below, long, all), sym (ap (λ c. c.1) (next-at g labels nexts n all)) ∙ a.1)
 
 -- a word more, of a generation that was never the newest
 holds-made : (g : ℕ) (labels nexts : List Cell) (log : List Change) (t : TableId) → g + 1 < 2 ^ 32
@@ -42,22 +51,13 @@ holds-made g labels nexts log t room h =
           subst (λ c. (c.1 ≡ true) × TellsNext (log ++ e ∷ []) n c.0)
           (sym (first n (within g labels nexts log n h before)))
           (t.0, tells-same log e n (cell nexts n).0 same t.1);
-      placed = λ n some was.
-          let p = h.placed n some (was-less log e n same was) in
+      placed = λ n some was below.
+          let p = h.placed n some (was-less log e n same was) (subst (λ k. n < k) same below) in
           (p.0, p.1, contains-later log (log ++ e ∷ []) (C.Placed n p.0) (e ∷ [], refl) p.2);
+      newest_there = λ n i is. was-later log (log ++ e ∷ []) n (e ∷ [], refl)
+          (there-same g labels nexts log e (λ m j at. absurd cc) h n i is);
       labelled = labelled-same g labels nexts log e (λ n i is. absurd cc) h;
       gone = λ s is. subst (λ k. s.number < k) (sym same) (gone-same g labels nexts log e (λ t is. absurd cc) h s is);
-      undone = λ n is.
-          let u = undone-same g labels nexts log e (λ m is. absurd cc) h n is in (
-            ⊎_elim
-                (λ low. inl (subst (λ k. n < k) (sym same) low))
-                (λ out. inr (
-                  let low = out.0 in omega (arith, low),
-                  ap (λ c. c.1) (first n (let low = out.0 in let each = h.each in omega (arith, low, each))) ∙ out.1,
-                ))
-                u.0,
-            λ was. u.1 (was-less log e n same was),
-          );
     }
 
 numbers-goes : (v log : List Change) (p : Nib) (t : TableId) (old g : ℕ) (labels nexts : List Cell)
@@ -173,12 +173,25 @@ tells-renewed g labels nexts log n m x h is above made-it now was =
     (refl, record { newest = λ none. now; next = λ some. absurd (omega (arith, some)) })))
     (was-more log (C.Newest m) x was)
 
--- the rule once generation m, which is in a place, has become the newest after n
+-- each generation that was the newest before n is in a place, and so is n
+placed-before : (g : ℕ) (labels nexts : List Cell) (log : List Change) (n m i x : ℕ) → Holds log g labels nexts
+    → newest_of log ≡ n → i < place_count → IsPlaced log n i → 0 < x → WasNewest log x → (x < n) ⊎ (n ≤ x)
+    → (j : ℕ) × (j < place_count) × IsPlaced (log ++ C.Newest m ∷ []) x j
+placed-before g labels nexts log n m i x h is inside there some was (inl below) =
+    let p = h.placed x some was (omega (arith, below, is)) in
+    (p.0, p.1, contains-later log (log ++ C.Newest m ∷ []) (C.Placed x p.0) (C.Newest m ∷ [], refl) p.2)
+placed-before g labels nexts log n m i x h is inside there some was (inr above) =
+    let up = risen-was log x h.risen was in
+    let same : n ≡ x = omega (arith, above, up, is) in
+    subst (λ k. (j : ℕ) × (j < place_count) × IsPlaced (log ++ C.Newest m ∷ []) k j) same
+    (i, inside, contains-later log (log ++ C.Newest m ∷ []) (C.Placed n i) (C.Newest m ∷ [], refl) there)
+
+-- the rule once generation m has become the newest after n, which is in a place
 renewed-holds : (g : ℕ) (labels nexts : List Cell) (log : List Change) (n m i : ℕ) → Holds log g labels nexts
     → newest_of log ≡ n → n < m
-    → m < length nexts → (cell nexts m).1 ≡ false → i < place_count → IsPlaced log m i
+    → m < length nexts → i < place_count → IsPlaced log n i
     → Holds (log ++ C.Newest m ∷ []) g labels (renewed nexts n m)
-renewed-holds g labels nexts log n m i h is above made-it away inside there =
+renewed-holds g labels nexts log n m i h is above made-it inside there =
     let e = C.Newest m in
     let more : IsPrefix log (log ++ e ∷ []) = (e ∷ [], refl) in
     let now : newest_of (log ++ e ∷ []) ≡ m = newest-append 0 log (e ∷ []) in
@@ -190,43 +203,26 @@ renewed-holds g labels nexts log n m i h is above made-it away inside there =
       risen = risen-more log e (omega (arith, now, is, above)) h.risen;
       small = h.small;
       told = λ x was. tells-renewed g labels nexts log n m x h is above made-it now was;
-      placed = λ x some was. ⊎_elim
-          (λ before. let p =
-          h.placed x some before in (p.0, p.1, contains-later log (log ++ e ∷ []) (C.Placed x p.0) more p.2))
-          (λ last. subst (λ k. (j : ℕ) × (j < place_count) × IsPlaced (log ++ e ∷ []) k j) (sym (last ∙ now))
-          (i, inside, contains-later log (log ++ e ∷ []) (C.Placed m i) more there))
-          (was-more log e x was);
+      placed = λ x some was below.
+          let before : WasNewest log x = ⊎_elim (λ b. b) (λ last. absurd (omega (arith, below, last)))
+          (was-more log e x was) in
+          placed-before g labels nexts log n m i x h is inside there some before (cases_lt x n);
+      newest_there = λ x j is. was-later log (log ++ e ∷ []) x more
+          (there-same g labels nexts log e (λ y k at. absurd cc) h x j is);
       labelled = labelled-same g labels nexts log e (λ x j is. absurd cc) h;
       gone = λ s gone.
           let below = gone-same g labels nexts log e (λ t is. absurd cc) h s gone in
           omega (arith, below, is, above, now);
-      undone = λ x undone.
-          let u = undone-same g labels nexts log e (λ k is. absurd cc) h x undone in (
-            ⊎_elim
-                (λ low. inl (omega (arith, low, is, above, now)))
-                (λ out. inr (
-                  out.0,
-                  home-set (slice_set nexts n (m, true)) m 0 x
-                      (home-set nexts n m x out.1 (x == n) refl) (x == m) refl,
-                ))
-                u.0,
-            λ was. ⊎_elim u.1
-                (λ last. absurd (⊎_elim
-                (λ low. omega (arith, low, last, now, is, above))
-                (λ out. let home = subst (λ k. (cell nexts k).1 ≡ true) (last ∙ now) out.1 in cc (home, away))
-                u.0))
-                (was-more log e x was),
-          );
     }
 
 renews-goes : (v log : List Change) (n m i g : ℕ) (a : Change) (labels nexts : List Cell) → length labels ≡ place_count
     → WasNewest log n → n < m
-    → i < place_count → IsPlaced log m i → m < length nexts → (cell nexts m).1 ≡ false → Holds log g labels nexts
+    → i < place_count → IsPlaced log n i → m < length nexts → Holds log g labels nexts
     → (b : Bool)
     → ((cell nexts n).0 == 0) ≡ b
     → Goes IsKept shown moved (key_of n) (v, (nib may_write (key_of m) 0, None)) (λ k. either (k == 0) m k)
     (Renews (step (key_of n) 0 m a) (v, (nib may_write (key_of m) 0, None))) (words-of g labels nexts) log
-renews-goes v log n m i g a labels nexts all was above inside there made-it away h true found =
+renews-goes v log n m i g a labels nexts all was above inside there made-it h true found =
     let p = nib may_write (key_of m) 0 in
     let told = h.told n was in
     let newest : newest_of log ≡ n = told.1.newest (grind (arith, nat_tests)) in
@@ -238,12 +234,12 @@ renews-goes v log n m i g a labels nexts all was above inside there made-it away
     (rw found (set-next g labels nexts n (m, true) all)) refl
     (subst (λ l. IsKept l (log ++ e ∷ [])) (sym (set-next g labels (slice_set nexts n (m, true)) m (0, true) all))
     (kept-of g labels (renewed nexts n m) (log ++ e ∷ []) all
-    (renewed-holds g labels nexts log n m i h newest above made-it away inside there))) (
+    (renewed-holds g labels nexts log n m i h newest above made-it inside there))) (
       λ same. subst (WasNewest (log ++ e ∷ [])) now (was-now (log ++ e ∷ [])),
       λ other.
           absurd (other (grind (arith, nat_tests))),
     )
-renews-goes v log n m i g a labels nexts all was above inside there made-it away h false found =
+renews-goes v log n m i g a labels nexts all was above inside there made-it h false found =
     let p = nib may_write (key_of m) 0 in
     let none : log ++ [] ≡ log = append-nil log in
     let other : (cell nexts n).0 ≡ 0 → ⊥ = λ same. grind (arith, nat_tests) in
@@ -256,8 +252,8 @@ renews-goes v log n m i g a labels nexts all was above inside there made-it away
     (subst (IsKept (words-of g labels nexts)) (sym none) (kept-of g labels nexts log all h))
     (λ same. absurd (other same), λ apart. refl)
 
--- a generation that is in a place becomes the newest after n, or nothing happens
-pub renews-moves : (v : List Change) (n m i : ℕ) (a : Change) → WasNewest v n → n < m → i < place_count → IsPlaced v m i
+-- a generation becomes the newest after n, which is in a place, or nothing happens
+pub renews-moves : (v : List Change) (n m i : ℕ) (a : Change) → WasNewest v n → n < m → i < place_count → IsPlaced v n i
     → Moves IsKept shown moved (key_of n) (v, (nib may_write (key_of m) 0, None)) (λ k. either (k == 0) m k)
     (Renews (step (key_of n) 0 m a) (v, (nib may_write (key_of m) 0, None)))
 renews-moves v n m i a was above inside there cs log kept pre away =
@@ -272,5 +268,5 @@ renews-moves v n m i a was above inside there cs log kept pre away =
       next-within g kept.labels kept.nexts n kept.all (within g kept.labels kept.nexts log n kept.holds then),
       ap (λ c. c.1) (next-at g kept.labels kept.nexts n kept.all) ∙ (kept.holds.told n then).0,
       renews-goes v log n m i g a kept.labels kept.nexts kept.all then above inside
-          (contains-later v log (C.Placed m i) pre there) out.0 out.1 kept.holds ((cell kept.nexts n).0 == 0) refl,
+          (contains-later v log (C.Placed n i) pre there) out.0 kept.holds ((cell kept.nexts n).0 == 0) refl,
     )

@@ -101,4 +101,5 @@ module _ {T : Type 0} where
   -- What a close by these handles returned, as `ClosesAll` says of payloads
   abbrev pub ClosesAllCells : List (Generations T) → List (List ℕ) → Type 0
   ClosesAllCells handles left = (last : Generations T) × (others : List (Generations T))
-      × (handles ≡ others ++ last ∷ []) × (all : List (HeldIn T)) × Gathers last all × LeavesCells others all left
+      × (handles ≡ others ++ last ∷ []) × (all : List (HeldIn T)) × Gathers others last all
+      × LeavesCells others all left

@@ -26,7 +26,6 @@ made (C.Newest n ∷ log) = made log
 made (C.Look sight ∷ log) = made log
 made (C.Placed n i ∷ log) = made log
 made (C.Gone sealed ∷ log) = made log
-made (C.Undone n ∷ log) = made log
 
 -- the number of the newest generation, if that of before is this
 abbrev pub newest_after : ℕ → List Change → ℕ
@@ -36,7 +35,6 @@ newest_after n (C.Newest m ∷ log) = newest_after m log
 newest_after n (C.Look sight ∷ log) = newest_after n log
 newest_after n (C.Placed m i ∷ log) = newest_after n log
 newest_after n (C.Gone sealed ∷ log) = newest_after n log
-newest_after n (C.Undone m ∷ log) = newest_after n log
 
 -- the number of the newest generation: at first that of the first one
 abbrev pub newest_of : List Change → ℕ
@@ -55,7 +53,7 @@ abbrev pub HasRisen : List Change → Type 0
 HasRisen log = (before more after : List Change) → log ≡ (before ++ more) ++ after
     → newest_of before ≤ newest_of (before ++ more)
 
--- the generation with this number was put into this place
+-- the generation with this number, which was the newest, was shown in this place
 abbrev pub IsPlaced : List Change → ℕ → ℕ → Type 0
 IsPlaced log n place = Contains log (C.Placed n place)
 
@@ -68,14 +66,6 @@ pub record IsGone (log : List Change) (n : ℕ) : Type 0 where
   pub made : IsMade log n sealed.queue.table
   pub empty : SealedEmpty sealed.shape sealed.threads sealed.seen
 
--- The generation with this number went from its place: it will never be the newest, or has gone
-abbrev pub IsUndone : List Change → ℕ → Type 0
-IsUndone log n = Contains log (C.Undone n)
-
--- the generation with this number is in its place no more
-abbrev pub HasLeft : List Change → ℕ → Type 0
-HasLeft log n = IsGone log n ⊎ IsUndone log n
-
 -- how many places there are
 abbrev pub place_count : ℕ
 place_count = 130
@@ -86,16 +76,15 @@ pub record TellsNext (log : List Change) (n word : ℕ) : Type 0 where
   pub newest : word ≡ 0 → newest_of log ≡ n
   pub next : 0 < word → (n < word) × (word < 2 ^ 32) × WasNewest log word
 
--- What the word of a place says: 0, or one more than the number of the generation that is there. A generation stays
--- there until it has left
-pub record TellsPlace (log : List Change) (place word : ℕ) : Type 0 where
-  pub there : (n : ℕ) → word ≡ suc n → IsPlaced log n place
-  pub stays : (n : ℕ) → IsPlaced log n place → (word ≡ suc n) ⊎ HasLeft log n
-  pub small : word ≤ 2 ^ 32
+-- what the word of a place says of the generation that is there
+abbrev pub shows : ℕ → ℕ
+shows n = n + n + 1
 
--- the generation with this number can become the newest no more: a later one is, or the pen of its word was used up
-abbrev pub WillNotBeNewest : List Change → ℕ → List Cell → ℕ → Type 0
-WillNotBeNewest log greatest nexts n = (n < newest_of log) ⊎ ((n ≤ greatest) × ((cell nexts n).1 ≡ true))
+-- What the word of a place says: which generation is there, or none. A generation stays there until it has gone
+pub record TellsPlace (log : List Change) (place word : ℕ) : Type 0 where
+  pub there : (n : ℕ) → word ≡ shows n → IsPlaced log n place
+  pub stays : (n : ℕ) → IsPlaced log n place → (word ≡ shows n) ⊎ IsGone log n
+  pub small : word ≤ 2 ^ 33
 
 -- What holds of the words and of the history at each moment: of the greatest number of a generation that was made, of
 -- the words of the places, and of the words of the generations
@@ -106,10 +95,10 @@ pub record Holds (log : List Change) (greatest : ℕ) (labels nexts : List Cell)
   pub risen : HasRisen log
   pub small : greatest < 2 ^ 32
   pub told : (n : ℕ) → WasNewest log n → ((cell nexts n).1 ≡ true) × TellsNext log n (cell nexts n).0
-  pub placed : (n : ℕ) → 0 < n → WasNewest log n → (i : ℕ) × (i < place_count) × IsPlaced log n i
+  pub placed : (n : ℕ) → 0 < n → WasNewest log n → n < newest_of log → (i : ℕ) × (i < place_count) × IsPlaced log n i
+  pub newest_there : (n i : ℕ) → IsPlaced log n i → WasNewest log n
   pub labelled : (i : ℕ) → i < place_count → ((cell labels i).1 ≡ true) × TellsPlace log i (cell labels i).0
   pub gone : (sealed : Sealed) → Contains log (C.Gone sealed) → sealed.number < newest_of log
-  pub undone : (n : ℕ) → IsUndone log n → WillNotBeNewest log greatest nexts n × (WasNewest log n → IsGone log n)
 
 -- The words of a book in their order: the greatest number, the words of the places, and those of the generations
 pub record IsKept (cells : List Cell) (log : List Change) : Type 0 where
@@ -178,11 +167,11 @@ pub record Finds (sight : Sight) (n found : ℕ) (old new : List Change) : Type 
   pub small : found < 2 ^ 32
   pub risen : HasRisen new
 
--- What a look at a place found, between these two beginnings of the history: the number of a generation that was put
--- there, or none. Each other one that was put there has left
+-- What a look at a place found, between these two beginnings of the history: the number of a generation that was shown
+-- there, or none. Each other one that was shown there has gone
 pub record FindsThere (place : ℕ) (found : Option ℕ) (old new : List Change) : Type 0 where
   pub there : (n : ℕ) → found ≡ Some n → IsPlaced new n place
-  pub left : (n : ℕ) → IsPlaced old n place → found ≢ Some n → HasLeft new n
+  pub left : (n : ℕ) → IsPlaced old n place → found ≢ Some n → IsGone new n
 
 -- what a look tells
 abbrev pub Looks : Step Change → View Change ℕ → ℕ → View Change ℕ → Type 0
@@ -203,10 +192,10 @@ abbrev pub LooksThere : Step Change → View Change ℕ → ℕ → View Change 
 LooksThere s v found w = (place : ℕ) → s.key ≡ label_of place
     → TellsPlace w.0 place found × IsPrefix v.0 w.0 × ((cells : List Cell) × IsKept cells w.0)
 
--- what a step tells that puts a generation into a place: where it did, that is there
+-- what a step tells that shows a generation in a place: where it did, that is there
 abbrev pub Fills : Step Change → View Change ℕ → ℕ → View Change ℕ → Type 0
-Fills s v found w = (n place : ℕ) → s.new ≡ suc n → s.key ≡ label_of place → found ≡ s.old → IsPlaced w.0 n place
+Fills s v found w = (n place : ℕ) → s.new ≡ shows n → s.key ≡ label_of place → found ≡ s.old → IsPlaced w.0 n place
 
--- what a step tells that takes a generation from its place: it has left
+-- what a step tells that takes a generation from its place: it has gone
 abbrev pub Empties : Step Change → View Change ℕ → ℕ → View Change ℕ → Type 0
-Empties s v found w = (n place : ℕ) → s.old ≡ suc n → s.key ≡ label_of place → IsPlaced v.0 n place → HasLeft w.0 n
+Empties s v found w = (n place : ℕ) → s.old ≡ shows n → s.key ≡ label_of place → IsPlaced v.0 n place → IsGone w.0 n

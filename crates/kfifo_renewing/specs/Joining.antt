@@ -5,7 +5,7 @@ use Rattle.logbook.specs.Pages.{Book}
 use Rattle.kfifo_pool.specs.Pooled.{Pooled, no_cells}
 use Rattle.kfifo_live.specs.Pass.{IsPassOf, IsSamePass, IsSealedEmpty}
 use Rattle.kfifo_live.specs.declared.view.Opening.{Opening}
-use Rattle.kfifo_renewing.specs.History.{HasLeft, HasRisen, IsGone, IsMade, IsPlaced, WasNewest, place_count}
+use Rattle.kfifo_renewing.specs.History.{HasRisen, IsGone, IsMade, IsPlaced, WasNewest, place_count}
 use Rattle.kfifo_renewing.specs.Renewing.{Generations, HeldIn, IsFresh, IsOpenedAs, Numbered, all_of}
 use Rattle.kfifo_renewing.specs.declared.change.Change.{Change}
 
@@ -61,10 +61,10 @@ module _ {T : Type 0} where
   abbrev pub HasNumber : List (PartView T) → ℕ → Type 0
   HasNumber parts n = (p : PartView T) × Contains parts p × (p.number ≡ n)
 
-  -- Each generation that was the newest has left its place, or one of these parts is in it: of those between these
-  -- numbers, and as two beginnings of the history tell
+  -- Each generation that was the newest has gone, or one of these parts is in it: of those between these numbers, and as
+  -- two beginnings of the history tell
   abbrev pub AreAmong : ℕ → ℕ → List (PartView T) → List Change → List Change → Type 0
-  AreAmong first end parts old new = (n : ℕ) → first < n → n < end → WasNewest old n → HasLeft new n ⊎ HasNumber parts n
+  AreAmong first end parts old new = (n : ℕ) → first < n → n < end → WasNewest old n → IsGone new n ⊎ HasNumber parts n
 
   -- handles in one generation
   abbrev pub IsBeside : Pooled T → Pooled T → Type 0

@@ -27,7 +27,7 @@ use Rattle.kfifo_live.specs.declared.tokens.sizes.SizesFault.{SizesFault}
 use Rattle.kfifo_live.specs.declared.tokens.sizes.TheConstants.{SPARE_TOKENS}
 use Rattle.kfifo_live.specs.declared.view.Opening.{Opening}
 use Rattle.kfifo_pool.specs.Pooled.{GivesOne, Pooled, ReceivesOne, ReceivesOneOrSeals, new_handle, no_cells}
-use Rattle.kfifo_renewing.specs.History.{HasLeft, IsGone, IsMade, NewestWas, WasNewest, newest_of, place_count}
+use Rattle.kfifo_renewing.specs.History.{IsGone, IsMade, NewestWas, WasNewest, newest_of, place_count}
 use Rattle.kfifo_renewing.specs.History.{sight_of}
 use Rattle.kfifo_renewing.specs.declared.change.Change.{Change}
 use Rattle.kfifo_renewing.specs.declared.change.Sight.{Sight}
@@ -237,11 +237,11 @@ module _ {T : Type 0} where
       × IsNumbered new
 
   -- Of these handles in generations, some are kept as they were, in their order. The others have no cell, and their
-  -- generations have left their places by this history
+  -- generations have gone by this history
   abbrev pub LeavesGone : List Change → List (HeldIn T) → List (HeldIn T) → Type 0
   LeavesGone log [] kept = kept ≡ []
   LeavesGone log (h ∷ hs) kept = ((rest : List (HeldIn T)) × (kept ≡ h ∷ rest) × LeavesGone log hs rest)
-      ⊎ (HasLeft log h.number × (h.handle.cells ≡ no_cells) × LeavesGone log hs kept)
+      ⊎ (IsGone log h.number × (h.handle.cells ≡ no_cells) × LeavesGone log hs kept)
 
   -- a handle with the first starts, without free tokens or cells, whose thread has begun no call
   abbrev pub IsUntouched : Pooled T → Type 0
@@ -256,7 +256,7 @@ module _ {T : Type 0} where
   IsNew thread number log h = (number < h.number) × IsMade log h.number h.handle.held.pass.pass.table
       × IsFresh thread h.handle
 
-  -- A handle follows others. It keeps what it has joined as it is, but for generations that have left their places, and
+  -- A handle follows others. It keeps what it has joined as it is, but for generations that have gone, and
   -- joins some later ones. Nothing is done in any of them
   pub record Follows (old new : Generations T) : Type 0 where
     pub later : IsLater old new
@@ -416,7 +416,7 @@ module _ {T G : Type 0} (takes : Taken G → Pooled T → Pooled T → Type 0) w
 module _ {T G : Type 0} (takes : Taken G → Pooled T → Pooled T → Type 0)
     (seals : TakenOrSealed G → Pooled T → Pooled T → Type 0) where
   -- A take from the oldest generation that has something: from the newest where each older one was found empty. The
-  -- handle then leaves some that have left their places
+  -- handle then leaves some that have gone
   pub record TakesOldest (answer : Taken G) (old new : Generations T) : Type 0 where
     pub later : IsLater old new
     pub number : new.number ≡ old.number
@@ -468,15 +468,21 @@ module _ {T : Type 0} where
   ClosesEach handles (h ∷ hs) payloads = (first : List T) × (rest : List T) × (payloads ≡ first ++ rest)
       × WereLeft handles h first × ClosesEach handles hs rest
 
-  -- What a close has by its last handle: the handle followed others to the generation that was the newest of the queue
-  -- at a look, so it is in each that has not gone: in these, the oldest first
-  abbrev pub Gathers : Generations T → List (HeldIn T) → Type 0
-  Gathers last all = (here : Generations T) × Follows last here × IsAtNewest last here × HasAll here
+  -- this beginning of the history has all that each of these handles has seen
+  abbrev pub HaveSeen : List (Generations T) → List Change → Type 0
+  HaveSeen handles log = All (λ g. IsPrefix g.seen log) handles
+
+  -- What a close has by its last handle: it learned what the others had seen, and then followed them to the generation
+  -- that was the newest of the queue at a look. So it is in each that has not gone, of all in which any of them may have
+  -- given: in these, the oldest first
+  abbrev pub Gathers : List (Generations T) → Generations T → List (HeldIn T) → Type 0
+  Gathers others last all = (told : Generations T) × (told ≡ with_seen last told.seen) × IsLater last told
+      × HaveSeen others told.seen × (here : Generations T) × Follows told here × IsAtNewest told here × HasAll here
       × (all ≡ all_of here)
 
-  -- What a close by these handles returned: the last of them followed others to the generation that was the newest of
-  -- the queue at a look, so it is in each that has not gone, and each of its generations was closed, the oldest first.
-  -- All that a handle did in one of these is in the one schedule by which that was closed
+  -- What a close by these handles returned: each of the generations that the last of them was then in was closed, the
+  -- oldest first. All that a handle did in one of these is in the one schedule by which that was closed
   abbrev pub ClosesAll : List (Generations T) → List T → Type 0
   ClosesAll handles payloads = (last : Generations T) × (others : List (Generations T))
-      × (handles ≡ others ++ last ∷ []) × (all : List (HeldIn T)) × Gathers last all × ClosesEach others all payloads
+      × (handles ≡ others ++ last ∷ []) × (all : List (HeldIn T)) × Gathers others last all
+      × ClosesEach others all payloads

@@ -46,10 +46,8 @@ pub enum Change {
     Newest(u32),
     /// A handle looked which generation is the newest. Its pass had seen this.
     Look(Sight),
-    /// The generation with this number was put into this place.
+    /// The generation with this number, which was the newest, was shown in this place.
     Placed(u32, u32),
     /// This generation went from its place, as it was the newest no more.
     Gone(Sealed),
-    /// The generation with this number went from its place: it was never the newest and will never be, or has gone.
-    Undone(u32),
 }

@@ -7,9 +7,8 @@ ghost use Rattle.kfifo_pool.specs.Pooled.{Pooled};
 ghost use Rattle.kfifo_live.specs.declared.view.Opening.{Opening};
 ghost use Rattle.kfifo_renewing.specs.Joining.{HaveParts, IsBeside, IsPart, held_by, held_in};
 ghost use Rattle.kfifo_renewing.specs.declared.change.Change.{Change};
-ghost use Rattle.kfifo_renewing.specs.Renewing.{AreOfOneQueue, ClosesAll, ClosesEach, Gathers, Generations};
-ghost use Rattle.kfifo_renewing.specs.Renewing.{HaveOwnAmong};
-ghost use Rattle.kfifo_renewing.specs.Renewing.{IsOpenedAs, WereLeft, opening_with, other_threads};
+ghost use Rattle.kfifo_renewing.specs.Renewing.{AreOfOneQueue, ClosesAll, ClosesEach, Gathers, Generations, HaveOwnAmong};
+ghost use Rattle.kfifo_renewing.specs.Renewing.{HaveSeen, IsOpenedAs, WereLeft, opening_with, other_threads};
 
 use crate::handle::{JoinedAll, RenewingHandle};
 use crate::history::History;
@@ -105,7 +104,8 @@ fn take_apart<T: Drop, K: Kind<T>>(
     history: &mut History,
 ) -> Result<Vec<Leaving<Joined<T>>>, AllocError>
     requires { All (λ g. g.book ≡ history.old.book) handles.items }
-    ensures later { IsPrefix history.old.log history.new.log }
+    ensures later { (history.new.book ≡ history.old.book) × IsPrefix history.old.log history.new.log }
+    ensures seen { IfOk result (λ _. HaveSeen handles.items history.new.log) }
     ensures parts { IfOk result (λ parts. All (IsPart history.new.log) parts.items) }
     ensures opened { IfOk result (λ parts. (o : Opening) → All (λ g. g.opened ≡ o) handles.items
         → All (λ p. IsOpenedAs o p.handle) parts.items) }
@@ -131,7 +131,7 @@ pub(crate) fn gather<T: Drop, K: Kind<T>>(
 ) -> Result<Gathered<T>, CloseFault>
     requires { AreOfOneQueue handles.items }
     ensures all { IfOk result (λ r. (last : Generations T) × (others : List (Generations T))
-        × (handles.items ≡ others ++ last ∷ []) × Gathers last (held_by r.all.items)
+        × (handles.items ≡ others ++ last ∷ []) × Gathers others last (held_by r.all.items)
         × HaveParts others r.theirs.parts.items) }
     ensures parts { IfOk result (λ r. (log : List Change) × All (IsPart log) r.all.items
         × All (IsPart log) r.theirs.parts.items) }
@@ -141,15 +141,14 @@ pub(crate) fn gather<T: Drop, K: Kind<T>>(
     let Some(mut last) = handles.pop() else {
         return Err(CloseFault::MissingPass);
     };
+    // Were the look older than what the others have seen, it could miss a generation that one of them has joined.
+    let mut seen = last.history().again();
+    let theirs = take_apart(alloc, handles, &mut seen)?;
+    last.learn(&seen);
     let Some(_) = last.generations() else {
         return Err(CloseFault::Memory);
     };
-    let JoinedAll {
-        shared,
-        mut history,
-        parts,
-    } = last.into_joined()?;
-    let theirs = take_apart(alloc, handles, &mut history)?;
+    let JoinedAll { shared, parts, .. } = last.into_joined()?;
     let Some(shared) = Arc::into_inner(shared) else {
         return Err(CloseFault::MissingPass);
     };
@@ -243,8 +242,9 @@ fn close_each<T: Drop>(alloc: Global, gathered: Gathered<T>) -> Result<Vec<T>, C
 
 /// Closes a queue by all its handles, and returns the payloads that are left, those of the oldest generation first.
 ///
-/// The last handle first follows the others. Of each of its generations they are what is left after the one schedule of
-/// all calls there, in the order of `PayQueue::close`. All that a handle of the queue did there is in that schedule.
+/// The last handle first learns what the others have seen, and follows them. Of each of its generations they are what
+/// is left after the one schedule of all calls there, in the order of `PayQueue::close`. All that the handles that are
+/// given did there is in that schedule.
 ///
 /// The handles are of one queue. MissingPass where one of its handles is still elsewhere, or none is given; Memory
 /// where an allocation failed. The payloads are then dropped.

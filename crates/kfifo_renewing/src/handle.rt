@@ -134,6 +134,23 @@ impl<T: Drop, K: Kind<T>> RenewingHandle<T, K> {
         })
     }
 
+    /// What it has seen of the history.
+    pub(crate) fn history(&self) -> &History
+        ensures { (result.now.book ≡ self.now.book) × (result.now.log ≡ self.now.seen) }
+    {
+        &self.history
+    }
+
+    /// Learns what another handle of the queue has seen of the history.
+    pub(crate) fn learn(&mut self, seen: &History)
+        requires book { seen.now.book ≡ self.old.book }
+        ensures same { self.new ≡ with_seen self.old self.new.seen }
+        ensures later { IsLater self.old self.new }
+        ensures seen { IsPrefix seen.now.log self.new.seen }
+    {
+        self.history.learn(seen);
+    }
+
     /// The number of the generation that the handle joined last.
     pub(crate) fn number(&self) -> u32
         ensures { result ≡ self.now.number }
@@ -181,13 +198,15 @@ impl<T: Drop, K: Kind<T>> RenewingHandle<T, K> {
         Some((generation, joined))
     }
 
-    /// The same for the generation with this number, in whichever place it is, if it comes after that of the handle.
+    /// The same for the generation with this number, which was the newest, in whichever place it is, if it comes after
+    /// that of the handle.
     fn enter_numbered(
         &self,
         number: u64,
         history: &mut History,
     ) -> Option<(Arc<Generation<T>, Global>, Leaving<Joined<T>>)>
-        requires { history.old.book ≡ self.now.book }
+        requires book { history.old.book ≡ self.now.book }
+        requires newest { WasNewest history.old.log number }
         ensures later { (history.new.book ≡ history.old.book) × IsPrefix history.old.log history.new.log }
         ensures of { IfSome result (λ r. IsOpenedAs self.now.opened r.1.handle
             × IsPassOf r.0.value.queue r.1.handle.held.pass.pass × (r.0.value.book ≡ self.now.book)) }
@@ -213,6 +232,7 @@ impl<T: Drop, K: Kind<T>> RenewingHandle<T, K> {
     ) -> bool
         requires book { history.old.book ≡ self.now.book }
         requires none { between.old.items ≡ [] }
+        requires newest { WasNewest history.old.log end }
         ensures later { (history.new.book ≡ history.old.book) × IsPrefix history.old.log history.new.log }
         ensures opened { All (λ p. IsOpenedAs self.now.opened p.handle) between.new.items }
         ensures parts { All (IsPart history.new.log) between.new.items }
@@ -347,17 +367,14 @@ impl<T: Drop, K: Kind<T>> RenewingHandle<T, K> {
         }
     }
 
-    /// Empties the places of generations that are not the handle's, though they come before its newest one: other
-    /// handles were faster than their makers.
-    fn retire_others(&mut self)
+    /// Empties the places of generations before the handle's newest one that were never the newest.
+    fn clear_below(&mut self)
         ensures same { self.new ≡ with_seen self.old self.new.seen }
         ensures later { IsLater self.old self.new }
     {
-        self.shared.places().retire_others(
-            self.generation.number(),
-            self.older.parts(),
-            &mut self.history,
-        );
+        self.shared
+            .places()
+            .clear_below(self.generation.number(), &mut self.history);
     }
 
     /// Counts the handle among those that give to the generation that it joined last, if that one is still the newest
@@ -400,7 +417,7 @@ impl<T: Drop, K: Kind<T>> RenewingHandle<T, K> {
     {
         self.newest.stop_giving();
         self.leave_gone();
-        self.retire_others();
+        self.clear_below();
         for _ in 1..TRIES {
             if self.try_to_follow() {
                 return true;
@@ -515,7 +532,8 @@ impl<T: Drop, K: Kind<T>> RenewingHandle<T, K> {
     /// Gives the handle up.
     pub(crate) fn into_joined(self) -> Result<JoinedAll<T>, AllocError>
         ensures shared { IfOk result (λ r. (opening_in r.shared.value ≡ self.opened) × (r.shared.value.bare ≡ K.bare)) }
-        ensures history { IfOk result (λ r. (r.history.book ≡ self.book) × All (IsPart r.history.log) r.parts.items) }
+        ensures history { IfOk result (λ r. (r.history.book ≡ self.book) × (r.history.log ≡ self.seen)
+            × All (IsPart r.history.log) r.parts.items) }
         ensures joined { IfOk result (λ r. held_by r.parts.items ≡ all_of self) }
         ensures of { IfOk result (λ r. All (λ p. IsOpenedAs (opening_in r.shared.value) p.handle) r.parts.items) }
     {

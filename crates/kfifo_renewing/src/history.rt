@@ -101,7 +101,7 @@ impl Play<Change, u64> for LookingThere {
     ghost then = { LooksThere };
 }
 
-/// A step that puts a generation into a place.
+/// A step that shows a generation in a place.
 pub struct Filling;
 
 impl Play<Change, u64> for Filling {
@@ -237,12 +237,12 @@ impl Next {
         self.word.load::<Looking, NoGain>(history, &mut offer)
     }
 
-    /// Makes a later generation the newest, if this one is. That generation is in a place, and the pen may write its
-    /// word. Returns whether it did. If not, the pen still may.
+    /// Makes a later generation the newest, if this one is, which was shown in a place. The pen may write the word of
+    /// the later one. Returns whether it did. If not, the pen still may.
     pub(crate) fn renew(&self, number: u32, pen: &mut Pen, history: &mut History) -> bool
         requires books { (history.old.book ≡ self.now.book) × (pen.old.book ≡ self.now.book) }
         requires newest { WasNewest history.old.log self.now.number }
-        requires there { (place : ℕ) × (place < place_count) × IsPlaced history.old.log number place }
+        requires there { (place : ℕ) × (place < place_count) × IsPlaced history.old.log self.now.number place }
         requires later { self.now.number < number }
         requires pen { pen.old.nib ≡ nib may_write (key_of number) 0 }
         ensures books { (history.new.book ≡ history.old.book) × (pen.new.book ≡ pen.old.book) }

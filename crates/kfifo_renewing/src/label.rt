@@ -1,9 +1,9 @@
 //! The words of the places in which generations are.
-ghost use Rattle.std.specs.Prelude.{◌≡◌, ◌<◌, ◌≤◌, ◌+◌, ◌^◌, ℕ, suc, List, IfOk, Some, true};
+ghost use Rattle.std.specs.Prelude.{◌≡◌, ◌<◌, ◌≤◌, ◌+◌, ◌%◌, ◌^◌, ℕ, List, IfOk, IfSome, Some};
 ghost use mathlib.Core.List.{IsPrefix};
-ghost use Rattle.logbook.specs.Pages.{Cell, may_make_home, may_write, nib};
-ghost use Rattle.kfifo_renewing.specs.History.{AreLabels, FindsThere, HasLeft, IsGone, IsKept, IsPlaced, WasNewest};
-ghost use Rattle.kfifo_renewing.specs.History.{key_of, label_of, newest_of, place_count};
+ghost use Rattle.logbook.specs.Pages.{Cell, may_make_home, nib};
+ghost use Rattle.kfifo_renewing.specs.History.{AreLabels, FindsThere, IsGone, IsKept, IsPlaced, WasNewest, key_of};
+ghost use Rattle.kfifo_renewing.specs.History.{label_of, newest_of, place_count, shows};
 ghost use Rattle.kfifo_renewing.specs.Joining.{IsPart, IsSealedPart};
 
 use crate::change::Change;
@@ -17,7 +17,7 @@ use std::marker::Model;
 /// How many places a queue has labels for: enough for 64 threads.
 pub(crate) const PLACES: u32 = 130;
 
-/// What a place says of the generation that is in it: one more than its number, and 0 where there is none.
+/// What a place says of the generation that is in it: twice its number and 1, or an even word where there is none.
 ///
 /// Clauses see the place, and the book that has the word.
 #[derive(Drop)]
@@ -64,11 +64,33 @@ impl Label {
         number_in(found)
     }
 
-    /// Puts the generation with this number into the place, if none is there. Returns whether it did.
-    pub(crate) fn put(&self, number: u32, history: &mut History) -> bool
+    /// What the word of the place is, if no generation is there and that with this number was not, as one load finds it.
+    pub(crate) fn look_before(&self, number: u32, history: &mut History) -> Option<u64>
         requires { history.old.book ≡ self.now.book }
         ensures later { (history.new.book ≡ history.old.book) × IsPrefix history.old.log history.new.log }
-        ensures there { result ≡ true → IsPlaced history.new.log number self.now.place }
+        ensures none { IfSome result (λ word. word % 2 ≡ 0) }
+    {
+        let mut offer: Offer<Change, u64, HistoryRule, NoGain> = history.plain::<
+            NoGain,
+            u32,
+            Naming,
+        >(&self.place);
+        let found = self.word.load::<LookingThere, NoGain>(history, &mut offer);
+        // Numbers rise, so each generation that was there has a lower one, unless this one was and has gone.
+        if found % 2 == 0 && found < showing(number) {
+            Some(found)
+        } else {
+            None
+        }
+    }
+
+    /// Shows the generation with this number, which was the newest, in the place, if the word there is still this one,
+    /// by which no generation is there.
+    pub(crate) fn show(&self, none: u64, number: u32, history: &mut History)
+        requires book { history.old.book ≡ self.now.book }
+        requires none { none % 2 ≡ 0 }
+        requires newest { WasNewest history.old.log number }
+        ensures later { (history.new.book ≡ history.old.book) × IsPrefix history.old.log history.new.log }
     {
         let mut offer: Offer<Change, u64, HistoryRule, NoGain> = history.plain::<
             NoGain,
@@ -76,16 +98,14 @@ impl Label {
             Naming,
         >(&number);
         let mut pen = history.no_pen();
-        let found = self
-            .word
+        self.word
             .compare_exchange::<Filling, NoGain>(
-                0,
-                u64::from(number) + 1,
+                none,
+                showing(number),
                 history,
                 &mut offer,
                 &mut pen,
             );
-        found == 0
     }
 
     /// Takes the generation of this part out of the place, if no other handle has. It is the newest no more, and the
@@ -96,8 +116,7 @@ impl Label {
         requires over { part.now.number < newest_of history.old.log }
         requires empty { IsSealedPart part.now }
         ensures later { (history.new.book ≡ history.old.book) × IsPrefix history.old.log history.new.log }
-        ensures left { IsPlaced history.old.log part.now.number self.now.place
-            → HasLeft history.new.log part.now.number }
+        ensures gone { IsPlaced history.old.log part.now.number self.now.place → IsGone history.new.log part.now.number }
     {
         let mut offer: Offer<Change, u64, HistoryRule, NoGain> = history.plain::<
             NoGain,
@@ -105,74 +124,31 @@ impl Label {
             Emptying,
         >(part);
         let mut pen = history.no_pen();
-        self.word.compare_exchange::<Emptying, NoGain>(
-            u64::from(part.number()) + 1,
-            0,
-            history,
-            &mut offer,
-            &mut pen,
-        );
-    }
-
-    /// Takes the generation with this number out of the place, if no other handle has. It is the newest no more, and
-    /// has gone, or was never the newest.
-    pub(crate) fn leave_other(&self, number: u32, history: &mut History)
-        requires book { history.old.book ≡ self.now.book }
-        requires over { number < newest_of history.old.log }
-        requires gone { WasNewest history.old.log number → IsGone history.old.log number }
-        ensures later { (history.new.book ≡ history.old.book) × IsPrefix history.old.log history.new.log }
-        ensures left { IsPlaced history.old.log number self.now.place → HasLeft history.new.log number }
-    {
-        let mut offer: Offer<Change, u64, HistoryRule, NoGain> = history.plain::<
-            NoGain,
-            u32,
-            Naming,
-        >(&number);
-        let mut pen = history.no_pen();
+        let shown = showing(part.number());
+        // Each generation leaves a word of its own. Were it the same one each time, a handle that looked at the place
+        // long ago could show a generation there that has gone since.
         self.word
-            .compare_exchange::<Emptying, NoGain>(
-                u64::from(number) + 1,
-                0,
-                history,
-                &mut offer,
-                &mut pen,
-            );
+            .compare_exchange::<Emptying, NoGain>(shown, shown + 1, history, &mut offer, &mut pen);
     }
+}
 
-    /// Takes the generation with this number, which will never be the newest, out of the place. Who makes a generation
-    /// the newest needs the pen, which is used up here.
-    pub(crate) fn undo(&self, number: u32, mut pen: Pen, history: &mut History)
-        requires books { (history.old.book ≡ self.now.book) × (pen.book ≡ self.now.book) }
-        requires pen { pen.nib ≡ nib may_write (key_of number) 0 }
-        ensures later { (history.new.book ≡ history.old.book) × IsPrefix history.old.log history.new.log }
-        ensures left { IsPlaced history.old.log number self.now.place → HasLeft history.new.log number }
-    {
-        let mut offer: Offer<Change, u64, HistoryRule, NoGain> = history.plain::<
-            NoGain,
-            u32,
-            Naming,
-        >(&number);
-        self.word
-            .compare_exchange::<Emptying, NoGain>(
-                u64::from(number) + 1,
-                0,
-                history,
-                &mut offer,
-                &mut pen,
-            );
-    }
+/// What a label says where the generation with this number is in the place.
+fn showing(number: u32) -> u64
+    ensures { (result ≡ shows number) × (result < 2 ^ 33) }
+{
+    2 * u64::from(number) + 1
 }
 
 /// The number of the generation of which a label says this.
 fn number_in(word: u64) -> Option<u32>
-    requires { word ≤ 2 ^ 32 }
-    ensures some { (n : ℕ) → result ≡ Some n → word ≡ suc n }
-    ensures word { (n : ℕ) → word ≡ suc n → result ≡ Some n }
+    requires { word ≤ 2 ^ 33 }
+    ensures some { (n : ℕ) → result ≡ Some n → word ≡ shows n }
+    ensures word { (n : ℕ) → word ≡ shows n → result ≡ Some n }
 {
-    if word == 0 {
+    if word % 2 == 0 {
         None
     } else {
-        Some((word - 1) as u32)
+        Some((word / 2) as u32)
     }
 }
 

@@ -1,17 +1,18 @@
 //! Where the generations of a queue are that threads may still need, for each to find those that are new to it.
 //!
-//! A place has a word, which says whether a generation is there, its number and how many readers look at it. Its label
-//! says the number too, and proofs speak of labels: a label is written after the place is filled, and before it is
-//! emptied.
+//! A place has a word, which says whether a generation is there, its number and how many readers look at it. A
+//! generation is put there before it becomes the newest. Its label says the number too, and proofs speak of labels: a
+//! label is written once the generation was the newest, by any handle, and before a later one becomes that. It is
+//! cleared before the place is emptied.
 ghost use Rattle.std.specs.Prelude.{◌≡◌, ◌<◌, ◌≤◌, ◌+◌, ◌%◌, ℕ, All, IfOk, IfSome, List, MatchBool, Some};
 ghost use Rattle.std.specs.Prelude.{length, true};
 ghost use mathlib.Core.List.{IsPrefix};
 ghost use Rattle.counted_slot.specs.Counting.{readers};
-ghost use Rattle.logbook.specs.Pages.{Cell, may_write, nib};
+ghost use Rattle.logbook.specs.Pages.{Cell};
 ghost use Rattle.kfifo_renewing.specs.declared.places.Lineage.{Lineage};
-ghost use Rattle.kfifo_renewing.specs.History.{AreLabels, FindsThere, HasLeft, HasRisen, IsGone, IsKept, IsPlaced};
-ghost use Rattle.kfifo_renewing.specs.History.{WasNewest, key_of, newest_of, place_count};
-ghost use Rattle.kfifo_renewing.specs.Joining.{AreAmong, HasNumber, HasOlder, IsPart, IsSealedPart};
+ghost use Rattle.kfifo_renewing.specs.History.{AreLabels, FindsThere, HasRisen, IsGone, IsKept, IsPlaced};
+ghost use Rattle.kfifo_renewing.specs.History.{WasNewest, newest_of, place_count};
+ghost use Rattle.kfifo_renewing.specs.Joining.{AreAmong, HasNumber, IsPart, IsSealedPart};
 ghost use Rattle.kfifo_renewing.specs.Renewing.{IsOfLineage};
 
 use crate::generation::Generation;
@@ -21,7 +22,6 @@ use crate::label::{Label, PLACES};
 use crate::leaving::Leaving;
 use counted_slot::{Claim, Counted, FREE, Fits, MARKED, MOST_READERS, ONE_READER, PRESENT, TAKEN};
 use kfifo_live::Sizes;
-use logbook::Pen;
 use std::alloc::{AllocError, Global};
 use std::marker::Model;
 use std::sync::Arc;
@@ -123,16 +123,9 @@ impl<T: Drop> Places<T> {
 
     /// Puts a generation with this number into an empty place, which it returns. It drops the generation, and returns
     /// None, where there is none.
-    pub(crate) fn put(
-        &self,
-        number: u32,
-        generation: Arc<Generation<T>, Global>,
-        history: &mut History,
-    ) -> Option<usize>
-        requires of { IsOfLineage self.now generation.value }
-        requires book { history.old.book ≡ self.now.history.book }
-        ensures later { (history.new.book ≡ history.old.book) × IsPrefix history.old.log history.new.log }
-        ensures there { IfSome result (λ index. (index < place_count) × IsPlaced history.new.log number index) }
+    pub(crate) fn put(&self, number: u32, generation: Arc<Generation<T>, Global>) -> Option<usize>
+        requires { IsOfLineage self.now generation.value }
+        ensures { IfSome result (λ index. index < place_count) }
     {
         for index in 0..self.places.len() {
             let (found, claim) = self.places[index].turn(FREE, TAKEN);
@@ -141,18 +134,40 @@ impl<T: Drop> Places<T> {
                     Some(Occupant { generation }),
                     (u64::from(number) << 32) + PRESENT,
                 );
-                if self.labels[index].put(number, history) {
-                    return Some(index);
-                }
-                self.empty(index, number);
-                return None;
+                return Some(index);
             }
             claim.done();
         }
         None
     }
 
-    /// The number of the generation that is in this place.
+    /// Shows the generation with this number, which was the newest, in this place, if it is there and was not shown.
+    pub(crate) fn show(&self, index: usize, number: u32, history: &mut History)
+        requires book { history.old.book ≡ self.now.history.book }
+        requires inside { index < place_count }
+        requires newest { WasNewest history.old.log number }
+        ensures later { (history.new.book ≡ history.old.book) × IsPrefix history.old.log history.new.log }
+    {
+        let Some(none) = self.labels[index].look_before(number, history) else {
+            return;
+        };
+        // The look at the label comes first. Else the generation could be shown, and go, between the two.
+        if self.number_at(index) == Some(number) {
+            self.labels[index].show(none, number, history);
+        }
+    }
+
+    /// The number of the generation that lies in this place, whether it is shown there or not.
+    fn number_at(&self, index: usize) -> Option<u32> {
+        let word = self.places.get(index)?.load();
+        if state_in(word) == PRESENT {
+            Some(number_in(word))
+        } else {
+            None
+        }
+    }
+
+    /// The number of the generation that is shown in this place.
     fn look(&self, index: usize, history: &mut History) -> Option<u32>
         requires book { history.old.book ≡ self.now.history.book }
         requires inside { index < place_count }
@@ -163,13 +178,13 @@ impl<T: Drop> Places<T> {
         self.labels[index].look(history)
     }
 
-    /// Whether the generation with this number is in this place.
+    /// Whether the generation with this number is shown in this place.
     pub(crate) fn has(&self, index: usize, number: u32, history: &mut History) -> bool
         requires book { history.old.book ≡ self.now.history.book }
         requires inside { index < place_count }
         ensures later { (history.new.book ≡ history.old.book) × IsPrefix history.old.log history.new.log }
         ensures finds { MatchBool result (IsPlaced history.new.log number index)
-            (IsPlaced history.old.log number index → HasLeft history.new.log number) }
+            (IsPlaced history.old.log number index → IsGone history.new.log number) }
         ensures kept { (cells : List Cell) × IsKept cells history.new.log }
     {
         match self.look(index, history) {
@@ -178,11 +193,11 @@ impl<T: Drop> Places<T> {
         }
     }
 
-    /// The place of the generation with this number, if it is in one.
-    pub(crate) fn find(&self, number: u32, history: &mut History) -> Option<usize>
+    /// The place of the generation with this number, if it is shown in one.
+    fn find_shown(&self, number: u32, history: &mut History) -> Option<usize>
         requires book { history.old.book ≡ self.now.history.book }
         ensures later { (history.new.book ≡ history.old.book) × IsPrefix history.old.log history.new.log }
-        ensures inside { IfSome result (λ index. index < place_count) }
+        ensures there { IfSome result (λ index. (index < place_count) × IsPlaced history.new.log number index) }
     {
         for index in 0..self.places.len() {
             if self.has(index, number, history) {
@@ -190,6 +205,23 @@ impl<T: Drop> Places<T> {
             }
         }
         None
+    }
+
+    /// The place of the generation with this number, which was the newest, if it is in one. It is shown there.
+    pub(crate) fn find(&self, number: u32, history: &mut History) -> Option<usize>
+        requires book { history.old.book ≡ self.now.history.book }
+        requires newest { WasNewest history.old.log number }
+        ensures later { (history.new.book ≡ history.old.book) × IsPrefix history.old.log history.new.log }
+        ensures there { IfSome result (λ index. (index < place_count) × IsPlaced history.new.log number index) }
+    {
+        if let Some(index) = self.find_shown(number, history) {
+            return Some(index);
+        }
+        // Its maker may not have shown it yet, and nobody waits for that.
+        for index in 0..self.places.len() {
+            self.show(index, number, history);
+        }
+        self.find_shown(number, history)
     }
 
     /// The place and the number of the first generation whose number is above `number`, and below `end`.
@@ -217,7 +249,8 @@ impl<T: Drop> Places<T> {
         next
     }
 
-    /// Whether each generation in a place, with a number above `number` and below `end`, is among these.
+    /// Whether each generation that is shown in a place, with a number above `number` and below `end`, which was the
+    /// newest, is among these.
     pub(crate) fn has_no_other(
         &self,
         number: u32,
@@ -226,6 +259,7 @@ impl<T: Drop> Places<T> {
         history: &mut History,
     ) -> bool
         requires book { history.old.book ≡ self.now.history.book }
+        requires newest { WasNewest history.old.log end }
         ensures later { (history.new.book ≡ history.old.book) × IsPrefix history.old.log history.new.log }
         ensures others { result ≡ true → AreAmong number end joined.now history.old.log history.new.log }
     {
@@ -240,32 +274,26 @@ impl<T: Drop> Places<T> {
         true
     }
 
-    /// Empties the places of the generations that are not among these, though their numbers are below this one: each of
-    /// them was never the newest, or has left its place meanwhile.
-    pub(crate) fn retire_others(
-        &self,
-        number: u32,
-        joined: &[Leaving<Joined<T>>],
-        history: &mut History,
-    )
+    /// Empties the places of the generations that were never the newest, though their numbers are below this one, which
+    /// was: others were faster than their makers.
+    pub(crate) fn clear_below(&self, number: u32, history: &mut History)
         requires book { history.old.book ≡ self.now.history.book }
-        requires newest { WasNewest history.old.log number }
-        requires others { HasOlder history.old.log joined.now number }
         requires risen { HasRisen history.old.log }
         ensures later { (history.new.book ≡ history.old.book) × IsPrefix history.old.log history.new.log }
         ensures risen { HasRisen history.new.log }
     {
         for index in 0..self.places.len() {
-            let Some(other) = self.look(index, history) else {
+            let Some(other) = self.number_at(index) else {
                 continue;
             };
             if other >= number {
                 continue;
             }
-            if has_number(joined, other) {
+            // One that was the newest was shown before the next one became that, and is so until it goes.
+            if self.has(index, other, history) {
                 continue;
             }
-            self.retire_other(index, other, history);
+            self.empty(index, other);
         }
     }
 
@@ -304,7 +332,7 @@ impl<T: Drop> Places<T> {
         requires over { part.now.number < newest_of history.old.log }
         requires empty { IsSealedPart part.now }
         ensures later { (history.new.book ≡ history.old.book) × IsPrefix history.old.log history.new.log }
-        ensures left { HasLeft history.new.log part.now.number }
+        ensures gone { IsGone history.new.log part.now.number }
         ensures risen { HasRisen history.new.log }
     {
         // The label goes first: who finds a label finds the generation, unless it goes meanwhile.
@@ -314,38 +342,9 @@ impl<T: Drop> Places<T> {
         history.learn(&seen);
     }
 
-    /// Takes the generation with this number out of its place: it is the newest no more, and has gone, or was never the
-    /// newest.
-    fn retire_other(&self, index: usize, number: u32, history: &mut History)
-        requires book { history.old.book ≡ self.now.history.book }
-        requires inside { index < place_count }
-        requires over { number < newest_of history.old.log }
-        requires gone { WasNewest history.old.log number → IsGone history.old.log number }
-        ensures later { (history.new.book ≡ history.old.book) × IsPrefix history.old.log history.new.log }
-        ensures left { IsPlaced history.old.log number index → HasLeft history.new.log number }
-        ensures risen { HasRisen history.new.log }
-    {
-        self.labels[index].leave_other(number, history);
-        self.empty(index, number);
-        let seen = history.again();
-        history.learn(&seen);
-    }
-
-    /// Takes the generation with this number out of its place. It will never be the newest, since that needs the pen.
-    pub(crate) fn undo(&self, index: usize, number: u32, pen: Pen, history: &mut History)
-        requires books { (history.old.book ≡ self.now.history.book) × (pen.book ≡ self.now.history.book) }
-        requires inside { index < place_count }
-        requires pen { pen.nib ≡ nib may_write (key_of number) 0 }
-        ensures later { (history.new.book ≡ history.old.book) × IsPrefix history.old.log history.new.log }
-        ensures left { IsPlaced history.old.log number index → HasLeft history.new.log number }
-    {
-        self.labels[index].undo(number, pen, history);
-        self.empty(index, number);
-    }
-
-    /// Empties a place whose label says so, if the generation with this number is still there. Where others look at it,
+    /// Empties a place, if the generation with this number is still there, which is not shown. Where others look at it,
     /// the last of them empties the place.
-    fn empty(&self, index: usize, number: u32) {
+    pub(crate) fn empty(&self, index: usize, number: u32) {
         let Some(place) = self.places.get(index) else {
             return;
         };

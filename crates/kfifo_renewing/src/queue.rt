@@ -3,6 +3,7 @@ ghost use Rattle.std.specs.Prelude.{◌≡◌, ◌<◌, ◌≤◌, ◌+◌, ◌*
 ghost use Rattle.kfifo_live.specs.Pass.{IsPassOf};
 ghost use Rattle.logbook.specs.Pages.{may_write, nib};
 ghost use Rattle.kfifo_renewing.specs.History.{AreLabels, IsPlaced, WasNewest, key_of, place_count};
+ghost use Rattle.kfifo_renewing.specs.Joining.{IsPart};
 ghost use Rattle.kfifo_renewing.specs.declared.places.Lineage.{Lineage};
 ghost use Rattle.kfifo_renewing.specs.Renewing.{AreInRange, IsOfLineage, IsPlan, IsUntouched, opening_in};
 ghost use Rattle.kfifo_renewing.specs.Renewing.{opening_with, room_of};
@@ -138,6 +139,7 @@ impl<T: Drop> Shared<T> {
     ) -> bool
         requires books { (newest.now.book ≡ self.now.history.book) × (history.book ≡ self.now.history.book) }
         requires newest { WasNewest history.log newest.now.number }
+        requires part { (part.now.number ≡ newest.now.number) × IsPart history.log part.now }
         requires bare { self.now.bare ≡ K.bare }
     {
         let seen = history.again();
@@ -160,15 +162,16 @@ impl<T: Drop> Shared<T> {
         if number <= newest.number() {
             return true;
         }
-        let Some(place) = self.places.put(number, generation, &mut history) else {
+        let Some(place) = self.places.put(number, generation) else {
             return true;
         };
         if newest.next().renew(number, &mut pen, &mut history) {
+            self.places.show(place, number, &mut history);
             self.numbers
                 .advance(newest.number(), u64::from(number), &history);
         } else {
             // Another handle was faster. Nobody has given to this one, and nobody will.
-            self.places.undo(place, number, pen, &mut history);
+            self.places.empty(place, number);
         }
         true
     }
@@ -250,6 +253,7 @@ pub(crate) fn share<T: Drop>(
     requires plan { IsPlan plan.sizes plan.renewals }
     requires of { generation.now.value.queue.opened ≡ opening_with bare plan.sizes }
     requires numbers { (numbers ≡ generation.now.value.book) × AreLabels numbers labels.items }
+    requires first { generation.now.value.number ≡ 0 }
     ensures shared { IfOk result (λ r. (r.0.value.sizes ≡ plan.sizes) × (r.0.value.bare ≡ bare)
         × (r.0.value.history.book ≡ generation.now.value.book)) }
     ensures there { IfOk result (λ r. (r.2.book ≡ generation.now.value.book) × (r.1 < place_count)
@@ -270,13 +274,11 @@ pub(crate) fn share<T: Drop>(
     let mut history = generation.history().again();
     let count = renewals.generations + 2 * sizes.threads + 1;
     let places = Places::new(alloc, lineage, labels, count as usize)?;
-    let place = places
-        .put(
-            generation.number(),
-            Arc::try_clone(generation)?,
-            &mut history,
-        )
+    let number = generation.number();
+    places
+        .put(number, Arc::try_clone(generation)?)
         .ok_or(AllocError)?;
+    let place = places.find(number, &mut history).ok_or(AllocError)?;
     let shared = Shared {
         places,
         numbers,

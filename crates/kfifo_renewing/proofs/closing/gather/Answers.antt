@@ -1,48 +1,66 @@
 -- The last handle has followed others, and these are its generations, and the parts of the others.
 use Rattle.std.proofs.Common.{◌≡◌, Bool, All, sym, ap, ◌∙◌, subst}
+use mathlib.Core.List.{IsPrefix}
 use Rattle.kfifo_live.specs.declared.view.Opening.{Opening}
 use Rattle.kfifo_renewing.specs.Joining.{PartView}
 use Rattle.kfifo_renewing.specs.Renewing.{IsOpenedAs, opening_in, opening_with}
 use Rattle.kfifo_renewing.specs.declared.places.Lineage.{Lineage}
-use Rattle.kfifo_renewing.proofs.Endings.{one-queue}
+use Rattle.kfifo_renewing.proofs.Endings.{one-queue, seen-later}
+use Rattle.kfifo_renewing.proofs.Histories.{prefix-trans}
 use Rattle.kfifo_renewing.proofs.Joining.{parts-later}
 use Rattle.kfifo_renewing.proofs.closing.gather.Goals as goal
 
 pub take_apart-requires : goal.take_apart-requires
 take_apart-requires g c k d inside =
     let one = one-queue c.args.handles.items c.pop.new.self.items c.in-Some.last c.in-Some.ensures.items c.requires in
-    one.3 k d inside
-    ∙ sym (c.in_ok-shared.ensures.history.0 ∙ c.generations.ensures.follows.later.book ∙ one.5)
+    one.3 k d inside ∙ sym (ap (λ h. h.book) c.again-seen.ensures ∙ c.history.ensures.0 ∙ one.5)
+
+pub learn-requires : goal.learn-requires
+learn-requires g c = record {
+  book = c.in_ok-theirs.ensures.later.0 ∙ ap (λ h. h.book) c.again-seen.ensures ∙ c.history.ensures.0;
+}
 
 pub returns-clause-all : goal.returns-clause-all
-returns-clause-all g c = (
-  c.in-Some.last,
-  c.pop.new.self.items,
-  c.in-Some.ensures.items,
-  (
-    c.generations.new.self,
-    c.generations.ensures.follows,
-    c.in-Some-generations.ensures.count.1,
-    c.generations.ensures.all,
-    c.in_ok-shared.ensures.joined,
-  ),
-  c.in_ok-theirs.ensures.all,
-)
+returns-clause-all g c =
+    let told = c.learn.new.self in
+    let log = c.take_apart.new.history.log in (
+      c.in-Some.last,
+      c.pop.new.self.items,
+      c.in-Some.ensures.items,
+      (
+        told,
+        c.learn.ensures.same,
+        c.learn.ensures.later,
+        seen-later c.pop.new.self.items log told.seen c.learn.ensures.seen c.in_ok-theirs.ensures.seen,
+        c.generations.new.self,
+        c.generations.ensures.follows,
+        c.in-Some-generations.ensures.count.1,
+        c.generations.ensures.all,
+        c.in_ok-shared.ensures.joined,
+      ),
+      c.in_ok-theirs.ensures.all,
+    )
 
 pub returns-clause-parts : goal.returns-clause-parts
-returns-clause-parts g c = (
-  c.take_apart.new.history.log,
-  parts-later c.in_ok-shared.field-0.history.log c.take_apart.new.history.log c.in_ok-shared.field-0.parts.items
-      c.in_ok-theirs.ensures.later c.in_ok-shared.ensures.history.1,
-  c.in_ok-theirs.ensures.parts,
-)
+returns-clause-parts g c =
+    let log = c.take_apart.new.history.log in
+    let told = c.learn.new.self.seen in
+    let here = c.generations.new.self.seen in (
+      c.in_ok-shared.field-0.history.log,
+      c.in_ok-shared.ensures.history.2,
+      parts-later log c.in_ok-shared.field-0.history.log c.in_ok-theirs.theirs.items
+          (subst (IsPrefix log) (sym c.in_ok-shared.ensures.history.1)
+          (prefix-trans log told here c.learn.ensures.seen c.generations.ensures.follows.later.seen))
+          c.in_ok-theirs.ensures.parts,
+    )
 
 pub returns-clause-opened : goal.returns-clause-opened
 returns-clause-opened g c =
     let T = g.row.T.Denot in
     let shared = c.in_ok-shared.field-0.shared.value in
     let one = one-queue c.args.handles.items c.pop.new.self.items c.in-Some.last c.in-Some.ensures.items c.requires in
-    let same = c.in_ok-shared.ensures.shared.0 ∙ c.generations.ensures.follows.later.opened ∙ one.4 in
+    let same = c.in_ok-shared.ensures.shared.0 ∙ c.generations.ensures.follows.later.opened ∙ c.learn.ensures.later.opened
+    ∙ one.4 in
     let sizes = c.sizes-sizes.ensures ∙ ap (λ (l : Lineage). l.sizes) c.in-Some-into_inner.ensures in
     let as_asked : opening_in shared ≡ opening_with g.K.Kind.bare c.sizes-sizes.result =
     ap (λ (b : Bool). opening_with b shared.sizes) c.in_ok-shared.ensures.shared.1

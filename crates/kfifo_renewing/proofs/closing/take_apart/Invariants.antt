@@ -2,7 +2,7 @@ use Rattle.std.proofs.Common.{◌≡◌, ◌++◌, All, List}
 use mathlib.Core.List.{IsPrefix}
 use Rattle.kfifo_live.specs.declared.view.Opening.{Opening}
 use Rattle.kfifo_renewing.specs.Joining.{HaveParts, IsPart}
-use Rattle.kfifo_renewing.specs.Renewing.{Generations, IsOpenedAs}
+use Rattle.kfifo_renewing.specs.Renewing.{Generations, HaveSeen, IsOpenedAs}
 use Rattle.kfifo_renewing.proofs.closing.take_apart.Given as goal
 
 -- the parts so far are those of the handles so far
@@ -13,6 +13,6 @@ invariant-loop-handle g l = record {
   later : IsPrefix l.fn.history.log l.history.log;
   parts : All (IsPart l.history.log) l.theirs.items;
   so_far : (done : List (Generations g.row.T.Denot)) × (l.fn.handles.items ≡ done ++ l.handle-iterator.rest.items)
-      × HaveParts done l.theirs.items
+      × HaveParts done l.theirs.items × HaveSeen done l.history.log
       × ((o : Opening) → All (λ g. g.opened ≡ o) done → All (λ p. IsOpenedAs o p.handle) l.theirs.items);
 }

@@ -1,7 +1,7 @@
 -- One generation more is entered. At the end each place was looked at.
 use Rattle.std.proofs.Common.{◌<◌, ◌⊎◌, All, List, [], ◌∷◌, ◌++◌, ap, arith, refl, sym, ◌∙◌, subst}
 use Rattle.std.proofs.lemmas.List.Elements.{All-push}
-use Rattle.kfifo_renewing.specs.History.{HasLeft}
+use Rattle.kfifo_renewing.specs.History.{IsGone}
 use Rattle.kfifo_renewing.specs.Joining.{HasNumber, IsPart, IsUnused, PartView}
 use Rattle.kfifo_renewing.specs.Renewing.{IsOpenedAs}
 use Rattle.kfifo_renewing.proofs.Histories.{prefix-trans, was-later}
@@ -23,7 +23,7 @@ returns-in_default-clause-all g c none n above below was =
     let first = c.args.history.now.log in
     let mid = c.next_after.new.history.log in
     let more = prefix-trans first c.loop.history.log mid c.loop.invariant.more c.next_after.ensures.later.1 in
-    subst (λ (l : List (PartView T)). HasLeft c.has_no_other.new.history.log n ⊎ HasNumber l n) c.as_slice.ensures.value
+    subst (λ (l : List (PartView T)). IsGone c.has_no_other.new.history.log n ⊎ HasNumber l n) c.as_slice.ensures.value
     (c.has_no_other.ensures.others none n (omega (arith, above, c.number.ensures)) below
     (was-later first mid n more was))
 
@@ -111,3 +111,10 @@ loop-preserved g c =
         entered.part.3,
       );
     }
+
+pub has_no_other-requires-clause-newest : goal.has_no_other-requires-clause-newest
+has_no_other-requires-clause-newest g c =
+    let first = c.args.history.now.log in
+    let mid = c.next_after.new.history.log in
+    was-later first mid c.args.end
+    (prefix-trans first c.loop.history.log mid c.loop.invariant.more c.next_after.ensures.later.1) c.requires.newest

@@ -20,9 +20,9 @@ loop-init g c =
     let first = follows-less old mid later (subst (λ (h : Generations T). LeavesGone mid.seen h.older mid.older) before
     c.leave_gone.ensures.older)
     (ap (λ (h : Generations T). h.newest) same) (ap (λ (h : Generations T). h.number) same) in
-    follows-trans old mid c.retire_others.new.self first
-    (follows-seen mid c.retire_others.new.self c.retire_others.new.self.seen c.retire_others.ensures.same
-    c.retire_others.ensures.later)
+    follows-trans old mid c.clear_below.new.self first
+    (follows-seen mid c.clear_below.new.self c.clear_below.new.self.seen c.clear_below.ensures.same
+    c.clear_below.ensures.later)
 
 pub loop-preserved : goal.loop-preserved
 loop-preserved g c =

@@ -28,6 +28,7 @@ pub returns-clause-history : goal.returns-clause-history
 returns-clause-history g c =
     let log = c.self.inside.history.log in (
       ap (λ (v : Generations g.row.T.Denot). v.book) c.self.view_is,
+      ap (λ (v : Generations g.row.T.Denot). v.seen) c.self.view_is,
       subst (All (IsPart log))
           (sym (c.in_ok-push.ensures.items ∙ ap (λ l. l ++ c.self.inside.newest ∷ []) c.into_parts-parts.ensures))
           (All-push (IsPart log) c.self.inside.older.items c.self.inside.newest c.self.invariant.0.older_parts

@@ -28,10 +28,9 @@ invariant_of-self-2 g c = (
       let k = c.replace-before.new.dest in
       let after = sym c.replace-before.ensures.after in
       joined-more o s.shared.value.history.book s.history.book c.learn.new.self.book s.history.log log
-      c.learn.ensures.4.0
       s.generation.value next s.newest k s.older.items c.args.between.items c.add.new.self.items c.self.invariant.0
       c.learn.ensures.0
-      c.learn.ensures.2 c.learn.ensures.4.1 (kept-risen c.learn.ensures.4.0 log c.learn.ensures.4.1)
+      c.learn.ensures.2 (kept-risen c.learn.ensures.4.0 log c.learn.ensures.4.1)
       (subst (λ (x : Generations T). next.book ≡ x.book) v c.requires.books.1)
       (subst (λ (p : PartView T). IsOpenedAs o p.handle) after
       (subst (λ (x : Generations T). IsOpenedAs x.opened c.args.newest.handle) v c.requires.of.0))

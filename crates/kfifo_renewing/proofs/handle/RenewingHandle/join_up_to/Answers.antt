@@ -48,3 +48,15 @@ join-requires-clause-all g c n above below was =
     c.if-not-enter_below.ensures.all refl n
     above (subst (λ k. n < k) c.in-Some.ensures.part.0 below)
     (was-later first entered n more was)
+
+pub enter_numbered-requires-clause-newest : goal.enter_numbered-requires-clause-newest
+enter_numbered-requires-clause-newest g c =
+    subst (λ l. WasNewest l c.args.last) (sym (ap (λ h. h.log) c.again-history.ensures
+    ∙ ap (λ (v : Generations g.row.T.Denot). v.seen) c.self.view_is)) c.requires
+
+pub enter_below-requires-clause-newest : goal.enter_below-requires-clause-newest
+enter_below-requires-clause-newest g c =
+    let first = c.again-history.result.log in
+    was-later first c.enter_numbered.new.history.log c.args.last c.enter_numbered.ensures.later.1
+    (subst (λ l. WasNewest l c.args.last) (sym (ap (λ h. h.log) c.again-history.ensures
+    ∙ ap (λ (v : Generations g.row.T.Denot). v.seen) c.self.view_is)) c.requires)

@@ -1,7 +1,7 @@
 -- A generation that has gone is left, and the others stay.
 use Rattle.std.proofs.Common.{◌≡◌, [], Some, length, slice_get, arith, refl, sym, ap, ◌∙◌, subst}
 use Rattle.std.proofs.lemmas.List.{append-nil}
-use Rattle.kfifo_renewing.specs.History.{HasLeft, IsPlaced}
+use Rattle.kfifo_renewing.specs.History.{IsGone, IsPlaced}
 use Rattle.kfifo_renewing.specs.Joining.{held_by}
 use Rattle.kfifo_renewing.specs.Renewing.{Generations, LeavesGone, opening_in}
 use Rattle.kfifo_renewing.proofs.Histories.{prefix-trans}
@@ -61,7 +61,7 @@ loop-index-preserved g c =
     (get-at c.parts.result.now c.loop-index.index p p
     (omega (arith, c.loop-index-test.true, c.len.ensures.count, ap length c.parts.ensures))
     c.index-parts-index.is) in
-    let left : HasLeft new p.number = subst (HasLeft new) c.number.ensures
+    let gone : IsGone new p.number = subst (IsGone new) c.number.ensures
     (c.if-has.ensures.finds (subst (λ k. IsPlaced s.history.log c.number.result k) (sym c.place.ensures)
     (subst (λ n. IsPlaced s.history.log n p.place) (sym c.number.ensures)
     (part-at s.history.log s.older.items c.loop-index.index p i.joined.older_parts at).placed))) in
@@ -77,10 +77,10 @@ loop-index-preserved g c =
       number = i.number;
       older = leaves-trans new c.args.self.now.older (held_by s.older.items) (held_by c.leave.new.self.items)
           (leaves-later s.history.log new c.args.self.now.older (held_by s.older.items) has.later.1 i.older)
-          (held-less new s.older.items c.leave.new.self.items c.loop-index.index p without at left
+          (held-less new s.older.items c.leave.new.self.items c.loop-index.index p without at gone
           (c.has_cell.ensures.0 c.if-has_cell.false));
-      joined = joined-less o s.shared.value.history.book c.has.new.history.book new has.kept.0 s.generation.value
-          s.newest s.older.items c.leave.new.self.items c.loop-index.index p then without at has.kept.1 left;
+      joined = joined-less o s.shared.value.history.book c.has.new.history.book new s.generation.value s.newest
+          s.older.items c.leave.new.self.items c.loop-index.index p then without at gone;
     }
 
 pub returns-clause-same : goal.returns-clause-same

@@ -1,6 +1,6 @@
 use Rattle.std.proofs.Common.{◌<◌, sym, ap, ◌∙◌, subst}
 use Rattle.kfifo_renewing.specs.declared.change.Change.TheVariants as C
-use Rattle.kfifo_renewing.specs.History.{NextView, WasNewest}
+use Rattle.kfifo_renewing.specs.History.{IsPlaced, NextView, WasNewest}
 use Rattle.kfifo_renewing.proofs.Making.{renews-moves}
 use Rattle.kfifo_renewing.proofs.history.Next.renew.Goals as goal
 
@@ -19,5 +19,6 @@ compare_exchange-found-requires c =
       rw (ap (λ w. w.key) h, c.requires.pen, offer.3, c.from.ensures)
           (renews-moves log c.self.inside.number c.args.number there.0 (C.Newest c.args.number)
           (subst (WasNewest log) (sym number) c.requires.newest)
-          (subst (λ n. n < c.args.number) (sym number) c.requires.later) there.1 there.2),
+          (subst (λ n. n < c.args.number) (sym number) c.requires.later) there.1
+          (subst (λ n. IsPlaced log n there.0) (sym number) there.2)),
     )

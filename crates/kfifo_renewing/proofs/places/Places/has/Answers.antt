@@ -1,4 +1,4 @@
--- The generation that was found is this one, or another one, and then this one has left.
+-- The generation that was found is this one, or another one, and then this one has gone.
 use Rattle.std.proofs.Common.{nat_eq, refl}
 use Rattle.kfifo_renewing.proofs.Keeping.{has-found, has-none}
 use Rattle.kfifo_renewing.proofs.places.Places.has.Goals as goal

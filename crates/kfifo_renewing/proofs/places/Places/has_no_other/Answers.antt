@@ -47,6 +47,6 @@ pub returns-clause-others : goal.returns-clause-others
 returns-clause-others g c is =
     let s = c.loop-index.invariant.seen in
     looked-all c.args.number c.args.end c.args.joined.now s.1 c.args.history.now.log s.0 c.loop-index.history.log
-    s.2 s.3
+    s.2 s.3 c.requires.newest
     (subst (λ k. LookedAt c.args.number c.args.end k c.args.joined.now s.0 c.loop-index.history.log)
     (omega (arith, c.loop-index-test.false)) s.5)

@@ -6,7 +6,7 @@ use Rattle.kfifo_renewing.specs.History.{IsKept}
 use Rattle.kfifo_renewing.proofs.Joining.{LookedAt}
 use Rattle.kfifo_renewing.proofs.places.Places.has_no_other.Given as goal
 
--- each generation that had been put into one of the places so far has left it, or is among these
+-- each generation that had been shown in one of the places so far has gone, or is among these
 abbrev pub invariant-loop-index : goal.invariant-loop-index
 invariant-loop-index g l = record {
   book : l.history.book ≡ l.fn.history.book;

@@ -1,12 +1,10 @@
 use Rattle.std.proofs.Common.{◌≡◌}
 use mathlib.Core.List.{IsPrefix}
-use Rattle.kfifo_renewing.specs.History.{HasRisen}
-use Rattle.kfifo_renewing.proofs.places.Places.retire_others.Given as goal
+use Rattle.kfifo_renewing.proofs.places.Places.find_shown.Given as goal
 
 -- more of the history was seen
 abbrev pub invariant-loop-index : goal.invariant-loop-index
 invariant-loop-index g l = record {
   book : l.history.book ≡ l.fn.history.book;
   more : IsPrefix l.fn.history.log l.history.log;
-  risen : HasRisen l.history.log;
 }

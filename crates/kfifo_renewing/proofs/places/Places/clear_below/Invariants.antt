@@ -1,0 +1,12 @@
+use Rattle.std.proofs.Common.{◌≡◌}
+use mathlib.Core.List.{IsPrefix}
+use Rattle.kfifo_renewing.specs.History.{HasRisen}
+use Rattle.kfifo_renewing.proofs.places.Places.clear_below.Given as goal
+
+-- more of the history was seen
+abbrev pub invariant-loop-index : goal.invariant-loop-index
+invariant-loop-index g l = record {
+  book : l.history.book ≡ l.fn.history.book;
+  more : IsPrefix l.fn.history.log l.history.log;
+  risen : HasRisen l.history.log;
+}
