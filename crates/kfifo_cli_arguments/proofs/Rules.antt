@@ -82,14 +82,6 @@ many_rule n v a m name word ne ve ae me range = (
   ap (λ (x : Arg). x.global) me ∙ (ap (λ (x : Arg). x.global) ae ∙ (ap (λ (x : Arg). x.global) ve ∙ ne.1)),
 )
 
--- words, of which there may be none
-pub words_rule : (n v a m : Arg) (word : Bor (List ℕ)) → IsArg (new_rule (codes "words")) n
-    → v ≡ record n { val_names = One word }
-    → a ≡ record v { action = Some Append }
-    → m ≡ record a { num_vals = m.num_vals } → IsSomeAnd m.num_vals
-    (λ range. range ≡ record { start_inclusive = 1; end_inclusive = usize_max }) → IsArg any_words m
-words_rule n v a m word = many_rule n v a m (codes "words") word
-
 -- the argument that names a file
 pub file_rule_is : (n v a : Arg) (word : Bor (List ℕ)) → IsArg (new_rule (codes "file")) n
     → v ≡ record n { val_names = One word }
@@ -101,16 +93,12 @@ file_rule_is n v a word ne ve ae = (
   ap (λ (x : Arg). x.global) ae ∙ (ap (λ (x : Arg). x.global) ve ∙ ne.1),
 )
 
--- the words of a script
-pub script_rule : (n v a m r : Arg) (word : Bor (List ℕ)) → IsArg (new_rule (codes "words")) n
-    → v ≡ record n { val_names = One word }
-    → a ≡ record v { action = Some Append }
-    → m ≡ record a { num_vals = m.num_vals } → IsSomeAnd m.num_vals
-    (λ range. range ≡ record { start_inclusive = 1; end_inclusive = usize_max }) → r ≡ record m { required = true }
-    → IsArg script r
-script_rule n v a m r word ne ve ae me range re =
-    let any = words_rule n v a m word ne ve ae me range in
-    (ap rule_of re ∙ ap (λ (x : Rule). record x { required = true }) any.0, ap (λ (x : Arg). x.global) re ∙ any.1)
+-- words, at least one
+pub required_rule : (m r : Arg) → IsArg any_words m → r ≡ record m { required = true } → IsArg script r
+required_rule m r me re = (
+  ap rule_of re ∙ ap (λ (x : Rule). record x { required = true }) me.0,
+  ap (λ (x : Arg). x.global) re ∙ me.1,
+)
 
 or_false : (b : Bool) → (b || false) ≡ b
 or_false true = refl

@@ -4,7 +4,7 @@ ghost use Rattle.clap.specs.Words.{app_of, found_of, one_text, rule_of};
 ghost use Rattle.clap.specs.declared.builder.command.Command.TheViews.{out-Command as fields_of};
 ghost use Rattle.kfifo_cli_arguments.specs.CommandLine as line;
 ghost use Rattle.kfifo_cli_arguments.specs.Options.{GivesFile, GivesOr, GivesPlaces, GivesSizes, GivesTries};
-ghost use Rattle.kfifo_cli_arguments.specs.Options.{GivesTurns, given_files};
+ghost use Rattle.kfifo_cli_arguments.specs.Options.{GivesTurns, given_files, given_words};
 
 use clap::{Arg, ArgAction, ArgMatches, Command, value_parser};
 use kfifo_cli_requests::Sizes;
@@ -26,6 +26,8 @@ const TURNS: &str = "turns";
 const TRIES: &str = "tries";
 
 const FILE: &str = "file";
+
+const WORDS: &str = "words";
 
 /// In place of a file, it names standard input.
 const STANDARD_INPUT: &str = "-";
@@ -63,17 +65,10 @@ pub fn with_sizes<'a>(alloc: Global, command: Command<'a>) -> Result<Command<'a>
     ensures { IfOk result (λ c. (app_of c ≡ line.with_sizes (app_of command.entry))
         × ((fields_of c).has_globals ≡ (fields_of command.entry).has_globals)) }
 {
-    let k = option(alloc, K)
-        .value_name("SLOTS")
-        .value_parser(value_parser!(u32))
-        .default_value("2")
-        .short('k')
-        .help("Slots in a segment, 1 to 64: a dequeue takes one of\nthe k oldest items");
-    let segments = option(alloc, SEGMENTS)
-        .value_name("NUMBER")
-        .value_parser(value_parser!(u32))
-        .default_value("2")
-        .help("Segments in the ring, 2 to 1024");
+    let k = number(alloc, K, "SLOTS", "2").short('k').help(
+        "Slots in a segment, 1 to 64: a dequeue takes one of\nthe k oldest items",
+    );
+    let segments = number(alloc, SEGMENTS, "NUMBER", "2").help("Segments in the ring, 2 to 1024");
     let last = option(alloc, LAST)
         .value_name("VERSION")
         .value_parser(value_parser!(u64).range(0..=1_099_511_627_775))
@@ -149,11 +144,9 @@ pub fn with_tries<'a>(alloc: Global, command: Command<'a>) -> Result<Command<'a>
     ensures { IfOk result (λ c. (app_of c ≡ line.with_tries (app_of command.entry))
         × ((fields_of c).has_globals ≡ (fields_of command.entry).has_globals)) }
 {
-    let tries = option(alloc, TRIES)
-        .value_name("NUMBER")
-        .value_parser(value_parser!(u32))
-        .default_value("1000000")
-        .help("How many choices the search for an order may undo\nbefore it gives up");
+    let tries = number(alloc, TRIES, "NUMBER", "1000000").help(
+        "How many choices the search for an order may undo\nbefore it gives up",
+    );
     command.arg(tries)
 }
 
@@ -181,11 +174,9 @@ pub fn with_files<'a>(alloc: Global, command: Command<'a>) -> Result<Command<'a>
     ensures { IfOk result (λ c. (app_of c ≡ line.with_files (app_of command.entry))
         × ((fields_of c).has_globals ≡ (fields_of command.entry).has_globals)) }
 {
-    let files = Arg::new(alloc, FILE)
-        .value_name("FILE")
-        .action(ArgAction::Append)
-        .num_args(1..)
-        .help("The files to read; standard input if none is named,\nor - alone");
+    let files = many(alloc, FILE, "FILE").help(
+        "The files to read; standard input if none is named,\nor - alone",
+    );
     command.arg(files)
 }
 
@@ -206,6 +197,62 @@ pub fn file_of<'a>(matches: &'a ArgMatches<'_>) -> Option<&'a str>
     } else {
         Some(path)
     }
+}
+
+/// The arguments that are words, of which there may be none. Help calls each of them `shown`.
+pub fn any_words<'a>(alloc: Global, shown: &'a str) -> Arg<'a>
+    ensures rule { rule_of result ≡ line.any_words }
+    ensures own { result.global ≡ false }
+{
+    many(alloc, WORDS, shown)
+}
+
+/// The arguments that are words, at least one. Help calls each of them `shown`.
+pub fn required_words<'a>(alloc: Global, shown: &'a str) -> Arg<'a>
+    ensures rule { rule_of result ≡ line.script }
+    ensures own { result.global ≡ false }
+{
+    any_words(alloc, shown).required(true)
+}
+
+/// The scripts of threads, at least one.
+pub fn scripts<'a>(alloc: Global) -> Arg<'a>
+    ensures rule { rule_of result ≡ line.script }
+    ensures own { result.global ≡ false }
+{
+    required_words(alloc, "SCRIPT").help(
+        "What each thread calls: e<ITEM>, e<ITEM>:<START>, d or\nd:<START>, joined by commas",
+    )
+}
+
+/// The words that are given.
+pub fn words_of<'a>(matches: &'a ArgMatches<'_>) -> &'a [&'a str]
+    ensures { map (λ word. word.now) result.now ≡ given_words (found_of matches.now) }
+{
+    matches.get_strs(WORDS).unwrap_or(&[])
+}
+
+/// The arguments `name`, of which there may be any number. Help calls each of them `shown`.
+fn many<'a>(alloc: Global, name: &'a str, shown: &'a str) -> Arg<'a>
+    ensures rule { rule_of result ≡ line.many name.entry.now }
+    ensures own { result.global ≡ false }
+{
+    Arg::new(alloc, name)
+        .value_name(shown)
+        .action(ArgAction::Append)
+        .num_args(1..)
+}
+
+/// The option `--name`, which takes a number of 32 bits. Help calls its value `shown`.
+pub fn number<'a>(alloc: Global, name: &'a str, shown: &'a str, default: &'a str) -> Arg<'a>
+    ensures rule { rule_of result
+        ≡ line.default_option name.entry.now (line.small_numbers 0 4294967295) default.entry.now }
+    ensures own { result.global ≡ false }
+{
+    option(alloc, name)
+        .value_name(shown)
+        .value_parser(value_parser!(u32))
+        .default_value(default)
 }
 
 /// The option `--name`, which takes no value.

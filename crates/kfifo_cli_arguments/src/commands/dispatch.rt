@@ -5,14 +5,12 @@ ghost use Rattle.kfifo_cli_arguments.specs.CommandLine.{IsCommand, dispatch_comm
 ghost use Rattle.kfifo_cli_arguments.specs.Options.{GivesDispatch};
 
 use crate::options;
-use clap::{Arg, ArgAction, ArgMatches, Command, value_parser};
+use clap::{ArgMatches, Command};
 use kfifo_cli_requests::DispatchOptions;
 use std::alloc::{AllocError, Global};
 
 /// The name of the command.
 pub const NAME: &str = "dispatch";
-
-const WORDS: &str = "words";
 
 const WORKERS: &str = "workers";
 
@@ -84,21 +82,11 @@ docs/DISPATCH.md and docs/PROGRAM.md, where this program comes from, say more.";
 pub fn command<'a>(alloc: Global) -> Result<Command<'a>, AllocError>
     ensures { IfOk result (IsCommand dispatch_command) }
 {
-    let workers = options::option(alloc, WORKERS)
-        .value_name("THREADS")
-        .value_parser(value_parser!(u32))
-        .default_value("2")
-        .help("Worker threads, 1 to 63");
-    let seed = options::option(alloc, SEED)
-        .value_name("NUMBER")
-        .value_parser(value_parser!(u32))
-        .default_value("0")
-        .help("What the workers draw the slots from at which they\nbegin to look");
-    let tasks = Arg::new(alloc, WORDS)
-        .value_name("TASK")
-        .action(ArgAction::Append)
-        .num_args(1..)
-        .help("The tasks, each <ID>:<LEFT>:<SUM>");
+    let workers = options::number(alloc, WORKERS, "THREADS", "2").help("Worker threads, 1 to 63");
+    let seed = options::number(alloc, SEED, "NUMBER", "0").help(
+        "What the workers draw the slots from at which they\nbegin to look",
+    );
+    let tasks = options::any_words(alloc, "TASK").help("The tasks, each <ID>:<LEFT>:<SUM>");
     let command = Command::new(alloc, NAME)
         .about("Works off tasks by threads over one queue, and prints the results")
         .after_help(EXAMPLES)
@@ -117,6 +105,6 @@ pub fn options_of<'a>(matches: &'a ArgMatches<'_>) -> DispatchOptions<'a>
         sizes: options::sizes_of(matches),
         workers: options::count_of(matches, WORKERS, DEFAULT_WORKERS),
         seed: options::count_of(matches, SEED, DEFAULT_SEED),
-        words: matches.get_strs(WORDS).unwrap_or(&[]),
+        words: options::words_of(matches),
     }
 }

@@ -4,15 +4,14 @@ ghost use Rattle.clap.specs.Words.{found_of};
 ghost use Rattle.kfifo_cli_arguments.specs.CommandLine.{IsCommand, explain_command};
 ghost use Rattle.kfifo_cli_arguments.specs.Options.{GivesExplain};
 
+use crate::options;
 use crate::topics::{answers, arguments, helps, inputs, statuses, verdicts};
-use clap::{Arg, ArgAction, ArgMatches, Command};
+use clap::{ArgMatches, Command};
 use kfifo_cli_requests::ExplainOptions;
 use std::alloc::{AllocError, Global};
 
 /// The name of the command.
 pub const NAME: &str = "explain";
-
-const WORDS: &str = "words";
 
 const EXAMPLES: &str = "\
 Examples:
@@ -115,12 +114,9 @@ docs/PROGRAM.md and docs/JUDGE.md, where this program comes from, say more.";
 pub fn command<'a>(alloc: Global) -> Result<Command<'a>, AllocError>
     ensures { IfOk result (IsCommand explain_command) }
 {
-    let words = Arg::new(alloc, WORDS)
-        .value_name("WORD")
-        .action(ArgAction::Append)
-        .num_args(1..)
-        .required(true)
-        .help("The words of a fault or an answer, as they were printed");
+    let words = options::required_words(alloc, "WORD").help(
+        "The words of a fault or an answer, as they were printed",
+    );
     Command::new(alloc, NAME)
         .about("Says what a fault or an answer means, and what to do")
         .after_help(EXAMPLES)
@@ -133,7 +129,7 @@ pub fn options_of<'a>(matches: &'a ArgMatches<'_>) -> ExplainOptions<'a>
     ensures { GivesExplain (found_of matches.now) result }
 {
     ExplainOptions {
-        words: matches.get_strs(WORDS).unwrap_or(&[]),
+        words: options::words_of(matches),
         first_topics: arguments::topics(),
         second_topics: inputs::topics(),
         third_topics: verdicts::topics(),

@@ -5,14 +5,12 @@ ghost use Rattle.kfifo_cli_arguments.specs.CommandLine.{IsCommand, record_comman
 ghost use Rattle.kfifo_cli_arguments.specs.Options.{GivesRecord, GivesTimes};
 
 use crate::options;
-use clap::{Arg, ArgAction, ArgMatches, Command, value_parser};
+use clap::{ArgMatches, Command, value_parser};
 use kfifo_cli_requests::RecordOptions;
 use std::alloc::{AllocError, Global};
 
 /// The name of the command.
 pub const NAME: &str = "record";
-
-const WORDS: &str = "words";
 
 const REPEAT: &str = "repeat";
 
@@ -88,14 +86,7 @@ pub fn command<'a>(alloc: Global) -> Result<Command<'a>, AllocError>
         .value_parser(value_parser!(u32).range(1..=1024))
         .default_value("1")
         .help("How often each script is made over, 1 to 1024, with\nitems of its own each time");
-    let scripts = Arg::new(alloc, WORDS)
-        .value_name("SCRIPT")
-        .action(ArgAction::Append)
-        .num_args(1..)
-        .required(true)
-        .help(
-            "What each thread calls: e<ITEM>, e<ITEM>:<START>, d or\nd:<START>, joined by commas",
-        );
+    let scripts = options::scripts(alloc);
     let command = Command::new(alloc, NAME)
         .about("Runs each script on a thread of its own, and prints the record")
         .after_help(EXAMPLES)
@@ -114,7 +105,7 @@ pub fn options_of<'a>(matches: &'a ArgMatches<'_>) -> RecordOptions<'a>
         sizes: options::sizes_of(matches),
         turns: options::turns_of(matches),
         repeat: times_of(matches),
-        scripts: matches.get_strs(WORDS).unwrap_or(&[]),
+        scripts: options::words_of(matches),
     }
 }
 

@@ -5,14 +5,12 @@ ghost use Rattle.kfifo_cli_arguments.specs.CommandLine.{IsCommand, replay_comman
 ghost use Rattle.kfifo_cli_arguments.specs.Options.{GivesReplay};
 
 use crate::options;
-use clap::{Arg, ArgAction, ArgMatches, Command, value_parser};
+use clap::{ArgMatches, Command, value_parser};
 use kfifo_cli_requests::ReplayOptions;
 use std::alloc::{AllocError, Global};
 
 /// The name of the command.
 pub const NAME: &str = "replay";
-
-const WORDS: &str = "words";
 
 const PICKS: &str = "picks";
 
@@ -139,14 +137,7 @@ pub fn command<'a>(alloc: Global) -> Result<Command<'a>, AllocError>
     let record = options::flag(alloc, RECORD).help(
         "Print the record of the calls, for `check` and\n`measure`, in place of all that",
     );
-    let scripts = Arg::new(alloc, WORDS)
-        .value_name("SCRIPT")
-        .action(ArgAction::Append)
-        .num_args(1..)
-        .required(true)
-        .help(
-            "What each thread calls: e<ITEM>, e<ITEM>:<START>, d or\nd:<START>, joined by commas",
-        );
+    let scripts = options::scripts(alloc);
     let command = Command::new(alloc, NAME)
         .about("Runs scripts step by step in a given order, and says what came of it")
         .after_help(EXAMPLES)
@@ -175,6 +166,6 @@ pub fn options_of<'a>(matches: &'a ArgMatches<'_>) -> ReplayOptions<'a>
         points: matches.get_flag(POINTS),
         trace: matches.get_flag(TRACE),
         record: matches.get_flag(RECORD),
-        scripts: matches.get_strs(WORDS).unwrap_or(&[]),
+        scripts: options::words_of(matches),
     }
 }

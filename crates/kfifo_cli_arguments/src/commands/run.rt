@@ -5,14 +5,12 @@ ghost use Rattle.kfifo_cli_arguments.specs.CommandLine.{IsCommand, run_command};
 ghost use Rattle.kfifo_cli_arguments.specs.Options.{GivesRun};
 
 use crate::options;
-use clap::{Arg, ArgAction, ArgMatches, Command};
+use clap::{ArgMatches, Command};
 use kfifo_cli_requests::RunOptions;
 use std::alloc::{AllocError, Global};
 
 /// The name of the command.
 pub const NAME: &str = "run";
-
-const WORDS: &str = "words";
 
 const EXAMPLES: &str = "\
 Examples:
@@ -74,12 +72,9 @@ docs/PROGRAM.md, where this program comes from, says more.";
 pub fn command<'a>(alloc: Global) -> Result<Command<'a>, AllocError>
     ensures { IfOk result (IsCommand run_command) }
 {
-    let script = Arg::new(alloc, WORDS)
-        .value_name("WORD")
-        .action(ArgAction::Append)
-        .num_args(1..)
-        .required(true)
-        .help("The calls, in their order: e<ITEM>, e<ITEM>:<START>, d or\nd:<START>");
+    let script = options::required_words(alloc, "WORD").help(
+        "The calls, in their order: e<ITEM>, e<ITEM>:<START>, d or\nd:<START>",
+    );
     let command = Command::new(alloc, NAME)
         .about("Makes calls on a queue, and prints their answers and its words")
         .after_help(EXAMPLES)
@@ -95,6 +90,6 @@ pub fn options_of<'a>(matches: &'a ArgMatches<'_>) -> RunOptions<'a>
     RunOptions {
         sizes: options::sizes_of(matches),
         turns: options::turns_of(matches),
-        words: matches.get_strs(WORDS).unwrap_or(&[]),
+        words: options::words_of(matches),
     }
 }

@@ -2,6 +2,23 @@
 
 use kfifo_cli_requests::{Help, Topic};
 
+const NOTHING: &str = "\
+To do: nothing.
+";
+
+const FULL: &str = "\
+To do: take items first, or make the queue larger by --segments.
+";
+
+const BUSY: &str = "\
+To do: give more --turns: the number of segments plus 2 is enough where no other
+call disturbs.
+";
+
+const WORN: &str = "\
+To do: make a new queue, or give a greater --last.
+";
+
 /// If two begin alike, the longer one comes first.
 const TOPICS: &[Topic] = &[
     Topic {
@@ -57,9 +74,7 @@ To do: look at the call that is marked.
         words: "legal",
         help: Help::Explain,
         line: "  legal",
-        advice: "\
-To do: nothing.
-",
+        advice: NOTHING,
     },
     Topic {
         words: "call # item # overtaken",
@@ -81,180 +96,133 @@ To do: nothing: in a plain queue it is 0.
         words: "enqueue #: done",
         help: Help::Run,
         line: "  done ",
-        advice: "\
-To do: nothing.
-",
+        advice: NOTHING,
     },
     Topic {
         words: "enqueue #: full",
         help: Help::Run,
         line: "  full ",
-        advice: "\
-To do: take items first, or make the queue larger by --segments.
-",
+        advice: FULL,
     },
     Topic {
         words: "enqueue #: busy",
         help: Help::Run,
         line: "  busy ",
-        advice: "\
-To do: give more --turns: the number of segments plus 2 is enough where no other
-call disturbs.
-",
+        advice: BUSY,
     },
     Topic {
         words: "enqueue #: worn",
         help: Help::Run,
         line: "  worn ",
-        advice: "\
-To do: make a new queue, or give a greater --last.
-",
+        advice: WORN,
     },
     Topic {
         words: "dequeue: got",
         help: Help::Run,
         line: "  got <ITEM> ",
-        advice: "\
-To do: nothing.
-",
+        advice: NOTHING,
     },
     Topic {
         words: "dequeue: empty",
         help: Help::Run,
         line: "  empty ",
-        advice: "\
-To do: nothing.
-",
+        advice: NOTHING,
     },
     Topic {
         words: "dequeue: busy",
         help: Help::Run,
         line: "  busy ",
-        advice: "\
-To do: give more --turns: the number of segments plus 2 is enough where no other
-call disturbs.
-",
+        advice: BUSY,
     },
     Topic {
         words: "dequeue: worn",
         help: Help::Run,
         line: "  worn ",
-        advice: "\
-To do: make a new queue, or give a greater --last.
-",
+        advice: WORN,
     },
     Topic {
         words: "done",
         help: Help::Run,
         line: "  done ",
-        advice: "\
-To do: nothing.
-",
+        advice: NOTHING,
     },
     Topic {
         words: "full",
         help: Help::Run,
         line: "  full ",
-        advice: "\
-To do: take items first, or make the queue larger by --segments.
-",
+        advice: FULL,
     },
     Topic {
         words: "got",
         help: Help::Run,
         line: "  got <ITEM> ",
-        advice: "\
-To do: nothing.
-",
+        advice: NOTHING,
     },
     Topic {
         words: "empty",
         help: Help::Run,
         line: "  empty ",
-        advice: "\
-To do: nothing.
-",
+        advice: NOTHING,
     },
     Topic {
         words: "busy",
         help: Help::Run,
         line: "  busy ",
-        advice: "\
-To do: give more --turns: the number of segments plus 2 is enough where no other
-call disturbs.
-",
+        advice: BUSY,
     },
     Topic {
         words: "worn",
         help: Help::Run,
         line: "  worn ",
-        advice: "\
-To do: make a new queue, or give a greater --last.
-",
+        advice: WORN,
     },
     Topic {
         words: "head",
         help: Help::Explain,
         line: "  head <S> v<V>",
-        advice: "\
-To do: nothing.
-",
+        advice: NOTHING,
     },
     Topic {
         words: "tail",
         help: Help::Explain,
         line: "  tail <S> v<V>",
-        advice: "\
-To do: nothing.
-",
+        advice: NOTHING,
     },
     Topic {
         words: "slot",
         help: Help::Explain,
         line: "  slot <S>.<P> <X> v<V>",
-        advice: "\
-To do: nothing.
-",
+        advice: NOTHING,
     },
     Topic {
         words: "steps",
         help: Help::Replay,
         line: "  steps <N>",
-        advice: "\
-To do: nothing.
-",
+        advice: NOTHING,
     },
     Topic {
         words: "points",
         help: Help::Replay,
         line: "  points <STEPS>",
-        advice: "\
-To do: nothing.
-",
+        advice: NOTHING,
     },
     Topic {
         words: "rollbacks",
         help: Help::Replay,
         line: "  rollbacks <N>",
-        advice: "\
-To do: nothing.
-",
+        advice: NOTHING,
     },
     Topic {
         words: "completed",
         help: Help::Replay,
         line: "  completed <N>",
-        advice: "\
-To do: nothing.
-",
+        advice: NOTHING,
     },
     Topic {
         words: "# thread #",
         help: Help::Replay,
         line: "  <N> thread <T>",
-        advice: "\
-To do: nothing.
-",
+        advice: NOTHING,
     },
     Topic {
         words: "order",
@@ -268,17 +236,13 @@ To do: of `check`, use `kfifo judge --show` to see the order.
         words: "no calls",
         help: Help::Explain,
         line: "  no calls",
-        advice: "\
-To do: nothing.
-",
+        advice: NOTHING,
     },
     Topic {
         words: "# #",
         help: Help::Explain,
         line: "  <ID> <SUM>",
-        advice: "\
-To do: nothing.
-",
+        advice: NOTHING,
     },
 ];
 

@@ -2,6 +2,38 @@
 
 use kfifo_cli_requests::{Help, Topic};
 
+const FIELDS: &str = "\
+Allowed: `thread`, `op` and `first` always; `item` in each enq, and in a deq
+exactly if it was answered got; `last` and `answer` both or neither; no other
+key in a record; `op` enq or deq; numbers that are whole and at least 0.
+To do: look at the call with this number, from 0, or at this line of the log,
+from 1.
+";
+
+const RANGES: &str = "\
+Allowed: a thread from 0 to 63, an item from 1 to 16777215.
+To do: number threads from 0, and items from 1, each with a number of its own.
+";
+
+const ANSWERS: &str = "\
+Allowed: done, full, busy and worn of an enq; got, empty, busy and worn of a
+deq.
+To do: correct the answer, or the op.
+";
+
+const TIMES: &str = "\
+Allowed: `last` equal to `first` or greater.
+To do: read one monotonic clock before and after the call, and write the earlier
+value as `first`.
+";
+
+const OVERLAP: &str = "\
+Allowed: calls of one thread that follow one another: the next begins after the
+one before has ended.
+To do: give each thread a number of its own. A thread whose call never returned
+makes no more calls.
+";
+
 /// If two begin alike, the longer one comes first.
 const TOPICS: &[Topic] = &[
     Topic {
@@ -50,83 +82,49 @@ To do: judge a shorter run.
         words: "record fault 3 at line",
         help: Help::Import,
         line: "  kfifo: record fault 3 at line",
-        advice: "\
-Allowed: `thread`, `op` and `first` always; `item` in each enq, and in a deq
-exactly if it was answered got; `last` and `answer` both or neither; no other
-key in a record; `op` enq or deq; numbers that are whole and at least 0.
-To do: look at the call with this number, from 0, or at this line of the log,
-from 1.
-",
+        advice: FIELDS,
     },
     Topic {
         words: "record fault 3",
         help: Help::Check,
         line: "  kfifo: record fault 3",
-        advice: "\
-Allowed: `thread`, `op` and `first` always; `item` in each enq, and in a deq
-exactly if it was answered got; `last` and `answer` both or neither; no other
-key in a record; `op` enq or deq; numbers that are whole and at least 0.
-To do: look at the call with this number, from 0, or at this line of the log,
-from 1.
-",
+        advice: FIELDS,
     },
     Topic {
         words: "record fault 4 at line",
         help: Help::Import,
         line: "  kfifo: record fault 4 at line",
-        advice: "\
-Allowed: a thread from 0 to 63, an item from 1 to 16777215.
-To do: number threads from 0, and items from 1, each with a number of its own.
-",
+        advice: RANGES,
     },
     Topic {
         words: "record fault 4",
         help: Help::Check,
         line: "  kfifo: record fault 4",
-        advice: "\
-Allowed: a thread from 0 to 63, an item from 1 to 16777215.
-To do: number threads from 0, and items from 1, each with a number of its own.
-",
+        advice: RANGES,
     },
     Topic {
         words: "record fault 5 at line",
         help: Help::Import,
         line: "  kfifo: record fault 5 at line",
-        advice: "\
-Allowed: done, full, busy and worn of an enq; got, empty, busy and worn of a
-deq.
-To do: correct the answer, or the op.
-",
+        advice: ANSWERS,
     },
     Topic {
         words: "record fault 5",
         help: Help::Check,
         line: "  kfifo: record fault 5",
-        advice: "\
-Allowed: done, full, busy and worn of an enq; got, empty, busy and worn of a
-deq.
-To do: correct the answer, or the op.
-",
+        advice: ANSWERS,
     },
     Topic {
         words: "record fault 6 at line",
         help: Help::Import,
         line: "  kfifo: record fault 6 at line",
-        advice: "\
-Allowed: `last` equal to `first` or greater.
-To do: read one monotonic clock before and after the call, and write the earlier
-value as `first`.
-",
+        advice: TIMES,
     },
     Topic {
         words: "record fault 6",
         help: Help::Check,
         line: "  kfifo: record fault 6",
-        advice: "\
-Allowed: `last` equal to `first` or greater.
-To do: read one monotonic clock before and after the call, and write the earlier
-value as `first`.
-",
+        advice: TIMES,
     },
     Topic {
         words: "record fault 7",
@@ -142,23 +140,13 @@ and two calls may begin at one time.
         words: "record fault 8 at line",
         help: Help::Import,
         line: "  kfifo: record fault 8 at line",
-        advice: "\
-Allowed: calls of one thread that follow one another: the next begins after the
-one before has ended.
-To do: give each thread a number of its own. A thread whose call never returned
-makes no more calls.
-",
+        advice: OVERLAP,
     },
     Topic {
         words: "record fault 8",
         help: Help::Check,
         line: "  kfifo: record fault 8",
-        advice: "\
-Allowed: calls of one thread that follow one another: the next begins after the
-one before has ended.
-To do: give each thread a number of its own. A thread whose call never returned
-makes no more calls.
-",
+        advice: OVERLAP,
     },
     Topic {
         words: "record fault 9",

@@ -38,6 +38,21 @@ To do: see below for which k there may be an order; give each item its own
 number to see which calls got the others.
 ";
 
+const ITEMS_REPEAT: &str = "\
+To do: give each item a number of its own: then k = 1 is always decided if each
+call ends.
+";
+
+const GOT_BY_CALL: &str = "\
+To do: see call M: it got the item after the call that found nothing, or after
+one that got a younger item.
+";
+
+const NEVER_GOT: &str = "\
+To do: drain the queue until it answers empty before the log ends: what is never
+got then is lost.
+";
+
 /// If two begin alike, the longer one comes first.
 const TOPICS: &[Topic] = &[
     Topic {
@@ -96,19 +111,13 @@ shorter run.
         words: "items repeat",
         help: Help::Judge,
         line: "  ; items repeat",
-        advice: "\
-To do: give each item a number of its own: then k = 1 is always decided if each
-call ends.
-",
+        advice: ITEMS_REPEAT,
     },
     Topic {
         words: "; items repeat",
         help: Help::Judge,
         line: "  ; items repeat",
-        advice: "\
-To do: give each item a number of its own: then k = 1 is always decided if each
-call ends.
-",
+        advice: ITEMS_REPEAT,
     },
     Topic {
         words: "no order",
@@ -223,37 +232,25 @@ To do: see this line of the log, counted from 1.
         words: ", got by call",
         help: Help::Judge,
         line: "  , got by call",
-        advice: "\
-To do: see call M: it got the item after the call that found nothing, or after
-one that got a younger item.
-",
+        advice: GOT_BY_CALL,
     },
     Topic {
         words: "got by call",
         help: Help::Judge,
         line: "  , got by call",
-        advice: "\
-To do: see call M: it got the item after the call that found nothing, or after
-one that got a younger item.
-",
+        advice: GOT_BY_CALL,
     },
     Topic {
         words: ", never got",
         help: Help::Judge,
         line: "  , never got",
-        advice: "\
-To do: drain the queue until it answers empty before the log ends: what is never
-got then is lost.
-",
+        advice: NEVER_GOT,
     },
     Topic {
         words: "never got",
         help: Help::Judge,
         line: "  , never got",
-        advice: "\
-To do: drain the queue until it answers empty before the log ends: what is never
-got then is lost.
-",
+        advice: NEVER_GOT,
     },
     Topic {
         words: "k at least",

@@ -1,4 +1,4 @@
-use Rattle.std.proofs.Common.{codes, refl}
+use Rattle.std.proofs.Common.{refl}
 use Rattle.std.proofs.lemmas.Result.{IfOk-weaker}
 use Rattle.kfifo_cli_arguments.proofs.Rules.{adds, file_rule_is, help_rule}
 use Rattle.kfifo_cli_arguments.proofs.options.with_file.Goals as goal

@@ -7,45 +7,30 @@ use Rattle.kfifo_cli_arguments.proofs.options.with_sizes.Goals as goal
 pub returns : goal.returns
 returns c =
     let small = small_numbers 0 4294967295 in
-    let k_text = text_rule c.option.result c.value_name.result (codes "k") _
+    let k_places = places_rule c.number.result c.short.result _ _ _ (c.number.ensures.rule, c.number.ensures.own)
+    c.short.ensures in
+    let k = help_rule c.short.result c.help-k.result _ _ k_places c.help-k.ensures in
+    let n = help_rule c.number-2.result c.help-segments.result _ _ (c.number-2.ensures.rule, c.number-2.ensures.own)
+    c.help-segments.ensures in
+    let l_text = text_rule c.option.result c.value_name.result (codes "last") _
     (c.option.ensures.rule, c.option.ensures.own)
     c.value_name.ensures in
-    let k_given = c.value_parser-2.ensures.given in
-    let k_number = number_rule c.value_name.result c.value_parser-2.result (codes "k") k_given.0 small k_text
-    c.value_parser-2.ensures.others k_given.1 (k_given.2 ∙ c.value_parser.ensures) in
-    let k_default = default_rule c.value_parser-2.result c.default_value.result (codes "k") (codes "2") small _ k_number
+    let l_given = c.value_parser-2.ensures.given in
+    let l_range : c.range.result ≡ versions = rw (c.value_parser.ensures, c.new.ensures.end, c.new.ensures.start) at
+    c.range.ensures in
+    let l_number = number_rule c.value_name.result c.value_parser-2.result (codes "last") l_given.0 versions l_text
+    c.value_parser-2.ensures.others l_given.1 (l_given.2 ∙ l_range) in
+    let l_default = default_rule c.value_parser-2.result c.default_value.result (codes "last") (codes "1099511627775")
+    versions _ l_number
     c.default_value.ensures refl in
-    let k_places = places_rule c.default_value.result c.short.result _ _ _ k_default c.short.ensures in
-    let k = help_rule c.short.result c.help-k.result _ _ k_places c.help-k.ensures in
-    let n_text = text_rule c.option-2.result c.value_name-2.result (codes "segments") _
+    let l = help_rule c.default_value.result c.help-last.result _ _ l_default c.help-last.ensures in
+    let p_text = text_rule c.option-2.result c.value_name-2.result (codes "probes") _
     (c.option-2.ensures.rule, c.option-2.ensures.own)
     c.value_name-2.ensures in
-    let n_given = c.value_parser-4.ensures.given in
-    let n_number = number_rule c.value_name-2.result c.value_parser-4.result (codes "segments") n_given.0 small n_text
-    c.value_parser-4.ensures.others n_given.1 (n_given.2 ∙ c.value_parser-3.ensures) in
-    let n_default = default_rule c.value_parser-4.result c.default_value-2.result (codes "segments") (codes "2") small _
-    n_number
-    c.default_value-2.ensures refl in
-    let n = help_rule c.default_value-2.result c.help-segments.result _ _ n_default c.help-segments.ensures in
-    let l_text = text_rule c.option-3.result c.value_name-3.result (codes "last") _
-    (c.option-3.ensures.rule, c.option-3.ensures.own)
-    c.value_name-3.ensures in
-    let l_given = c.value_parser-6.ensures.given in
-    let l_range : c.range.result ≡ versions = rw (c.value_parser-5.ensures, c.new.ensures.end, c.new.ensures.start) at
-    c.range.ensures in
-    let l_number = number_rule c.value_name-3.result c.value_parser-6.result (codes "last") l_given.0 versions l_text
-    c.value_parser-6.ensures.others l_given.1 (l_given.2 ∙ l_range) in
-    let l_default = default_rule c.value_parser-6.result c.default_value-3.result (codes "last") (codes "1099511627775")
-    versions _ l_number
-    c.default_value-3.ensures refl in
-    let l = help_rule c.default_value-3.result c.help-last.result _ _ l_default c.help-last.ensures in
-    let p_text = text_rule c.option-4.result c.value_name-4.result (codes "probes") _
-    (c.option-4.ensures.rule, c.option-4.ensures.own)
-    c.value_name-4.ensures in
-    let p_given = c.value_parser-8.ensures.given in
-    let p_number = number_rule c.value_name-4.result c.value_parser-8.result (codes "probes") p_given.0 small p_text
-    c.value_parser-8.ensures.others p_given.1 (p_given.2 ∙ c.value_parser-7.ensures) in
-    let p = help_rule c.value_parser-8.result c.help-probes.result _ _ p_number c.help-probes.ensures in
+    let p_given = c.value_parser-4.ensures.given in
+    let p_number = number_rule c.value_name-2.result c.value_parser-4.result (codes "probes") p_given.0 small p_text
+    c.value_parser-4.ensures.others p_given.1 (p_given.2 ∙ c.value_parser-3.ensures) in
+    let p = help_rule c.value_parser-4.result c.help-probes.result _ _ p_number c.help-probes.ensures in
     let one = adds _ c.in_ok-arg.field-0 c.help-k.result _ _ refl k c.in_ok-arg.ensures in
     let two = adds _ c.in_ok-arg-2.field-0 c.help-segments.result _ _ one.0 n c.in_ok-arg-2.ensures in
     let three = adds _ c.in_ok-arg-3.field-0 c.help-last.result _ _ two.0 l c.in_ok-arg-3.ensures in

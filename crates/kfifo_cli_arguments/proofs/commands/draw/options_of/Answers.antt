@@ -1,4 +1,3 @@
-use Rattle.std.proofs.Common.{rules}
 use Rattle.kfifo_cli_arguments.proofs.Numbers.{given}
 use Rattle.kfifo_cli_arguments.proofs.commands.draw.options_of.Goals as goal
 

@@ -1,7 +1,7 @@
 use Rattle.std.proofs.Common.{ap, codes, refl, ◌∙◌, ◌≡◌}
 use Rattle.std.proofs.lemmas.Result.{IfOk-weaker}
 use Rattle.kfifo_cli_arguments.specs.CommandLine.{small_numbers, with_sizes, with_turns}
-use Rattle.kfifo_cli_arguments.proofs.Rules.{adds, bare_command, default_rule, help_rule, number_rule, script_rule}
+use Rattle.kfifo_cli_arguments.proofs.Rules.{adds, bare_command, default_rule, help_rule, number_rule}
 use Rattle.kfifo_cli_arguments.proofs.Rules.{text_rule}
 use Rattle.kfifo_cli_arguments.proofs.commands.record.command.Goals as goal
 
@@ -21,17 +21,14 @@ returns c =
     number
     c.default_value.ensures refl in
     let repeat = help_rule c.default_value.result c.help-repeat.result _ _ default c.help-repeat.ensures in
-    let words = script_rule c.new-2.result c.value_name-2.result c.action.result c.num_args.result c.required.result _
-    (c.new-2.ensures.rule, c.new-2.ensures.optional.1) c.value_name-2.ensures c.action.ensures
-    c.num_args.ensures.0 c.num_args.ensures.1 c.required.ensures in
-    let scripts = help_rule c.required.result c.help-scripts.result _ _ words c.help-scripts.ensures in
-    let bare = bare_command c.new-3.result c.about.result c.after_help.result c.after_long_help-command.result
+    let bare = bare_command c.new-2.result c.about.result c.after_help.result c.after_long_help-command.result
     (codes "record") _ _ _
-    c.new-3.ensures.app c.new-3.ensures.local
+    c.new-2.ensures.app c.new-2.ensures.local
     c.about.ensures c.after_help.ensures c.after_long_help-command.ensures in
     let sized = c.in_ok-command.ensures.0 ∙ ap with_sizes bare.0 in
     let turned = c.in_ok-with_turns.ensures.0 ∙ ap with_turns sized in
     let one = adds _ c.in_ok-arg.field-0 c.help-repeat.result _ _ turned repeat c.in_ok-arg.ensures in
     IfOk-weaker c.arg-2.result _ _ (λ r h.
-    let all = adds _ r c.help-scripts.result _ _ one.0 scripts h in
+    let all = adds _ r c.scripts-scripts.result _ _ one.0
+    (c.scripts-scripts.ensures.rule, c.scripts-scripts.ensures.own) h in
     (all.0, all.1 ∙ (one.1 ∙ (c.in_ok-with_turns.ensures.1 ∙ (c.in_ok-command.ensures.1 ∙ bare.1))))) c.arg-2.ensures

@@ -1,7 +1,7 @@
 use Rattle.std.proofs.Common.{ap, codes, ◌∙◌, ◌≡◌}
 use Rattle.std.proofs.lemmas.Result.{IfOk-weaker}
 use Rattle.kfifo_cli_arguments.specs.CommandLine.{small_numbers, with_sizes, with_turns}
-use Rattle.kfifo_cli_arguments.proofs.Rules.{adds, bare_command, help_rule, number_rule, script_rule, text_rule}
+use Rattle.kfifo_cli_arguments.proofs.Rules.{adds, bare_command, help_rule, number_rule, text_rule}
 use Rattle.kfifo_cli_arguments.proofs.commands.replay.command.Goals as goal
 
 pub returns : goal.returns
@@ -27,13 +27,9 @@ returns c =
     c.help-trace.ensures in
     let record_flag = help_rule c.flag-3.result c.help-record.result _ _ (c.flag-3.ensures.rule, c.flag-3.ensures.own)
     c.help-record.ensures in
-    let words = script_rule c.new-2.result c.value_name-3.result c.action.result c.num_args.result c.required.result _
-    (c.new-2.ensures.rule, c.new-2.ensures.optional.1) c.value_name-3.ensures c.action.ensures
-    c.num_args.ensures.0 c.num_args.ensures.1 c.required.ensures in
-    let scripts = help_rule c.required.result c.help-scripts.result _ _ words c.help-scripts.ensures in
-    let bare = bare_command c.new-3.result c.about.result c.after_help.result c.after_long_help-command.result
+    let bare = bare_command c.new-2.result c.about.result c.after_help.result c.after_long_help-command.result
     (codes "replay") _ _ _
-    c.new-3.ensures.app c.new-3.ensures.local
+    c.new-2.ensures.app c.new-2.ensures.local
     c.about.ensures c.after_help.ensures c.after_long_help-command.ensures in
     let sized = c.in_ok-command.ensures.0 ∙ ap with_sizes bare.0 in
     let turned = c.in_ok-with_turns.ensures.0 ∙ ap with_turns sized in
@@ -43,7 +39,8 @@ returns c =
     let four = adds _ c.in_ok-arg-4.field-0 c.help-trace.result _ _ three.0 trace_flag c.in_ok-arg-4.ensures in
     let five = adds _ c.in_ok-arg-5.field-0 c.help-record.result _ _ four.0 record_flag c.in_ok-arg-5.ensures in
     IfOk-weaker c.arg-6.result _ _ (λ r h.
-    let all = adds _ r c.help-scripts.result _ _ five.0 scripts h in (
+    let all = adds _ r c.scripts-scripts.result _ _ five.0
+    (c.scripts-scripts.ensures.rule, c.scripts-scripts.ensures.own) h in (
       all.0,
       all.1 ∙ (five.1 ∙ (four.1 ∙ (three.1
           ∙ (two.1 ∙ (one.1 ∙ (c.in_ok-with_turns.ensures.1 ∙ (c.in_ok-command.ensures.1 ∙ bare.1))))))),
