@@ -6,6 +6,7 @@ use crate::show::{add_shown, shown, shown_list};
 use kfifo_model::{Answer, Call, End, History, Op, RecordFault};
 use serde_json::Value;
 use std::alloc::{AllocError, Global};
+use test_laws::records::empty_takes;
 use test_rows::{items, list, number, small};
 
 /// What a call asks for.
@@ -259,23 +260,6 @@ fn add_built(
 pub fn add_history(alloc: Global, row: &Value, lines: &mut Vec<String>) -> Result<(), AllocError> {
     let calls = calls_of(alloc, row)?;
     add_built(alloc, row, plain::new_history(calls), lines)
-}
-
-/// The text of a record with so many calls of one thread, which finds the queue empty each time.
-fn empty_takes(alloc: Global, calls: u32) -> Result<String, AllocError> {
-    let mut text = String::with_capacity(alloc, 80 * calls as usize + 2)?;
-    text.push('[')?;
-    for n in 0..calls {
-        if n > 0 {
-            text.push(',')?;
-        }
-        let call = format!(in alloc;
-            "{{\"thread\":0,\"op\":\"deq\",\"first\":{n},\"last\":{n},\"answer\":\"empty\"}}"
-        )?;
-        text.push_str(call.as_str())?;
-    }
-    text.push(']')?;
-    Ok(text)
 }
 
 /// Adds the lines of a record that is read.

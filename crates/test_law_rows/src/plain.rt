@@ -1,16 +1,14 @@
 //! The calls of the libraries with nothing said of what they return. A row needs nothing of their contracts, and some
 //! calls take long to prove with the contracts in view. Where a call has a `requires`, its function here tests that.
 
-use kfifo_linear::LinearFault;
-use kfifo_machine::{Begin, Event, NotEnabled, Outcome, RunFault, StartFault, State};
-use kfifo_model::{
-    Call, History, MeasureFault, Overtaken, OvertakenFault, RankFault, RecordFault, SearchFault,
-    Verdict,
-};
+use kfifo_machine::{Begin, Event, NotEnabled, Outcome, State};
+use kfifo_model::{Call, History, OvertakenFault, RankFault, RecordFault, SearchFault, Verdict};
 use kfifo_replay::{Replay, ReplayFault, Report};
 use kfifo_words::{Ends, Shape, Word};
-use serde_json::Value;
 use std::alloc::{AllocError, Global};
+pub use test_laws::plain::{
+    history, linearization_points, linearize, measure, read_history, run, start, word,
+};
 
 pub fn slot_bits(value: u32, version: u64) -> Option<u64> {
     if value < 16_777_216 && version < 1_099_511_627_776 {
@@ -52,22 +50,8 @@ pub fn slot_index(shape: &Shape, segment: u32, slot: u32) -> Option<usize> {
     }
 }
 
-pub fn start(alloc: Global, shape: Shape, threads: u32) -> Result<State, StartFault> {
-    kfifo_machine::start(alloc, shape, threads)
-}
-
 pub fn step(state: &mut State, event: Event) -> Result<Outcome, NotEnabled> {
     kfifo_machine::step(state, event)
-}
-
-/// A word of the table, the clock as the last one; none where no word has this index.
-pub fn word(state: &State, index: usize) -> Option<u64> {
-    let slots = state.shape().n() as usize * state.shape().k() as usize;
-    if index < slots + 2 {
-        Some(state.word(index))
-    } else {
-        None
-    }
 }
 
 /// Whether a thread is in a call.
@@ -75,43 +59,8 @@ pub fn is_inside(state: &State, thread: u32) -> bool {
     state.place(thread).is_some()
 }
 
-pub fn run(alloc: Global, shape: Shape, threads: u32, events: &[Event]) -> Result<State, RunFault> {
-    kfifo_machine::run(alloc, shape, threads, events)
-}
-
-pub fn history(
-    alloc: Global,
-    shape: Shape,
-    threads: u32,
-    events: &[Event],
-) -> Result<History, RunFault> {
-    kfifo_machine::history(alloc, shape, threads, events)
-}
-
-pub fn linearize(
-    alloc: Global,
-    shape: Shape,
-    threads: u32,
-    events: &[Event],
-) -> Result<Vec<usize>, LinearFault> {
-    kfifo_linear::linearize(alloc, shape, threads, events)
-}
-
-pub fn linearization_points(
-    alloc: Global,
-    shape: Shape,
-    threads: u32,
-    events: &[Event],
-) -> Result<Vec<u64>, LinearFault> {
-    kfifo_linear::linearization_points(alloc, shape, threads, events)
-}
-
 pub fn new_history(calls: Vec<Call>) -> Result<History, RecordFault> {
     History::new(calls)
-}
-
-pub fn read_history(alloc: Global, json: &Value) -> Result<History, RecordFault> {
-    kfifo_model::read_history(alloc, json)
 }
 
 /// What is said of an order; none where no queue has this k.
@@ -146,10 +95,6 @@ pub fn ranks(
         return None;
     }
     Some(kfifo_model::ranks(alloc, history, k, order))
-}
-
-pub fn measure(alloc: Global, history: &History) -> Result<Vec<Overtaken>, MeasureFault> {
-    kfifo_model::measure(alloc, history)
 }
 
 pub fn overtaken(history: &History, call: usize) -> Result<usize, OvertakenFault> {

@@ -4,11 +4,13 @@ use crate::expand::expanded;
 use crate::histories::add_asks;
 use crate::plain;
 use crate::show::{add_shown, shown, shown_list};
+use kfifo_linear::LinearFault;
 use kfifo_machine::{Begin, Event, NotEnabled, Outcome, State};
 use kfifo_model::{History, Verdict};
 use kfifo_words::{Ends, Shape, Word};
 use serde_json::Value;
 use std::alloc::{AllocError, Global};
+use std::fmt::Debug;
 use test_rows::{items, list, small};
 
 /// The machine of a schedule.
@@ -194,29 +196,15 @@ fn run_line(
     }
 }
 
-/// The linearization order.
-fn order_line(
+/// The line of a list that the events come to, or of a fault.
+fn list_line<T: Debug>(
     alloc: Global,
-    machine: Machine,
-    events: &[Event],
+    found: &Result<Vec<T>, LinearFault>,
     listed: &[Value],
 ) -> Result<String, AllocError> {
-    match plain::linearize(alloc, machine.shape, machine.threads, events) {
-        Ok(order) => shown_list(alloc, &order, listed),
-        Err(fault) => shown(alloc, &fault),
-    }
-}
-
-/// The linearization points.
-fn points_line(
-    alloc: Global,
-    machine: Machine,
-    events: &[Event],
-    listed: &[Value],
-) -> Result<String, AllocError> {
-    match plain::linearization_points(alloc, machine.shape, machine.threads, events) {
-        Ok(points) => shown_list(alloc, &points, listed),
-        Err(fault) => shown(alloc, &fault),
+    match found {
+        Ok(list) => shown_list(alloc, list, listed),
+        Err(fault) => shown(alloc, fault),
     }
 }
 
@@ -262,9 +250,11 @@ fn whole_line(
     listed: &[Value],
 ) -> Result<String, AllocError> {
     if word == "order" {
-        order_line(alloc, machine, events, listed)
+        let order = plain::linearize(alloc, machine.shape, machine.threads, events);
+        list_line(alloc, &order, listed)
     } else if word == "points" {
-        points_line(alloc, machine, events, listed)
+        let points = plain::linearization_points(alloc, machine.shape, machine.threads, events);
+        list_line(alloc, &points, listed)
     } else if word == "legal" {
         made_legal_line(alloc, machine, events, listed)
     } else if word == "events" {

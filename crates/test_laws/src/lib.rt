@@ -3,13 +3,7 @@
 //! of `test_law_rows`.
 #![tactic(auto)]
 
+pub mod plain;
+pub mod records;
 #[cfg(test)]
-mod linear;
-#[cfg(test)]
-mod machine;
-#[cfg(test)]
-mod model;
-#[cfg(test)]
-mod plain;
-#[cfg(test)]
-mod replay;
+mod tests;

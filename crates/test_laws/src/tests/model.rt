@@ -1,6 +1,7 @@
 //! Questions on histories where memory is refused, and the longest record.
 
 use crate::plain::{check_order, has_order, measure, ranks, read_history};
+use crate::records::empty_takes;
 use kfifo_model::{
     Answer, Call, End, History, MeasureFault, Op, RankFault, RecordFault, SearchFault, Verdict,
 };
@@ -91,34 +92,17 @@ fn refused_memory(rt: HostRuntime) -> Result<(), Fail> {
     Ok(())
 }
 
-/// The text of a record with so many calls of one thread, which finds the queue empty each time.
-fn record_of(alloc: Global, calls: u32) -> Result<String, Fail> {
-    let mut text = String::with_capacity(alloc, 80 * calls as usize + 2)?;
-    text.push('[')?;
-    for n in 0..calls {
-        if n > 0 {
-            text.push(',')?;
-        }
-        let call = format!(in alloc;
-            "{{\"thread\":0,\"op\":\"deq\",\"first\":{n},\"last\":{n},\"answer\":\"empty\"}}"
-        )?;
-        text.push_str(call.as_str())?;
-    }
-    text.push(']')?;
-    Ok(text)
-}
-
 /// The shortest record and the longest one are read.
 #[test]
 fn shortest_and_longest_record(rt: HostRuntime) -> Result<(), Fail> {
     for calls in [0u32, 65_536] {
-        let text = record_of(rt.alloc(), calls)?;
+        let text = empty_takes(rt.alloc(), calls)?;
         let value = Value::from_str(rt.alloc(), text.as_str())?;
         let history = read_history(rt.alloc(), &value)?;
         assert_eq!(&rt; history.calls().len(), calls as usize);
         assert_eq!(&rt; measure(rt.alloc(), &history)?.len(), 0);
     }
-    let text = record_of(rt.alloc(), 65_537)?;
+    let text = empty_takes(rt.alloc(), 65_537)?;
     let value = Value::from_str(rt.alloc(), text.as_str())?;
     assert_eq!(&rt;
         read_history(rt.alloc(), &value).err(),
