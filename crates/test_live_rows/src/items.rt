@@ -2,7 +2,8 @@
 ghost use Rattle.std.specs.Prelude.{IfOk, All, IfSome};
 ghost use Rattle.kfifo_live.specs.Pass.{IsPassOf, IsSamePass};
 
-use crate::begin::{call_of, has, place_of, shape_text, size, word_of};
+use crate::begin::{call_of, place_of, shape_text, size, word_of};
+use crate::driven::{Driven, Stepped, add_steps, line_of_call, pick};
 use crate::faults::{close_text, open_text};
 use crate::plain;
 use kfifo_live::{Pass, Queue};
@@ -106,25 +107,6 @@ fn threads_text(alloc: Global, passes: &[Pass]) -> Result<String, AllocError> {
     Ok(text)
 }
 
-/// The line of a step by one pass.
-fn line_by(
-    alloc: Global,
-    queue: &Queue,
-    pass: &mut Pass,
-    state: &mut State,
-    step: &Value,
-) -> Result<String, AllocError>
-    requires { IsPassOf queue.now pass.old }
-    ensures { IsSamePass pass.old pass.new }
-{
-    if word_of(step) == "words" {
-        words_text(alloc, queue, pass)
-    } else {
-        let begin = call_of(alloc, step)?;
-        call_both(alloc, queue, pass, state, begin)
-    }
-}
-
 /// Takes the last pass out of the list.
 fn take_last(queue: &Queue, passes: &mut Vec<Pass>) -> Option<Pass>
     requires { All (IsPassOf queue.now) passes.old.items }
@@ -164,87 +146,55 @@ fn meet_two(queue: &Queue, passes: &mut Vec<Pass>, is_second_first: bool) -> Res
     put_back(queue, passes, second)
 }
 
-/// The line of a step by the pass that it names.
-fn line_of_call(
-    alloc: Global,
-    queue: &Queue,
-    passes: &mut Vec<Pass>,
-    state: &mut State,
-    step: &Value,
-) -> Result<String, AllocError>
-    requires { All (IsPassOf queue.now) passes.old.items }
-    ensures { IfOk result (λ _. All (IsPassOf queue.now) passes.new.items) }
-{
-    let place = place_of(step, 1);
-    if place >= passes.len() {
-        return "no such pass".to_string(alloc);
-    }
-    line_by(alloc, queue, &mut passes[place], state, step)
-}
+impl Driven for Pass {
+    type Queue = Queue;
 
-/// The line of a step.
-fn line_of(
-    alloc: Global,
-    queue: &Queue,
-    passes: &mut Vec<Pass>,
-    state: &mut State,
-    step: &Value,
-) -> Result<String, AllocError>
-    requires { All (IsPassOf queue.now) passes.old.items }
-    ensures { IfOk result (λ _. All (IsPassOf queue.now) passes.new.items) }
-{
-    let word = word_of(step);
-    if word == "shape" {
-        shape_text(alloc, queue.shape())
-    } else if word == "passes" {
-        threads_text(alloc, passes.as_slice())
-    } else if word == "meet" {
-        meet_two(queue, passes, place_of(step, 1) == 1)?;
-        "met".to_string(alloc)
-    } else {
-        line_of_call(alloc, queue, passes, state, step)
-    }
-}
+    type Beside = State;
 
-/// Adds the line of each step.
-fn add_steps(
-    alloc: Global,
-    queue: &Queue,
-    passes: &mut Vec<Pass>,
-    state: &mut State,
-    steps: &[Value],
-    lines: &mut Vec<String>,
-) -> Result<(), AllocError>
-    requires { All (IsPassOf queue.now) passes.old.items }
-    ensures { IfOk result (λ _. All (IsPassOf queue.now) passes.new.items) }
-{
-    for step in steps {
-        lines.push(line_of(alloc, queue, passes, state, step)?)?;
-    }
-    Ok(())
-}
+    ghost opened = { λ q. q };
 
-/// Gives back all passes, or those of some threads, the last one first.
-fn pick(
-    alloc: Global,
-    queue: &Queue,
-    mut passes: Vec<Pass>,
-    threads: &Value,
-) -> Result<Vec<Pass>, AllocError>
-    requires { All (IsPassOf queue.now) passes.items }
-    ensures { IfOk result (λ picked. All (IsPassOf queue.now) picked.items) }
-{
-    let _shape = queue.shape();
-    if threads.as_bool().unwrap_or(false) {
-        return Ok(passes);
+    ghost known = { λ p. p };
+
+    fn number(&self) -> u32 {
+        self.thread()
     }
-    let mut picked = Vec::new(alloc);
-    while let Some(pass) = passes.pop() {
-        if has(threads, pass.thread()) {
-            picked.push(pass)?;
+
+    fn line_by(
+        &mut self,
+        alloc: Global,
+        queue: &Queue,
+        state: &mut State,
+        step: &Value,
+    ) -> Result<String, AllocError> {
+        if word_of(step) == "words" {
+            words_text(alloc, queue, self)
+        } else {
+            let begin = call_of(alloc, step)?;
+            call_both(alloc, queue, self, state, begin)
         }
     }
-    Ok(picked)
+}
+
+impl Stepped for Pass {
+    fn line_of(
+        alloc: Global,
+        queue: &Queue,
+        passes: &mut Vec<Pass>,
+        state: &mut State,
+        step: &Value,
+    ) -> Result<String, AllocError> {
+        let word = word_of(step);
+        if word == "shape" {
+            shape_text(alloc, queue.shape())
+        } else if word == "passes" {
+            threads_text(alloc, passes.as_slice())
+        } else if word == "meet" {
+            meet_two(queue, passes, place_of(step, 1) == 1)?;
+            "met".to_string(alloc)
+        } else {
+            line_of_call(alloc, queue, passes, state, step)
+        }
+    }
 }
 
 /// The items that are left at a close, or its fault.

@@ -5,6 +5,7 @@
 mod begin;
 mod drawn;
 mod drive;
+mod driven;
 mod faults;
 mod items;
 mod payloads;

@@ -3,6 +3,7 @@ ghost use Rattle.std.specs.Prelude.{IfOk, All, IfSome};
 ghost use Rattle.kfifo_live.specs.Pass.{IsPassOf, IsSamePass};
 
 use crate::begin::{call_of, place_of, shape_text, size, word_of};
+use crate::driven::{Driven, Stepped, add_steps, line_of_call};
 use crate::faults::{close_text, open_text};
 use crate::plain;
 use kfifo_live::{Given, PayPass, PayQueue, Taken};
@@ -82,46 +83,6 @@ fn call_text(
     }
 }
 
-/// The line of a step by one pass: for a call what it comes to, and the tokens that the pass has then.
-fn line_by(
-    alloc: Global,
-    queue: &PayQueue<Counted>,
-    pass: &mut PayPass<Counted>,
-    drops: &Arc<AtomicU64>,
-    step: &Value,
-) -> Result<String, AllocError>
-    requires { IsPassOf queue.now pass.old.pass }
-    ensures { IsSamePass pass.old.pass pass.new.pass }
-{
-    if word_of(step) == "pass" {
-        let (thread, tokens) = (pass.thread(), pass.tokens());
-        return format!(in alloc; "thread {thread}, {tokens} tokens");
-    }
-    let begin = call_of(alloc, step)?;
-    let mut text = call_text(alloc, queue, pass, drops, begin)?;
-    let tokens = pass.tokens();
-    write!(text, ", {tokens} tokens")?;
-    Ok(text)
-}
-
-/// The line of a step by the pass that it names.
-fn line_of_call(
-    alloc: Global,
-    queue: &PayQueue<Counted>,
-    passes: &mut Vec<PayPass<Counted>>,
-    drops: &Arc<AtomicU64>,
-    step: &Value,
-) -> Result<String, AllocError>
-    requires { All (λ p. IsPassOf queue.now p.pass) passes.old.items }
-    ensures { IfOk result (λ _. All (λ p. IsPassOf queue.now p.pass) passes.new.items) }
-{
-    let place = place_of(step, 1);
-    if place >= passes.len() {
-        return "no such pass".to_string(alloc);
-    }
-    line_by(alloc, queue, &mut passes[place], drops, step)
-}
-
 /// Two passes, of which one has learned what the other one saw: the second, or the first.
 fn met(
     queue: &PayQueue<Counted>,
@@ -193,46 +154,59 @@ fn drops_text(alloc: Global, drops: &Arc<AtomicU64>) -> Result<String, AllocErro
     format!(in alloc; "{count} drops")
 }
 
-/// The line of a step.
-fn line_of(
-    alloc: Global,
-    queue: &PayQueue<Counted>,
-    passes: &mut Vec<PayPass<Counted>>,
-    drops: &Arc<AtomicU64>,
-    step: &Value,
-) -> Result<String, AllocError>
-    requires { All (λ p. IsPassOf queue.now p.pass) passes.old.items }
-    ensures { IfOk result (λ _. All (λ p. IsPassOf queue.now p.pass) passes.new.items) }
-{
-    let word = word_of(step);
-    if word == "shape" {
-        shape_text(alloc, queue.shape())
-    } else if word == "drops" {
-        drops_text(alloc, drops)
-    } else if word == "meet" {
-        meet_two(queue, passes, place_of(step, 1) == 1)?;
-        "met".to_string(alloc)
-    } else {
-        line_of_call(alloc, queue, passes, drops, step)
+impl Driven for PayPass<Counted> {
+    type Queue = PayQueue<Counted>;
+
+    type Beside = Arc<AtomicU64>;
+
+    ghost opened = { λ q. q };
+
+    ghost known = { λ p. p.pass };
+
+    fn number(&self) -> u32 {
+        self.thread()
+    }
+
+    /// For a call what it comes to, and the tokens that the pass has then.
+    fn line_by(
+        &mut self,
+        alloc: Global,
+        queue: &PayQueue<Counted>,
+        drops: &mut Arc<AtomicU64>,
+        step: &Value,
+    ) -> Result<String, AllocError> {
+        if word_of(step) == "pass" {
+            let (thread, tokens) = (self.thread(), self.tokens());
+            return format!(in alloc; "thread {thread}, {tokens} tokens");
+        }
+        let begin = call_of(alloc, step)?;
+        let mut text = call_text(alloc, queue, self, drops, begin)?;
+        let tokens = self.tokens();
+        write!(text, ", {tokens} tokens")?;
+        Ok(text)
     }
 }
 
-/// Adds the line of each step.
-fn add_steps(
-    alloc: Global,
-    queue: &PayQueue<Counted>,
-    passes: &mut Vec<PayPass<Counted>>,
-    drops: &Arc<AtomicU64>,
-    steps: &[Value],
-    lines: &mut Vec<String>,
-) -> Result<(), AllocError>
-    requires { All (λ p. IsPassOf queue.now p.pass) passes.old.items }
-    ensures { IfOk result (λ _. All (λ p. IsPassOf queue.now p.pass) passes.new.items) }
-{
-    for step in steps {
-        lines.push(line_of(alloc, queue, passes, drops, step)?)?;
+impl Stepped for PayPass<Counted> {
+    fn line_of(
+        alloc: Global,
+        queue: &PayQueue<Counted>,
+        passes: &mut Vec<PayPass<Counted>>,
+        drops: &mut Arc<AtomicU64>,
+        step: &Value,
+    ) -> Result<String, AllocError> {
+        let word = word_of(step);
+        if word == "shape" {
+            shape_text(alloc, queue.shape())
+        } else if word == "drops" {
+            drops_text(alloc, drops)
+        } else if word == "meet" {
+            meet_two(queue, passes, place_of(step, 1) == 1)?;
+            "met".to_string(alloc)
+        } else {
+            line_of_call(alloc, queue, passes, drops, step)
+        }
     }
-    Ok(())
 }
 
 /// The numbers of the payloads that are left, and how many were dropped while these are kept.
@@ -302,7 +276,7 @@ fn run(
     queue: PayQueue<Counted>,
     mut passes: Vec<PayPass<Counted>>,
     row: &Value,
-    drops: &Arc<AtomicU64>,
+    drops: &mut Arc<AtomicU64>,
     lines: &mut Vec<String>,
 ) -> Result<(), AllocError>
     requires { All (λ p. IsPassOf queue p.pass) passes.items }
@@ -327,8 +301,8 @@ pub fn add_lines(
 ) -> Result<(), AllocError> {
     match plain::open_payloads(alloc, shape, size(row, "threads"), size(row, "tokens")) {
         Ok((queue, passes)) => {
-            let drops = Arc::new(alloc, AtomicU64::new(0))?;
-            run(alloc, queue, passes, row, &drops, lines)?;
+            let mut drops = Arc::new(alloc, AtomicU64::new(0))?;
+            run(alloc, queue, passes, row, &mut drops, lines)?;
             lines.push(drops_text(alloc, &drops)?)?;
         }
         Err(fault) => lines.push(open_text(alloc, fault)?)?,

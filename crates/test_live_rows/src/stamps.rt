@@ -1,8 +1,9 @@
 //! Rows of a stamped queue.
-ghost use Rattle.std.specs.Prelude.{IfOk, All};
-ghost use Rattle.kfifo_live.specs.Pass.{IsPassOf, IsSamePass};
+ghost use Rattle.std.specs.Prelude.{All};
+ghost use Rattle.kfifo_live.specs.Pass.{IsPassOf};
 
-use crate::begin::{call_of, has, place_of, size, word_of};
+use crate::begin::{call_of, size, word_of};
+use crate::driven::{Driven, Stepped, add_steps, line_of_call, pick};
 use crate::faults::{gather_text, open_text};
 use crate::plain;
 use kfifo_live::{StampPass, StampQueue};
@@ -29,83 +30,49 @@ fn calls_text(alloc: Global, calls: &[Call]) -> Result<String, AllocError> {
     Ok(text)
 }
 
-/// The line of a step by one pass.
-fn line_by(
-    alloc: Global,
-    queue: &StampQueue,
-    pass: &mut StampPass,
-    step: &Value,
-) -> Result<String, AllocError>
-    requires { IsPassOf queue.now pass.old.pass }
-    ensures { IsSamePass pass.old.pass pass.new.pass }
-{
-    if word_of(step) == "log" {
-        return calls_text(alloc, pass.log());
-    }
-    let begin = call_of(alloc, step)?;
-    let answer = plain::call_stamped(queue, pass, begin);
-    format!(in alloc; "{answer:?}")
-}
+impl Driven for StampPass {
+    type Queue = StampQueue;
 
-/// The line of a step by the pass that it names.
-fn line_of(
-    alloc: Global,
-    queue: &StampQueue,
-    passes: &mut Vec<StampPass>,
-    step: &Value,
-) -> Result<String, AllocError>
-    requires { All (λ p. IsPassOf queue.now p.pass) passes.old.items }
-    ensures { IfOk result (λ _. All (λ p. IsPassOf queue.now p.pass) passes.new.items) }
-{
-    if word_of(step) == "passes" {
-        let count = passes.len();
-        return format!(in alloc; "{count} passes");
-    }
-    let place = place_of(step, 1);
-    if place >= passes.len() {
-        return "no such pass".to_string(alloc);
-    }
-    line_by(alloc, queue, &mut passes[place], step)
-}
+    type Beside = ();
 
-/// Adds the line of each step.
-fn add_steps(
-    alloc: Global,
-    queue: &StampQueue,
-    passes: &mut Vec<StampPass>,
-    steps: &[Value],
-    lines: &mut Vec<String>,
-) -> Result<(), AllocError>
-    requires { All (λ p. IsPassOf queue.now p.pass) passes.old.items }
-    ensures { IfOk result (λ _. All (λ p. IsPassOf queue.now p.pass) passes.new.items) }
-{
-    for step in steps {
-        lines.push(line_of(alloc, queue, passes, step)?)?;
-    }
-    Ok(())
-}
+    ghost opened = { λ q. q };
 
-/// Gives back all passes, or those of some threads, the last one first.
-fn pick(
-    alloc: Global,
-    queue: &StampQueue,
-    mut passes: Vec<StampPass>,
-    threads: &Value,
-) -> Result<Vec<StampPass>, AllocError>
-    requires { All (λ p. IsPassOf queue.now p.pass) passes.items }
-    ensures { IfOk result (λ picked. All (λ p. IsPassOf queue.now p.pass) picked.items) }
-{
-    let _shape = queue.shape();
-    if threads.as_bool().unwrap_or(false) {
-        return Ok(passes);
+    ghost known = { λ p. p.pass };
+
+    fn number(&self) -> u32 {
+        self.thread()
     }
-    let mut picked = Vec::new(alloc);
-    while let Some(pass) = passes.pop() {
-        if has(threads, pass.thread()) {
-            picked.push(pass)?;
+
+    fn line_by(
+        &mut self,
+        alloc: Global,
+        queue: &StampQueue,
+        _beside: &mut (),
+        step: &Value,
+    ) -> Result<String, AllocError> {
+        if word_of(step) == "log" {
+            return calls_text(alloc, self.log());
         }
+        let begin = call_of(alloc, step)?;
+        let answer = plain::call_stamped(queue, self, begin);
+        format!(in alloc; "{answer:?}")
     }
-    Ok(picked)
+}
+
+impl Stepped for StampPass {
+    fn line_of(
+        alloc: Global,
+        queue: &StampQueue,
+        passes: &mut Vec<StampPass>,
+        beside: &mut (),
+        step: &Value,
+    ) -> Result<String, AllocError> {
+        if word_of(step) == "passes" {
+            let count = passes.len();
+            return format!(in alloc; "{count} passes");
+        }
+        line_of_call(alloc, queue, passes, beside, step)
+    }
 }
 
 /// The calls of all logs, or the fault.
@@ -145,7 +112,14 @@ fn run(
 ) -> Result<(), AllocError>
     requires { All (λ p. IsPassOf queue p.pass) passes.items }
 {
-    add_steps(alloc, &queue, &mut passes, list(row, "steps"), lines)?;
+    add_steps(
+        alloc,
+        &queue,
+        &mut passes,
+        &mut (),
+        list(row, "steps"),
+        lines,
+    )?;
     end(alloc, queue, passes, row, lines)
 }
 
