@@ -3,14 +3,4 @@
 #![tactic(auto)]
 
 #[cfg(test)]
-mod pages;
-#[cfg(test)]
-mod payloads;
-#[cfg(test)]
-mod plain;
-#[cfg(test)]
-mod rounds;
-#[cfg(test)]
-mod seals;
-#[cfg(test)]
-mod sizes;
+mod tests;

@@ -1,5 +1,5 @@
 //! Tokens that go round, by one thread.
-use crate::plain::{Answer, Round};
+use crate::tests::plain::{Answer, Round};
 use kfifo_live::Taken;
 use kfifo_words::{MAX_VERSION, Shape};
 use std::test::Fail;

@@ -5,7 +5,7 @@ use Rattle.kfifo_live.specs.declared.view.Opening.{Opening}
 use Rattle.kfifo_live.specs.Pass.{IsPassOf, OpenQueue}
 use Rattle.kfifo_live.specs.Payloads.{PayPassView, TokenView}
 use Rattle.kfifo_live.specs.Tokens.{TokenHandleView, tokens_from}
-use Rattle.test_tokens.proofs.payloads.Parcels.open.Goals as goal
+use Rattle.test_tokens.proofs.tests.payloads.Parcels.open.Goals as goal
 
 all_of : (q : OpenQueue) (first count : ℕ) → All (λ (t : TokenView). t.queue ≡ q) (tokens_from q first count)
 all_of q first zero k d less = absurd (omega (arith, less))

@@ -1,5 +1,5 @@
 //! Seals of a queue of items, and of one of tokens.
-use crate::plain::{Answer, Round};
+use crate::tests::plain::{Answer, Round};
 use kfifo_live::{Queue, Sealing, TakenOrSealed, TokenQueue};
 use kfifo_words::{MAX_VERSION, Shape};
 use std::test::Fail;

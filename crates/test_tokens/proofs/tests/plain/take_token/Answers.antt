@@ -5,7 +5,7 @@ use Rattle.kfifo_live.specs.declared.handle.TheConstants.{MAX_TURNS}
 use Rattle.kfifo_live.specs.Pass.{queue_of}
 use Rattle.kfifo_live.specs.Payloads.{TokenView}
 use Rattle.kfifo_live.specs.Tokens.{TakesToken}
-use Rattle.test_tokens.proofs.plain.take_token.Goals as goal
+use Rattle.test_tokens.proofs.tests.plain.take_token.Goals as goal
 
 pub returns-clause-of : goal.returns-clause-of
 returns-clause-of c = λ token is.
