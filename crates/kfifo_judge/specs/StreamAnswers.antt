@@ -26,6 +26,19 @@ pub record Streams : Type 0 where
   pub writes : ℕ
   pub writes_after : ℕ
 
+-- a source and a sink before and after a call, by what is known of any
+abbrev pub streams_around : {S K : Type 0} → (S → Option (List ℕ)) → (S → ℕ) → (K → Option (List ℕ)) → (K → ℕ) → S → S
+    → K → K → Streams
+streams_around given reads held writes source source_after sink sink_after = record {
+  given = given source;
+  reads = reads source;
+  reads_after = reads source_after;
+  held = held sink;
+  held_after = held sink_after;
+  writes = writes sink;
+  writes_after = writes sink_after;
+}
+
 -- all that the source gave was read, and is at most 16,777,216 bytes
 abbrev pub HasRead : Streams → List ℕ → Type 0
 HasRead s bytes = (s.reads_after ≡ s.reads) × IfSome s.given (λ given. (given ≡ bytes) × (length given ≤ MAX_BYTES))

@@ -3,7 +3,7 @@ ghost use Rattle.std.specs.Prelude.{◌≡◌, ◌≤◌, MatchResult, option_ma
 ghost use Rattle.std.specs.Io.KnownBytes.{Appends};
 ghost use Rattle.kfifo_judge.specs.Check.{IsCheckFault, IsChecked};
 ghost use Rattle.kfifo_judge.specs.Measure.{IsMeasuringFault};
-ghost use Rattle.kfifo_judge.specs.StreamAnswers.{IsMeasureAnswer, IsStreamAnswer};
+ghost use Rattle.kfifo_judge.specs.StreamAnswers.{IsMeasureAnswer, IsStreamAnswer, streams_around};
 ghost use Rattle.kfifo_judge.specs.Streams.{AppendsPart, CountsOne};
 
 use crate::check::check_text;
@@ -46,15 +46,8 @@ pub fn check_stream<R: Source, W: Sink>(
 ) -> Result<u8, StreamFault>
     requires { (1 ≤ k) × (k ≤ 64) }
     ensures { let o = option_map (λ s. s.now) order.entry in
-        IsStreamAnswer (IsChecked k o) (IsCheckFault o) (record {
-          given = R.remaining source.old;
-          reads = R.failed source.old;
-          reads_after = R.failed source.new;
-          held = W.contents sink.old;
-          held_after = W.contents sink.new;
-          writes = W.failed sink.old;
-          writes_after = W.failed sink.new;
-        }) result }
+        IsStreamAnswer (IsChecked k o) (IsCheckFault o)
+        (streams_around R.remaining R.failed W.contents W.failed source.old source.new sink.old sink.new) result }
 {
     let bytes = read_all(alloc, source)?;
     let (text, said) = check_text(alloc, bytes.as_slice(), k, order)?;
@@ -75,15 +68,8 @@ pub fn measure_stream<R: Source, W: Sink>(
     source: &mut R,
     sink: &mut W,
 ) -> Result<u8, StreamFault>
-    ensures { IsStreamAnswer IsMeasureAnswer IsMeasuringFault (record {
-      given = R.remaining source.old;
-      reads = R.failed source.old;
-      reads_after = R.failed source.new;
-      held = W.contents sink.old;
-      held_after = W.contents sink.new;
-      writes = W.failed sink.old;
-      writes_after = W.failed sink.new;
-    }) result }
+    ensures { IsStreamAnswer IsMeasureAnswer IsMeasuringFault
+        (streams_around R.remaining R.failed W.contents W.failed source.old source.new sink.old sink.new) result }
 {
     let bytes = read_all(alloc, source)?;
     let text = measure_text(alloc, bytes.as_slice())?;
