@@ -3,12 +3,4 @@
 #![tactic(auto)]
 
 #[cfg(test)]
-mod bare;
-#[cfg(test)]
-mod cells;
-#[cfg(test)]
-mod pages;
-#[cfg(test)]
-mod parcels;
-#[cfg(test)]
-mod threads;
+mod tests;

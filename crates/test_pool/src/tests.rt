@@ -1,0 +1,7 @@
+//! The tests, by what they are about.
+
+mod bare;
+mod cells;
+mod pages;
+mod parcels;
+mod threads;
