@@ -74,7 +74,7 @@ ENTRIES = [
     relaxed("kfifo", "this repository's queue, k = 16", 16),
     relaxed("kfifo", "this repository's queue, k = 64", 64),
     faulty("moodycamel", "moodycamel's `ConcurrentQueue`", "concurrent_queue.csv"),
-    faulty("paused-ring", "a ring in Vyukov's manner, with pauses", "paused_ring.csv"),
+    faulty("paused-ring", "a ring of the kind that Vyukov described, with pauses", "paused_ring.csv"),
 ]
 
 

@@ -112,8 +112,10 @@ impl Call<'_> {
         match earlier.last {
             Some(last) => {
                 format!(in alloc;
-                    "{title}: first is {first}, allowed are numbers above {last}, the last of {place}, which is of the same thread"
-                ).ok()
+                    "{title}: first is {first}, allowed are numbers above {last}, the last of {place}, which \
+                     is of the same thread"
+                )
+                .ok()
             }
             None => {
                 format!(in alloc;

@@ -31,8 +31,8 @@ pub const MAX_TASKS: usize = 1_024;
 pub const MAX_WORKERS: u32 = 63;
 
 /// Runs the tasks on worker threads that share one queue of this shape, and returns the finished list: each task once,
-/// by rising id, with its sum and all its work added up. One thread would return the same list, whatever the threads
-/// do.
+/// in the order of their ids, with its sum and all its work added up. One thread would return the same list, whatever
+/// the threads do.
 ///
 /// ```rust
 /// let shape = Shape::new(2, 16, MAX_VERSION)?; // k, segments, greatest version
@@ -238,8 +238,8 @@ fn run_at_station<L: Tasks, G: WorkGate, P: Station<Job<L>, G> + Drop>(
     requires shape { queue.now.opened.shape ≡ shape }
     ensures same { IsSamePass (P.known pass) (P.known result.pass) }
     ensures runs { IfOk result.kept (λ kept. Runs (P.passes gate.now)
-        (λ s. TellsOf (G.told gate.now) L.tasks (P.known s).thread) P.takes P.gives shape seed (P.known pass).thread pass
-        result.pass (map (λ done. done.place) kept.items)) }
+        (λ s. TellsOf (G.told gate.now) L.tasks (P.known s).thread) P.takes P.gives shape seed (P.known pass).thread
+        pass result.pass (map (λ done. done.place) kept.items)) }
 {
     let starts = Starts::new(seed, pass.worker(), shape.k());
     let turns = turns(shape);

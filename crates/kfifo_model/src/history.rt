@@ -19,13 +19,15 @@ pub enum RecordFault {
     #[error("the record has over 65,536 calls")]
     TooMany,
     /// 3: no object; a key that is missing or not allowed there; a value of the wrong kind; an unknown operation.
-    #[error("call {0} is no call: an object with the keys thread, op and first; item in an enq and where the answer is got; last and answer both or neither; no other key; op enq or deq; whole numbers")]
+    #[error("call {0} is no call: an object with the keys thread, op and first; item in an enq and where the answer is \
+        got; last and answer both or neither; no other key; op enq or deq; whole numbers")]
     NotACall(usize),
     /// 4: the thread is not 0 to 63, or an item not 1 to 2^24 - 1.
     #[error("call {0} has a thread that is not 0 to 63 or an item that is not 1 to 16,777,215")]
     NumberOutOfRange(usize),
     /// 5: the answer is none of the operation's.
-    #[error("call {0} has an answer that is none of its operation's: done, full, busy or worn of an enqueue, got, empty, busy or worn of a dequeue")]
+    #[error("call {0} has an answer that is none of its operation's: done, full, busy or worn of an enqueue, got, \
+        empty, busy or worn of a dequeue")]
     WrongAnswer(usize),
     /// 6: the last step is less than the first.
     #[error("call {0} has a last step below its first")]
