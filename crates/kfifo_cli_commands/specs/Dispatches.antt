@@ -27,8 +27,8 @@ IsTasksFault tasks workers refusals.Memory = Unit {0}
 IsTasksFault tasks workers refusals.WorkersOutOfRange = (length tasks ≤ 1024) × ¬ (HasRepeatedId tasks)
     × ((workers ≡ 0) ⊎ (63 < workers))
 
--- The answer: the lines of the tasks, each finished and once, by rising id. As many workers as the options say have
--- done the work, with starts from the seed that they say. Only an allocation that fails refuses them
+-- The answer: the lines of the tasks, each finished and once, in ascending order of id. As many workers as the options
+-- say have done the work, with starts from the seed that they say. Only an allocation that fails refuses them
 pub record IsDispatch (options : DispatchOptions) (text : List ℕ) : Type 0 where
   pub shape : Shape
   pub tasks : List Task

@@ -26,7 +26,7 @@ ids tasks = map (λ task. task.id) tasks
 abbrev pub HasRepeatedId : List Task → Type 0
 HasRepeatedId tasks = IsDistinct (λ a b. a == b) (ids tasks) → ⊥
 
--- each task once, finished, by rising id
+-- each task once, finished, in ascending order of id
 pub record IsFinishedList (tasks : List Task) (list : List Finished) : Type 0 where
   pub each : IsPermutation (map finished tasks) list
   pub rise : IsNonDecreasingBy (λ f. f.id) list

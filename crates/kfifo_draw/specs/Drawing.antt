@@ -48,7 +48,7 @@ Reaches h s (Calls first last) = Unit {0}
 Reaches h s (Lines first last) = Unit {0}
 Reaches h s (Near named around) = AreReached h s named.now
 
--- The numbers below n for which P holds, each once, by rising number.
+-- The numbers below n for which P holds, each once, in ascending order.
 pub record AreThoseBelow (P : ℕ → Type 0) (n : ℕ) (numbers : List ℕ) : Type 0 where
   pub rising : EachPair (λ c d. c < d) numbers
   pub each : (c : ℕ) → IsIn c numbers ↔ ((c < n) × P c)

@@ -10,8 +10,8 @@ struct Room {
     columns: usize,
 }
 
-/// The rooms that finished calls need, whose labels have these widths, by rising end. Their label and the two ends
-/// stand beside each other.
+/// The rooms that finished calls need, whose labels have these widths, in ascending order of end. Their label and the
+/// two ends stand beside each other.
 fn rooms_of(alloc: Global, spans: &[Span], widths: &[usize]) -> Result<Vec<Room>, AllocError> {
     let mut rooms = Vec::new(alloc);
     for (span, width) in spans.iter().zip(widths.iter()) {
@@ -59,7 +59,7 @@ pub(crate) fn columns_of(
     let mut columns = Vec::new(alloc);
     let rooms = rooms_of(alloc, spans, widths)?;
     for room in rooms.as_slice() {
-        // Rooms come by rising end, so the end of this one is now the last place.
+        // Rooms come in ascending order of end, so the end of this one is now the last place.
         lengthen(&mut columns, room.to.saturating_add(1))?;
         let least = column_at(columns.as_slice(), room.from).saturating_add(room.columns);
         if let Some(last) = columns.last_mut() {

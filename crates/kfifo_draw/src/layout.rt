@@ -12,7 +12,7 @@ const ENDS: usize = 5;
 /// A picture's lanes and bars.
 #[derive(Drop)]
 pub(crate) struct Layout {
-    /// The threads that have lanes, by rising number.
+    /// The threads that have lanes, in ascending order.
     pub threads: Vec<u32>,
     /// What is written into the bars of the calls, in ASCII.
     pub labels: Vec<String>,
@@ -86,7 +86,7 @@ fn labels_of(
     Ok(labels)
 }
 
-/// The threads of the calls, each once, by rising number.
+/// The threads of the calls, each once, in ascending order.
 fn threads_of(alloc: Global, calls: &[Call]) -> Result<Vec<u32>, AllocError> {
     let mut threads: Vec<u32> = calls.iter().map(|call| call.thread).collect(alloc)?;
     threads.sort_unstable();

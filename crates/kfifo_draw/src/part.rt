@@ -194,7 +194,7 @@ pub(crate) fn count_drawn(calls: &[Call], logged: &[LoggedCall], part: Part<'_>)
     count
 }
 
-/// The numbers of the calls that belong to the part, by rising number.
+/// The numbers of the calls that belong to the part, in ascending order.
 pub(crate) fn drawn_calls(
     alloc: Global,
     calls: &[Call],

@@ -2,8 +2,8 @@
 use kfifo_model::Call;
 use std::alloc::{AllocError, Global};
 
-/// From where to where a call reaches: places among all beginnings and ends by rising step, where at one step
-/// beginnings come before ends, and ends at one step have one place.
+/// From where to where a call reaches: places among all beginnings and ends in ascending order of step, where at one
+/// step beginnings come before ends, and ends at one step have one place.
 #[derive(Clone, Copy)]
 pub(crate) struct Span {
     /// The place of the beginning.
@@ -12,7 +12,7 @@ pub(crate) struct Span {
     pub to: Option<usize>,
 }
 
-/// The steps at which calls end, each once, by rising number.
+/// The steps at which calls end, each once, in ascending order.
 fn end_steps(alloc: Global, calls: &[Call]) -> Result<Vec<u64>, AllocError> {
     let mut steps = Vec::new(alloc);
     for call in calls {

@@ -40,8 +40,8 @@ logged_call line = record {
   item = line.item;
 }
 
--- The history is the record of the log, which has at most 16,777,215 lines: its calls by rising first time, with
--- stamps. The calls of the log, by the numbers of the record, are these.
+-- The history is the record of the log, which has at most 16,777,215 lines: its calls in ascending order of first time,
+-- with stamps. The calls of the log, by the numbers of the record, are these.
 pub record IsLogOf (lines : List Line) (h : List Call) (calls : List LoggedCall) : Type 0 where
   pub few : length lines ≤ MAX_LOG_CALLS
   pub sorted : List Line

@@ -43,9 +43,9 @@ pub record IsRestamped (c s : Call) : Type 0 where
   pub op : s.op ≡ c.op
   pub answer : AnswersAlike c.end s.end
 
--- h has the calls l with stamps: the places of the calls' beginnings and ends by rising time, where at one time
--- beginnings come before ends, and earlier calls begin first. So each stamp is below the number of moments, and stamps
--- stand as the times do.
+-- h has the calls l with stamps: the places of the calls' beginnings and ends in ascending order of time, where at one
+-- time beginnings come before ends, and earlier calls begin first. So each stamp is below the number of moments, and
+-- stamps stand as the times do.
 pub record AreStamped (l h : List Call) : Type 0 where
   pub sized : length h ≡ length l
   pub same : (n : ℕ) → n < length l → IsRestamped (call l n) (call h n)
@@ -80,17 +80,17 @@ pub record AreEndsTo (l : List Call) (ends : List Moment) (n : ℕ) : Type 0 whe
   pub all : (m : ℕ) → m < n → HasEnd (end_at l m) → Contains ends (end_of l m)
   pub count : length ends ≡ count_by (λ c. is_some c.end) (take n l)
 
--- the same by rising time
+-- the same in ascending order of time
 pub record AreSortedEnds (l : List Call) (ends : List Moment) : Type 0 where
   pub are : AreEnds l ends
   pub rise : IsNonDecreasingBy (λ end. end.time) ends
 
--- this many of the ends, by rising time, are before this time
+-- this many of the ends, in ascending order of time, are before this time
 abbrev pub HaveEnded : List Moment → ℕ → ℕ → Type 0
 HaveEnded ends time count = (count ≤ length ends)
     × IsPartitionPoint (λ end. end.time < time) (λ end. time ≤ end.time) ends count
 
--- this many of the calls, by rising first time, have begun by this time
+-- this many of the calls, in ascending order of first time, have begun by this time
 abbrev pub HaveBegun : List Call → ℕ → ℕ → Type 0
 HaveBegun l time count = (count ≤ length l) × IsPartitionPoint (λ c. c.first ≤ time) (λ c. time < c.first) l count
 

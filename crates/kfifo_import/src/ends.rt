@@ -1,4 +1,4 @@
-//! The ends of calls, by rising time.
+//! The ends of calls, in ascending order of time.
 ghost use Rattle.std.specs.Prelude.{ℕ, ◌≡◌, ◌<◌, ◌≤◌, List, length, IfOk, count_by, is_some};
 ghost use Rattle.std.specs.List.{All, Contains};
 ghost use Rattle.kfifo_model.specs.Histories.{call};
@@ -42,7 +42,7 @@ fn finished(alloc: Global, calls: &[Call]) -> Result<Vec<Moment>, AllocError>
     Ok(ends)
 }
 
-/// The ends of the finished calls, by rising time.
+/// The ends of the finished calls, in ascending order of time.
 pub(crate) fn sorted_ends(alloc: Global, calls: &[Call]) -> Result<Vec<Moment>, AllocError>
     ensures { IfOk result (λ ends. AreSortedEnds calls.now ends.items) }
 {

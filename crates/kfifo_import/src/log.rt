@@ -152,7 +152,7 @@ fn beginnings(alloc: Global, lines: &[Line]) -> Result<Vec<Moment>, AllocError>
         .collect(alloc)
 }
 
-/// When the calls of the lines begin, by rising time, of equal ones the earlier line first.
+/// When the calls of the lines begin, in ascending order of time, of equal ones the earlier line first.
 fn by_first(alloc: Global, lines: &[Line]) -> Result<Vec<Moment>, AllocError>
     ensures { IfOk result (λ order. AreByFirst lines.now (lines_by lines.now order.items)) }
 {

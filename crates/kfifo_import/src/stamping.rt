@@ -10,7 +10,7 @@ use crate::moments::Moment;
 use kfifo_model::{Call, End};
 use std::alloc::{AllocError, Global};
 
-/// How many of the ends, by rising time, are before this time. The first `from` of them are.
+/// How many of the ends, in ascending order of time, are before this time. The first `from` of them are.
 fn ended_before(ends: &[Moment], time: u64, from: usize) -> usize
     requires by_last { IsNonDecreasingBy (λ end. end.time) ends.now }
     requires from { (from ≤ length ends.now) × AllWithin (λ end. end.time < time) ends.now 0 from }
@@ -24,7 +24,7 @@ fn ended_before(ends: &[Moment], time: u64, from: usize) -> usize
     ends.len()
 }
 
-/// How many of the calls, by rising first time, have begun by this time. The first `from` of them have.
+/// How many of the calls, in ascending order of first time, have begun by this time. The first `from` of them have.
 fn begun_by(calls: &[Call], time: u64, from: usize) -> usize
     requires by_first { IsNonDecreasingBy (λ c. c.first) calls.now }
     requires from { (from ≤ length calls.now) × AllWithin (λ c. c.first ≤ time) calls.now 0 from }
@@ -73,7 +73,7 @@ fn restamped(call: &Call, first: u64, last: u64) -> Call
     }
 }
 
-/// The calls, which begin by rising time, with stamps.
+/// The calls, which begin in ascending order of time, with stamps.
 pub(crate) fn stamped(alloc: Global, calls: &[Call]) -> Result<Vec<Call>, AllocError>
     requires few { length calls.now < 2 ^ 31 }
     requires by_first { IsNonDecreasingBy (λ c. c.first) calls.now }

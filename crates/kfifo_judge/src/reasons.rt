@@ -125,7 +125,7 @@ fn is_other(history: &History, get: usize, number: usize) -> bool
     number != get && moves(effect_at(history, number), item)
 }
 
-/// The other calls that put or got the item that a call got, by rising number.
+/// The other calls that put or got the item that a call got, in the order of their numbers.
 fn others_of(alloc: Global, history: &History, get: usize) -> Result<Vec<usize>, AllocError>
     ensures { IfOk result (λ calls. calls.items ≡ others history.now get) }
 {

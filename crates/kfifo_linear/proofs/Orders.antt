@@ -1,4 +1,4 @@
--- The calls by rising point are an order of the history; and there is such a list.
+-- The calls in ascending order of point are an order of the history; and there is such a list.
 use Rattle.std.proofs.Common.{ℕ, zero, suc, ◌≡◌, ◌+◌, ◌<◌, ◌≤◌, true, ◌&&◌, eqb, List, length, subst, inl, inr, arith}
 use Rattle.std.proofs.Common.{Option, Some, None}
 use Rattle.std.specs.List.{filter, flat_map, range_with_len}
@@ -43,7 +43,7 @@ is_order h m order f p = record {
       (λ c d i j e. no_precedes h m c d f (p.only c i) (p.only d j) e) p.sorted;
 }
 
--- The calls that stand, by rising point and number, are a legal order.
+-- The calls that stand, in ascending order of point and number, are a legal order.
 pub legal_by_point : (k : ℕ) (h : List Call) (m : Marks) (order : List ℕ) → PointsFit k (does h) m → StandsFit h m
     → IsByPoint m order
     → IsLegal k h order

@@ -1,4 +1,4 @@
--- The calls by rising point are a run of the k-relaxed queue.
+-- The calls in ascending order of point are a run of the k-relaxed queue.
 use Rattle.std.proofs.Common.{ℕ, ◌≡◌, ◌≢◌, ◌<◌, ◌≤◌, ◌⊎◌, true, List, [], ◌∷◌, ◌++◌, length, map, refl, sym, ◌∙◌, ap}
 use Rattle.std.proofs.Common.{subst, inl, inr, arith, length-append, append_assoc, Some, slice_get}
 use Rattle.std.specs.List.{remove}
@@ -372,7 +372,7 @@ nothing_held act m = record {
   kept = λ c i a free. i;
 }
 
--- The calls that stand, by rising point and number, are a run.
+-- The calls that stand, in ascending order of point and number, are a run.
 pub run_by_point : (k : ℕ) (act : ℕ → Effect) (m : Marks) (order : List ℕ) → PointsFit k act m → IsByPoint m order
     → IsRun k [] (map act order)
 run_by_point k act m order f p = run_from k act m order [] [] f p (nothing_held act m)

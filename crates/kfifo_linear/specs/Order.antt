@@ -1,4 +1,4 @@
--- The linearization order of a schedule: the calls that stand in it, by rising point, and at one point by rising
+-- The linearization order of a schedule: the calls that stand in it, in ascending order of point, and at one point of
 -- number.
 use Rattle.std.specs.Prelude.{ℕ, zero, suc, ◌-◌, ◌%◌, Bool, nat_lt, if◌then◌else◌, List, Option, Some, None, is_some}
 use Rattle.kfifo_words.specs.declared.shape.Shape.{Shape}

@@ -57,7 +57,7 @@ pub record PointsFit (k : ℕ) (act : ℕ → Effect) (m : Marks) : Type 0 where
 abbrev pub IsEarlier : (ℕ → ℕ) → ℕ → ℕ → Type 0
 IsEarlier point c d = (point c ≤ point d) × (point c ≡ point d → c < d)
 
--- The calls that stand, by rising point and number.
+-- The calls that stand, in ascending order of point and number.
 pub record IsByPoint (m : Marks) (order : List ℕ) : Type 0 where
   pub sorted : EachPair (IsEarlier m.point) order
   pub only : (c : ℕ) → IsIn c order → m.stands c ≡ true

@@ -24,7 +24,7 @@ ghost use Rattle.kfifo_linear.specs.Seals.{StaysEmpty};
 pub use linearization::{LinearFault, linearization_points, linearize};
 pub use linearizer::Linearizer;
 
-/// Where the facts about points hold, the calls by rising point and number are a legal order.
+/// Where the facts about points hold, the calls in ascending order of point and number are a legal order.
 pub fn points_give_an_order()
     ensures { (k steps : ℕ) (h : List Call) (m : Marks) → PointsFit k (does h) m → StandsFit h m
         → ((c : ℕ) → m.stands c ≡ true → m.point c < steps) → IsLegal k h (by_point m.stands m.point steps h) }
@@ -48,9 +48,9 @@ pub fn few_certainly_overtake()
 
 /// Laws of every schedule of every shape, with up to 64 threads.
 ///
-/// The calls of a schedule by the rising points of its ledger, and at one point by rising number, are a legal order of
-/// its history: an order of all its finished calls and some unfinished enqueues that keeps every return-before-call
-/// pair, and that is a run of the k-relaxed queue.
+/// The calls of a schedule in ascending order of the points of its ledger, and at one point of number, are a legal
+/// order of its history: an order of all its finished calls and some unfinished enqueues that keeps every
+/// return-before-call pair, and that is a run of the k-relaxed queue.
 ///
 /// In that order each item is overtaken at most k - 1 times, where the items enqueued in it are distinct; and by the
 /// history alone at most k - 1 overtakings of the item of an enqueue that returned Done are certain, where its items

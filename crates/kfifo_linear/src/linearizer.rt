@@ -134,7 +134,7 @@ impl Linearizer {
         Ok(outcome)
     }
 
-    /// The calls that stand, each behind its point, by rising point and number.
+    /// The calls that stand, each after its point, in ascending order of point and number.
     fn sorted(&self, alloc: Global) -> Result<Vec<(u64, usize)>, AllocError>
         ensures calls { IfOk result (λ placed. (threads room : ℕ) (events : List Event)
             → Follows threads room events self.now → threads ≤ MAX_THREADS

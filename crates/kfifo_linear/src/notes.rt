@@ -370,7 +370,7 @@ impl Notes {
         }
     }
 
-    /// The calls that stand in the order by rising number, each behind its point.
+    /// The calls that stand in the order, in ascending order of number, each after its point.
     pub fn points(&self, alloc: Global) -> Result<Vec<(u64, usize)>, AllocError>
         ensures { IfOk result (λ v. v.items ≡ points_below self.now (length self.now.calls)) }
     {

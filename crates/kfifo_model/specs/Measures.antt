@@ -66,7 +66,7 @@ abbrev pub measure_of : ℕ → ℕ → Option ℕ → List Overtaken
 measure_of n count None = []
 measure_of n count (Some x) = record { call = n; item = x; count = count } ∷ []
 
--- the overtakings of the items of the first n calls, by rising number
+-- the overtakings of the items of the first n calls, in their order
 abbrev pub measured : List Call → ℕ → List Overtaken
 measured h zero = []
 measured h (suc n) = measured h n ++ measure_of n (certainly_overtaken h n) (done_item (call h n).op (call h n).end)

@@ -97,7 +97,7 @@ impl<T: Drop> From<AllocFailed<T>> for RecordFault {
     }
 }
 
-/// Calls by rising first step. Calls of one thread do not overlap.
+/// Calls in ascending order of first step. Calls of one thread do not overlap.
 #[derive(Drop)]
 pub struct History {
     calls: Vec<Call>,
@@ -196,7 +196,7 @@ fn first_fault(calls: &[Call]) -> Option<RecordFault>
 }
 
 impl History {
-    /// Returns the calls as a history. They have to be in order, by rising first step. It takes no memory.
+    /// Returns the calls as a history. They have to be in ascending order of first step. It takes no memory.
     ///
     /// ```rust
     /// let history = History::new(made)?;

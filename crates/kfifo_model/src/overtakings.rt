@@ -104,7 +104,7 @@ fn measure_call(
     })
 }
 
-/// How often the item of each finished enqueue with answer Done is overtaken, by rising number.
+/// How often the item of each finished enqueue with answer Done is overtaken, in the order of the calls.
 fn measure_calls(
     alloc: Global,
     calls: &[Call],
@@ -140,9 +140,9 @@ fn has_done(calls: &[Call]) -> bool
     false
 }
 
-/// Returns for each finished enqueue that returned Done, by rising call number, how many items certainly overtake its
-/// item. Such an item was put by a call that began after this enqueue had ended. It was taken by a call that had ended
-/// when this item's dequeue began, or this item was never taken.
+/// Returns for each finished enqueue that returned Done, in ascending order of call number, how many items certainly
+/// overtake its item. Such an item was put by a call that began after this enqueue had ended. It was taken by a call
+/// that had ended when this item's dequeue began, or this item was never taken.
 ///
 /// ```rust
 /// for overtaken in measure(alloc, &history)? {

@@ -39,7 +39,7 @@ fn rival_in(call: &Call, puts: &BTreeMap<u32, u64>) -> Option<Rival>
     })
 }
 
-/// What each call got that an indexed call put, by rising number.
+/// What each call got that an indexed call put, in the order of the calls.
 pub(crate) fn rivals(
     alloc: Global,
     calls: &[Call],

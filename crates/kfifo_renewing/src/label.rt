@@ -64,7 +64,8 @@ impl Label {
         number_in(found)
     }
 
-    /// What the word of the place is, if no generation is there and that with this number was not, as one load finds it.
+    /// What the word of the place is, as one load finds it, if no generation is there, and the one with this number was
+    /// not there before.
     pub(crate) fn look_before(&self, number: u32, history: &mut History) -> Option<u64>
         requires { history.old.book ≡ self.now.book }
         ensures later { (history.new.book ≡ history.old.book) × IsPrefix history.old.log history.new.log }
@@ -116,7 +117,8 @@ impl Label {
         requires over { part.now.number < newest_of history.old.log }
         requires empty { IsSealedPart part.now }
         ensures later { (history.new.book ≡ history.old.book) × IsPrefix history.old.log history.new.log }
-        ensures gone { IsPlaced history.old.log part.now.number self.now.place → IsGone history.new.log part.now.number }
+        ensures gone { IsPlaced history.old.log part.now.number self.now.place
+            → IsGone history.new.log part.now.number }
     {
         let mut offer: Offer<Change, u64, HistoryRule, NoGain> = history.plain::<
             NoGain,

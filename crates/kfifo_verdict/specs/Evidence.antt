@@ -73,11 +73,11 @@ pub record IsOlder (h : List Call) (get put p : ℕ) : Type 0 where
   pub before : Precedes h p put
   pub kept : (g : ℕ) → Gets h item g → Precedes h get g
 
--- calls by rising number
+-- calls in ascending order
 abbrev pub Rise : List ℕ → Type 0
 Rise calls = EachPair (λ c d. c < d) calls
 
--- 4: A call gets a single item while the items of these k puts, by rising number, are certainly older and there.
+-- 4: A call gets a single item while the items of these k puts, in ascending order, are certainly older and there.
 pub record IsTooYoung (k : ℕ) (h : List Call) (get : ℕ) (puts : List ℕ) : Type 0 where
   pub item : ℕ
   pub put : ℕ
@@ -138,7 +138,7 @@ pub record IsOlderCopy (h : List Call) (get put p : ℕ) : Type 0 where
   pub kept : gets_begun h item (last_step (call h get).end) ≤ puts_ended h item (last_step (call h p).end)
 
 -- 7: A call gets x, and some call puts x, before which as many puts of x begin as gets of x precede the call. What
--- these k calls put, by rising number, is certainly older than what that one puts, and left.
+-- these k calls put, in ascending order, is certainly older than what that one puts, and left.
 pub record IsOlderLeft (k : ℕ) (h : List Call) (get : ℕ) (puts : List ℕ) : Type 0 where
   pub item : ℕ
   pub put : ℕ

@@ -172,7 +172,7 @@ pub record AreSkips (ps : List Presence) (n : ℕ) (skips : List ℕ) : Type 0 w
   pub gone : (i p : ℕ) → i < length ps + 1 → i ≤ p → p < slice_index_or skips i 0
       → (slice_index_or ps p no_presence).gone ≤ n
 
--- The first k numbers below n that pass the test, or all where they are fewer, by rising number.
+-- The first k numbers below n that pass the test, or all where they are fewer, in ascending order.
 pub record AreFirst (test : ℕ → Bool) (k n : ℕ) (found : List ℕ) : Type 0 where
   pub count : length found ≡ min k (count_below test n)
   pub pass : AllByRecursion (λ p. (p < n) × (test p ≡ true)) found

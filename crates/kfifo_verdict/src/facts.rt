@@ -35,7 +35,7 @@ const NO_FACT: Fact = Fact {
 pub(crate) struct Facts {
     /// Of each call.
     calls: Vec<Fact>,
-    /// The calls that have ended, by rising last step.
+    /// The calls that have ended, in ascending order of last step.
     pub due: Vec<usize>,
     /// All items have lower numbers.
     pub items: usize,
@@ -109,7 +109,7 @@ fn fact_at(facts: &[Fact], n: usize) -> Fact {
     facts.get(n).copied().unwrap_or(NO_FACT)
 }
 
-/// The calls that have ended, by rising last step.
+/// The calls that have ended, in ascending order of last step.
 fn by_end(alloc: Global, facts: &[Fact]) -> Result<Vec<usize>, AllocError> {
     let mut ends = Vec::with_capacity(alloc, facts.len())?;
     for (n, fact) in facts.iter().enumerate() {

@@ -77,7 +77,7 @@ pub(crate) struct Loose {
     count: usize,
     /// By rising last step, those that have not ended last.
     by_end: Rings,
-    /// For each item, by rising first step.
+    /// For each item, in ascending order of first step.
     by_item: Rings,
 }
 

@@ -53,7 +53,7 @@ pub(crate) struct Mark {
 /// A beginning of an order, in which the places of most puts are still open.
 #[derive(Drop)]
 pub(crate) struct State {
-    /// How many finished calls, by rising last step, have been passed.
+    /// How many finished calls, in ascending order of last step, have been passed.
     pub at: usize,
     /// How many calls have begun.
     begun: usize,

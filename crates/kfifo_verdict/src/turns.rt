@@ -27,7 +27,7 @@ type Place = (usize, usize, usize);
 /// The turn of a call: its moment and its rank, and the number of the call.
 type Numbered = (usize, usize, usize);
 
-/// When a call has its turn: at a moment, and at one moment by rising rank.
+/// When a call has its turn: at a moment, and at one moment in ascending order of rank.
 #[derive(Clone, Copy)]
 pub(crate) struct Turn {
     /// The moment: a call's number, for when it begins, or the number of calls, for the end.

@@ -21,7 +21,7 @@ pub enum Evidence {
     TooYoung {
         /// The call.
         get: usize,
-        /// The puts of k of them, by rising number.
+        /// The puts of k of them, in ascending order.
         puts: Vec<usize>,
     },
     /// 5: this call got an item, and by its end more gets of that item had ended than puts had begun.
@@ -33,7 +33,7 @@ pub enum Evidence {
     OlderLeft {
         /// The call.
         get: usize,
-        /// The puts of k of them, by rising number.
+        /// The puts of k of them, in ascending order.
         puts: Vec<usize>,
     },
 }

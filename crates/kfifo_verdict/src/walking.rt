@@ -1,10 +1,10 @@
 //! The search for a legal order.
 //!
-//! It walks through the finished calls by rising last step, and lets each go when it is due, or when another needs it
-//! to. Which of two overlapping puts comes first is left open until a get needs to know. Of all puts of its item a due
-//! get takes one that has begun. Puts that precede that one have to stand before it: their items come to the *front*,
-//! where fewer than k have room. Where there is no room, the item of a waiting get leaves the front. An Empty needs an
-//! empty front, and that no put has ended whose item is there.
+//! It walks through the finished calls in ascending order of last step, and lets each go when it is due, or when
+//! another needs it to. Which of two overlapping puts comes first is left open until a get needs to know. Of all puts
+//! of its item a due get takes one that has begun. Puts that precede that one have to stand before it: their items come
+//! to the *front*, where fewer than k have room. Where there is no room, the item of a waiting get leaves the front. An
+//! Empty needs an empty front, and that no put has ended whose item is there.
 //!
 //! So few choices are left: which put of an item that was put more than once, which item leaves the front, and when an
 //! Empty goes. Where a due call cannot go, the walk changes the last of them. A state in which the walk has been before

@@ -1,4 +1,4 @@
--- The list has each task once, and the sort puts them by rising id.
+-- The list has each task once, and the sort puts them in ascending order of id.
 use Rattle.std.proofs.Common.{rules, arith, ap, subst, ◌≡◌, ◌∙◌, ◌<◌, List, length, map, take}
 use Rattle.std.proofs.Math.Seq.{take-length}
 use Rattle.std.proofs.lemmas.List.Sorted.{IsNonDecreasingBy-from_sort_by_key}
