@@ -61,8 +61,8 @@ module _ {T : Type 0} where
   abbrev pub HasNumber : List (PartView T) → ℕ → Type 0
   HasNumber parts n = (p : PartView T) × Contains parts p × (p.number ≡ n)
 
-  -- Each generation that was the newest has gone, or one of these parts is in it: of those between these numbers, and as
-  -- two beginnings of the history tell
+  -- Each generation that was the newest has gone, or one of these parts is in it: of those between these numbers, and
+  -- as two beginnings of the history tell
   abbrev pub AreAmong : ℕ → ℕ → List (PartView T) → List Change → List Change → Type 0
   AreAmong first end parts old new = (n : ℕ) → first < n → n < end → WasNewest old n → IsGone new n ⊎ HasNumber parts n
 

@@ -256,8 +256,8 @@ module _ {T : Type 0} where
   IsNew thread number log h = (number < h.number) × IsMade log h.number h.handle.held.pass.pass.table
       × IsFresh thread h.handle
 
-  -- A handle follows others. It keeps what it has joined as it is, but for generations that have gone, and
-  -- joins some later ones. Nothing is done in any of them
+  -- A handle follows others. It keeps what it has joined as it is, but for generations that have gone, and joins some
+  -- later ones. Nothing is done in any of them
   pub record Follows (old new : Generations T) : Type 0 where
     pub later : IsLater old new
     pub up : old.number ≤ new.number
@@ -473,8 +473,7 @@ module _ {T : Type 0} where
   HaveSeen handles log = All (λ g. IsPrefix g.seen log) handles
 
   -- What a close has by its last handle: it learned what the others had seen, and then followed them to the generation
-  -- that was the newest of the queue at a look. So it is in each that has not gone, of all in which any of them may have
-  -- given: in these, the oldest first
+  -- that was the newest of the queue at a look, so it is in each that has not gone: in these, the oldest first
   abbrev pub Gathers : List (Generations T) → Generations T → List (HeldIn T) → Type 0
   Gathers others last all = (told : Generations T) × (told ≡ with_seen last told.seen) × IsLater last told
       × HaveSeen others told.seen × (here : Generations T) × Follows told here × IsAtNewest told here × HasAll here
