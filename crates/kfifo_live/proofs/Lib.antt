@@ -26,6 +26,7 @@ pub mod Threads
 pub mod Records
 pub mod ClosedEmpty
 pub mod Gathered
+pub mod Groups
 pub mod Leftovers
 pub mod Leavings
 pub mod Rotation

@@ -9,6 +9,7 @@ pub mod Pass
 pub mod Payloads
 pub mod InHand
 pub mod Tokens
+pub mod Groups
 pub mod Capacities
 pub mod Handles
 pub mod Balance

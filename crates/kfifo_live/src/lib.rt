@@ -39,6 +39,7 @@ pub use round_robin::RoundRobin;
 pub use sealing::Sealing;
 pub use stamped::gathering::gather;
 pub use stamped::{MAX_STAMPED_CALLS, StampPass, StampQueue};
+pub use tokens::group::TokenGroup;
 pub use tokens::handle::TokenHandle;
 pub use tokens::sealing::ReceivedOrSealed;
 pub use tokens::sizes::{SPARE_TOKENS, Sizes, SizesFault};

@@ -14,6 +14,7 @@ ghost use Rattle.kfifo_live.specs.Payloads.{PayPassView, pay_pass_view};
 ghost use Rattle.kfifo_live.specs.Tokens.{GivesWith, IsTokenPass, Puts, ReceivesWith, TakesToken, token_opening};
 
 pub(crate) mod closing;
+pub(crate) mod group;
 pub(crate) mod handle;
 pub(crate) mod opening;
 pub(crate) mod sealing;

@@ -4,6 +4,7 @@
 
 mod cells;
 mod free;
+mod group;
 mod handle;
 mod laid;
 mod pool;
