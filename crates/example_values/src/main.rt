@@ -67,7 +67,7 @@ fn finish(alloc: Global, workers: Vec<Worker>) -> anyhow::Result<Totals>
         totals.out.add_all(worker.out);
     }
     let handles = handles_back(alloc, workers)?;
-    for text in close(alloc, handles)? {
+    for text in close(alloc, handles)?.left {
         totals.out.add(text.as_str());
     }
     Ok(totals)

@@ -1,6 +1,7 @@
 -- What C is told of a cell's layout, and what closing a queue of cells says of its handles.
 use Rattle.std.specs.Prelude.{◌≡◌, ℕ, ◌%◌, ◌==◌, ◌&&◌, Bool, not, Option, Some, List, [], ◌∷◌, ◌++◌}
 use Rattle.kfifo_renewing.specs.Cells.{ClosesAllCells}
+use Rattle.kfifo_renewing.specs.declared.change.Change.{Change}
 use Rattle.kfifo_c.specs.AllHandles.{AreAll}
 use Rattle.kfifo_c.specs.CellLeft.{LeftSeated}
 use Rattle.kfifo_c.specs.CellSeats.{CellSeated}
@@ -16,9 +17,10 @@ all_cells [] = []
 all_cells (cells ∷ generations) = cells ++ all_cells generations
 
 -- A queue was closed by these handles, and these cells were left in it, those of the oldest generation first: all that
--- the renewing queue says of a close
+-- the renewing queue says of a close. The log, what was seen of the history, is not handed on to C
 pub record ClosesCells (handles : List (Option CellSeated)) (left : Option LeftSeated) : Type 0 where
   pub all : AreAll handles
   pub generations : List (List ℕ)
-  pub closes : ClosesAllCells (all.others ++ all.last ∷ []) generations
+  pub log : List Change
+  pub closes : ClosesAllCells (all.others ++ all.last ∷ []) generations log
   pub left_is : left ≡ Some (all_cells generations)

@@ -5,6 +5,7 @@ use Rattle.kfifo_live.specs.declared.payload.Given.TheVariants as G
 use Rattle.kfifo_live.specs.declared.payload.Taken.{Taken}
 use Rattle.kfifo_live.specs.declared.payload.Taken.TheVariants as K
 use Rattle.kfifo_renewing.specs.Renewing.{ClosesAll, Follows, all_of}
+use Rattle.kfifo_renewing.specs.declared.change.Change.{Change}
 use Rattle.kfifo_c.specs.AllHandles.{AreAll}
 use Rattle.kfifo_c.specs.Behind.{Behind}
 use Rattle.kfifo_c.specs.Behind as B
@@ -54,10 +55,11 @@ pub record MayCloseValues (handles : List (Option ValueSeated)) (room : ℕ) : T
   pub room_is : room_for all.last ≤ room
 
 -- A queue was closed by these handles, and the values that were left were written, and their number: all that the
--- renewing queue says of a close
+-- renewing queue says of a close. The log, what was seen of the history, is not handed on to C
 pub record ClosesValues (handles : List (Option ValueSeated)) (old new : List ℕ) (count : ℕ) : Type 0 where
   pub all : AreAll handles
   pub left : List ℕ
-  pub closes : ClosesAll (all.others ++ all.last ∷ []) left
+  pub log : List Change
+  pub closes : ClosesAll (all.others ++ all.last ∷ []) left log
   pub count_is : count ≡ length left
   pub written : new ≡ left ++ drop (length left) old

@@ -10,6 +10,7 @@ use Rattle.kfifo_live.specs.Pass.{Closes, OpenQueue}
 use Rattle.kfifo_pool.specs.Pooled.{Pooled, passes_in}
 use Rattle.kfifo_renewing.specs.declared.cells.CellCall.{CellCall}
 use Rattle.kfifo_renewing.specs.declared.cells.CellCall.TheVariants as C
+use Rattle.kfifo_renewing.specs.declared.change.Change.{Change}
 use Rattle.kfifo_renewing.specs.declared.memory.CellAt.{CellAt}
 use Rattle.kfifo_renewing.specs.Memory.{ReceivesAt, ReceivesAtOrSeals, cells_in}
 use Rattle.kfifo_renewing.specs.Renewing.{IsClosedBy, Follows, Gathers, Generations, HeldIn, IsAtNewest, IsBehind}
@@ -98,8 +99,8 @@ module _ {T : Type 0} where
   LeavesCells handles (h ∷ hs) left = (first : List ℕ) × (rest : List (List ℕ)) × (left ≡ first ∷ rest)
       × CellsWereLeft handles h first × LeavesCells handles hs rest
 
-  -- What a close by these handles returned, as `ClosesAll` says of payloads
-  abbrev pub ClosesAllCells : List (Generations T) → List (List ℕ) → Type 0
-  ClosesAllCells handles left = (last : Generations T) × (others : List (Generations T))
-      × (handles ≡ others ++ last ∷ []) × (all : List (HeldIn T)) × Gathers others last all
+  -- What a close by these handles returned, with this log of the history, as `ClosesAll` says of payloads
+  abbrev pub ClosesAllCells : List (Generations T) → List (List ℕ) → List Change → Type 0
+  ClosesAllCells handles left log = (last : Generations T) × (others : List (Generations T))
+      × (handles ≡ others ++ last ∷ []) × (all : List (HeldIn T)) × Gathers others last all log
       × LeavesCells others all left

@@ -473,15 +473,17 @@ module _ {T : Type 0} where
   HaveSeen handles log = All (λ g. IsPrefix g.seen log) handles
 
   -- What a close has by its last handle: it learned what the others had seen, and then followed them to the generation
-  -- that was the newest of the queue at a look, so it is in each that has not gone: in these, the oldest first
-  abbrev pub Gathers : List (Generations T) → Generations T → List (HeldIn T) → Type 0
-  Gathers others last all = (told : Generations T) × (told ≡ with_seen last told.seen) × IsLater last told
+  -- that was the newest of the queue at a look, so it is in each that has not gone: in these, the oldest first. This
+  -- log is the beginning of the history that it has then seen
+  abbrev pub Gathers : List (Generations T) → Generations T → List (HeldIn T) → List Change → Type 0
+  Gathers others last all log = (told : Generations T) × (told ≡ with_seen last told.seen) × IsLater last told
       × HaveSeen others told.seen × (here : Generations T) × Follows told here × IsAtNewest told here × HasAll here
-      × (all ≡ all_of here)
+      × (all ≡ all_of here) × (here.seen ≡ log)
 
-  -- What a close by these handles returned: each of the generations that the last of them was then in was closed, the
-  -- oldest first. All that a handle did in one of these is in the one schedule by which that was closed
-  abbrev pub ClosesAll : List (Generations T) → List T → Type 0
-  ClosesAll handles payloads = (last : Generations T) × (others : List (Generations T))
-      × (handles ≡ others ++ last ∷ []) × (all : List (HeldIn T)) × Gathers others last all
+  -- What a close by these handles returned, with this log, the beginning of the history that the last of them had seen:
+  -- each of the generations that the last was then in was closed, the oldest first. All that a handle did in one of
+  -- these is in the one schedule by which that was closed
+  abbrev pub ClosesAll : List (Generations T) → List T → List Change → Type 0
+  ClosesAll handles payloads log = (last : Generations T) × (others : List (Generations T))
+      × (handles ≡ others ++ last ∷ []) × (all : List (HeldIn T)) × Gathers others last all log
       × ClosesEach others all payloads

@@ -79,12 +79,23 @@ fn take_numbered<T: Drop>(
 }
 
 /// What is needed to close a queue: the parts of its last handle, the oldest generation first, those of its other
-/// handles, and what each generation was opened with.
+/// handles, what each generation was opened with, and what the last handle has seen of the history.
 #[derive(Drop)]
 pub(crate) struct Gathered<T: Drop> {
     pub(crate) all: Vec<Leaving<Joined<T>>>,
     pub(crate) theirs: Theirs<T>,
     pub(crate) sizes: Sizes,
+    pub(crate) history: History,
+}
+
+/// What is left of a closed queue, and what was seen of its history, which has no bytes: what is proved of a close
+/// speaks of that, so no made-up history meets it.
+#[derive(Drop)]
+pub struct Closed<L: Drop> {
+    /// What is left, that of the oldest generation first.
+    pub left: Vec<L>,
+    /// What the last handle had seen of the queue's history.
+    pub history: History,
 }
 
 /// A generation that is to be closed: its queue, the handle of one thread, those of all others, and the memory of its
@@ -124,15 +135,17 @@ fn take_apart<T: Drop, K: Kind<T>>(
     Ok(theirs)
 }
 
-/// The parts of all handles of a queue: those of the last one, which has followed the others, and theirs.
+/// The parts of all handles of a queue: those of the last one, which has followed the others, and theirs. With them it
+/// returns what the last one has then seen of the history.
 pub(crate) fn gather<T: Drop, K: Kind<T>>(
     alloc: Global,
     mut handles: Vec<RenewingHandle<T, K>>,
 ) -> Result<Gathered<T>, CloseFault>
     requires { AreOfOneQueue handles.items }
     ensures all { IfOk result (λ r. (last : Generations T) × (others : List (Generations T))
-        × (handles.items ≡ others ++ last ∷ []) × Gathers others last (held_by r.all.items)
+        × (handles.items ≡ others ++ last ∷ []) × Gathers others last (held_by r.all.items) r.history.log
         × HaveParts others r.theirs.parts.items) }
+    ensures book { IfOk result (λ r. All (λ g. g.book ≡ r.history.book) handles.items) }
     ensures parts { IfOk result (λ r. (log : List Change) × All (IsPart log) r.all.items
         × All (IsPart log) r.theirs.parts.items) }
     ensures opened { IfOk result (λ r. All (λ p. IsOpenedAs (opening_with K.bare r.sizes) p.handle) r.all.items
@@ -148,7 +161,11 @@ pub(crate) fn gather<T: Drop, K: Kind<T>>(
     let Some(_) = last.generations() else {
         return Err(CloseFault::Memory);
     };
-    let JoinedAll { shared, parts, .. } = last.into_joined()?;
+    let JoinedAll {
+        shared,
+        history,
+        parts,
+    } = last.into_joined()?;
     let Some(shared) = Arc::into_inner(shared) else {
         return Err(CloseFault::MissingPass);
     };
@@ -162,6 +179,7 @@ pub(crate) fn gather<T: Drop, K: Kind<T>>(
             least: 0,
         },
         sizes,
+        history,
     })
 }
 
@@ -230,6 +248,7 @@ fn close_each<T: Drop>(alloc: Global, gathered: Gathered<T>) -> Result<Vec<T>, C
         all,
         mut theirs,
         sizes,
+        ..
     } = gathered;
     let mut left = Vec::new(alloc);
     for joined in all {
@@ -240,7 +259,8 @@ fn close_each<T: Drop>(alloc: Global, gathered: Gathered<T>) -> Result<Vec<T>, C
     Ok(left)
 }
 
-/// Closes a queue by all its handles, and returns the payloads that are left, those of the oldest generation first.
+/// Closes a queue by all its handles, and returns the payloads that are left, those of the oldest generation first, and
+/// what was seen of its history.
 ///
 /// The last handle first learns what the others have seen, and follows them. Of each of its generations they are what
 /// is left after the one schedule of all calls there, in the order of `PayQueue::close`. All that the handles that are
@@ -248,11 +268,16 @@ fn close_each<T: Drop>(alloc: Global, gathered: Gathered<T>) -> Result<Vec<T>, C
 ///
 /// The handles are of one queue. MissingPass where one of its handles is still elsewhere, or none is given; Memory
 /// where an allocation failed. The payloads are then dropped.
-pub fn close<T: Drop>(alloc: Global, handles: Vec<RenewingHandle<T>>) -> Result<Vec<T>, CloseFault>
+pub fn close<T: Drop>(
+    alloc: Global,
+    handles: Vec<RenewingHandle<T>>,
+) -> Result<Closed<T>, CloseFault>
     requires { AreOfOneQueue handles.items }
-    ensures { IfOk result (λ left. ClosesAll handles.items left.items) }
+    ensures closes { IfOk result (λ closed. ClosesAll handles.items closed.left.items closed.history.log) }
+    ensures book { IfOk result (λ closed. All (λ g. g.book ≡ closed.history.book) handles.items) }
 {
     let gathered = gather(alloc, handles)?;
+    let history = gathered.history.again();
     let left = close_each(alloc, gathered)?;
-    Ok(left)
+    Ok(Closed { left, history })
 }

@@ -49,7 +49,7 @@ const KEPT: usize = 9;
 /// };
 /// let given = giver.give(7); // Done
 /// let taken = taker.take(); // Got(7)
-/// let left = close(alloc, vec![in alloc; giver, taker]?)?; // the payloads that are left: none
+/// let left = close(alloc, vec![in alloc; giver, taker]?)?.left; // the payloads that are left: none
 /// ```
 ///
 /// Clauses see it as the generations that it has joined, its handle in each, and what it has seen of the history of the

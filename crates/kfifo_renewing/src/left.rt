@@ -6,7 +6,7 @@ ghost use Rattle.kfifo_renewing.specs.Memory.{cells_in};
 ghost use Rattle.kfifo_renewing.specs.Renewing.{AreOfOneQueue, Generations, HaveOwnAmong, IsOpenedAs, opening_with};
 ghost use Rattle.kfifo_renewing.specs.declared.change.Change.{Change};
 
-use crate::closing::{Ended, Gathered, end, gather};
+use crate::closing::{Closed, Ended, Gathered, end, gather};
 use crate::handle::RenewingHandle;
 use crate::joined::Joined;
 use crate::kind::Cells;
@@ -92,6 +92,7 @@ fn close_each(alloc: Global, gathered: Gathered<()>) -> Result<Vec<LeftCells>, C
         all,
         mut theirs,
         sizes,
+        ..
     } = gathered;
     let mut left = Vec::with_capacity(alloc, all.len())?;
     for joined in all {
@@ -105,7 +106,7 @@ fn close_each(alloc: Global, gathered: Gathered<()>) -> Result<Vec<LeftCells>, C
 }
 
 /// Closes a queue of cells by all its handles, and returns the cells that are left in each of its generations, the
-/// oldest first, with their memory.
+/// oldest first, with their memory, and what was seen of its history.
 ///
 /// The last handle first follows the others. In each generation they are what is left after the one schedule of all
 /// calls there, in the order of `PooledQueue::close`. All that a handle of the queue did there is in that schedule. A
@@ -116,11 +117,13 @@ fn close_each(alloc: Global, gathered: Gathered<()>) -> Result<Vec<LeftCells>, C
 pub fn close_cells(
     alloc: Global,
     handles: Vec<RenewingHandle<(), Cells>>,
-) -> Result<Vec<LeftCells>, CloseFault>
+) -> Result<Closed<LeftCells>, CloseFault>
     requires { AreOfOneQueue handles.items }
-    ensures { IfOk result (λ left. ClosesAllCells handles.items left.items) }
+    ensures closes { IfOk result (λ closed. ClosesAllCells handles.items closed.left.items closed.history.log) }
+    ensures book { IfOk result (λ closed. All (λ g. g.book ≡ closed.history.book) handles.items) }
 {
     let gathered = gather(alloc, handles)?;
+    let history = gathered.history.again();
     let left = close_each(alloc, gathered)?;
-    Ok(left)
+    Ok(Closed { left, history })
 }

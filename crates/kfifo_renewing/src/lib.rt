@@ -23,9 +23,10 @@ mod places;
 mod queue;
 mod taking;
 
-pub use closing::close;
+pub use closing::{Closed, close};
 pub use fault::{CapacityFault, RenewFault};
 pub use handle::RenewingHandle;
+pub use history::History;
 pub use kfifo_exclusive::Exclusive;
 pub use kind::{Cells, Kind, Payloads};
 pub use left::{LeftCells, close_cells};

@@ -302,7 +302,7 @@ pub fn open<T: Drop>(
 /// let given = giver.publish(); // Done
 /// let received = taker.receive(); // Got: where that cell lies
 /// let released = taker.release(); // Done
-/// let left = close_cells(alloc, vec![in alloc; giver, taker]?)?; // the cells that are left: none
+/// let left = close_cells(alloc, vec![in alloc; giver, taker]?)?.left; // the cells that are left: none
 /// ```
 ///
 /// Refuses what `open` does. Memory where that of the cells is refused, too.

@@ -15,7 +15,7 @@ fn the_renewing_queue(rt: HostRuntime) -> Result<(), Fail> {
     };
     let given = giver.give(7); // Done
     let taken = taker.take(); // Got(7)
-    let left = close(alloc, vec![in alloc; giver, taker]?)?; // the payloads that are left: none
+    let left = close(alloc, vec![in alloc; giver, taker]?)?.left; // the payloads that are left: none
     assert_eq!(rt; given, Given::Done);
     assert_eq!(rt; taken, Taken::Got(7));
     assert!(rt; left.is_empty());
@@ -37,7 +37,7 @@ fn the_queue_of_cells(rt: HostRuntime) -> Result<(), Fail> {
     let given = giver.publish(); // Done
     let received = taker.receive(); // Got: where that cell lies
     let released = taker.release(); // Done
-    let left = close_cells(alloc, vec![in alloc; giver, taker]?)?; // the cells that are left: none
+    let left = close_cells(alloc, vec![in alloc; giver, taker]?)?.left; // the cells that are left: none
     assert!(rt; reserved.is_some());
     assert_eq!(rt; given, Given::Done);
     assert!(rt; matches!(received, Taken::Got(_)));
@@ -58,6 +58,6 @@ fn the_queue_that_grows(rt: HostRuntime) -> Result<(), Fail> {
     };
     let handles = open_with::<u64>(alloc, sizes, renewals)?;
     assert_eq!(rt; handles.len(), 4);
-    assert!(rt; close(alloc, handles)?.is_empty());
+    assert!(rt; close(alloc, handles)?.left.is_empty());
     Ok(())
 }

@@ -97,7 +97,8 @@ impl<T: Drop> Handles<T> {
     }
 
     pub fn close(self, alloc: Global) -> Result<Vec<T>, CloseFault> {
-        kfifo_renewing::close(alloc, self.handles)
+        let closed = kfifo_renewing::close(alloc, self.handles)?;
+        Ok(closed.left)
     }
 }
 

@@ -185,7 +185,7 @@ fn work_all<R: Threads + Abort + Sync>(
         },
     )?;
     let numbers = numbers_of(alloc, workers.as_slice())?;
-    let left = close(alloc, handles_back(alloc, workers)?)?;
+    let left = close(alloc, handles_back(alloc, workers)?)?.left;
     assert_eq!(rt; left.len(), 0);
     Ok(numbers)
 }

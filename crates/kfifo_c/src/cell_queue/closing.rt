@@ -90,10 +90,10 @@ pub extern "C" fn kfifo_c_close_cells(
     let Ok(taken) = take_all(alloc, passes) else {
         return NO_MEMORY;
     };
-    let Ok(cells) = close_cells(alloc, taken) else {
+    let Ok(closed) = close_cells(alloc, taken) else {
         return LOST;
     };
-    *seat = LeftSeat::new(cells);
+    *seat = LeftSeat::new(closed.left);
     *left = LeftHandle::of(seat);
     DONE
 }

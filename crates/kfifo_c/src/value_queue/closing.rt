@@ -123,13 +123,13 @@ pub extern "C" fn kfifo_c_close_values(
     let Ok(taken) = take_all(alloc, passes) else {
         return NO_MEMORY;
     };
-    let Ok(left) = close(alloc, taken) else {
+    let Ok(closed) = close(alloc, taken) else {
         return LOST;
     };
     // There is room: nobody opens a generation during a close.
-    if !write_values(values, left.as_slice()) {
+    if !write_values(values, closed.left.as_slice()) {
         return LOST;
     }
-    *count = left.len();
+    *count = closed.left.len();
     DONE
 }

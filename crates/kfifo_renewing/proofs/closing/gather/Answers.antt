@@ -1,5 +1,6 @@
 -- The last handle has followed others, and these are its generations, and the parts of the others.
 use Rattle.std.proofs.Common.{◌≡◌, Bool, All, sym, ap, ◌∙◌, subst}
+use Rattle.std.proofs.lemmas.List.Elements.{All-push}
 use mathlib.Core.List.{IsPrefix}
 use Rattle.kfifo_live.specs.declared.view.Opening.{Opening}
 use Rattle.kfifo_renewing.specs.Joining.{PartView}
@@ -37,9 +38,20 @@ returns-clause-all g c =
         c.in-Some-generations.ensures.count.1,
         c.generations.ensures.all,
         c.in_ok-shared.ensures.joined,
+        sym c.in_ok-shared.ensures.history.1,
       ),
       c.in_ok-theirs.ensures.all,
     )
+
+pub returns-clause-book : goal.returns-clause-book
+returns-clause-book g c =
+    let same = c.in_ok-shared.ensures.history.0 ∙ c.generations.ensures.follows.later.book
+    ∙ c.learn.ensures.later.book in
+    let one = one-queue c.args.handles.items c.pop.new.self.items c.in-Some.last c.in-Some.ensures.items c.requires in
+    let book = sym (same ∙ one.5) in
+    subst (All (λ h. h.book ≡ c.in_ok-shared.field-0.history.book)) (sym c.in-Some.ensures.items)
+    (All-push (λ h. h.book ≡ c.in_ok-shared.field-0.history.book) c.pop.new.self.items c.in-Some.last
+    (λ k d inside. one.3 k d inside ∙ book) (sym same))
 
 pub returns-clause-parts : goal.returns-clause-parts
 returns-clause-parts g c =

@@ -1,7 +1,17 @@
 -- The generations of the last handle are closed, by the parts of all handles.
+use Rattle.std.proofs.Common.{ap, sym, subst}
+use Rattle.kfifo_renewing.specs.Joining.{held_by}
+use Rattle.kfifo_renewing.specs.Renewing.{Gathers}
 use Rattle.kfifo_renewing.proofs.left.close_cells.Goals as goal
 
-pub returns : goal.returns
-returns c =
-    let (last, others, is, gathers, have) = c.in_ok-gathered.ensures.all in
-    (last, others, is, _, gathers, c.in_ok-left.ensures others have)
+pub returns-clause-closes : goal.returns-clause-closes
+returns-clause-closes c =
+    let (last, others, is, gathers, have) = c.in_ok-gathered.ensures.all in (
+      last,
+      others,
+      is,
+      _,
+      subst (Gathers others last (held_by c.in_ok-gathered.gathered.all.items))
+          (sym (ap (λ h. h.log) c.again-history.ensures)) gathers,
+      c.in_ok-left.ensures others have,
+    )

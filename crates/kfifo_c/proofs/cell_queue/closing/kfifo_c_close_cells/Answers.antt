@@ -20,9 +20,10 @@ returns-clause-done c = λ _.
     ∙ all_seats (cells_behind c.args.passes.now) all in
     record {
       all = all;
-      generations = c.in-Ok-close_cells.cells.items;
-      closes = subst (λ (seats : List CellSeated). ClosesAllCells seats c.in-Ok-close_cells.cells.items) taken
-          c.in-Ok-close_cells.ensures;
+      generations = c.in-Ok-close_cells.closed.left.items;
+      log = c.in-Ok-close_cells.closed.history.log;
+      closes = subst (λ (seats : List CellSeated). ClosesAllCells seats c.in-Ok-close_cells.closed.left.items
+          c.in-Ok-close_cells.closed.history.log) taken c.in-Ok-close_cells.ensures.closes;
       left_is = ap left_in c.of.ensures ∙ ap Some c.new-4.ensures;
     }
 

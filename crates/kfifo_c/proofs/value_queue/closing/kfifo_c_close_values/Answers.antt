@@ -43,15 +43,17 @@ pub returns-clause-done : goal.returns-clause-done
 returns-clause-done c = λ _.
     let os = values_behind c.room_of.new.handles in
     let all = (subst (λ o. NeedsRoom o os) c.in-Ok-Some.field-0-is c.in-Ok-Some.ensures.room).0 in
-    let left = c.in-Ok-close.left.items in
-    let v : vec_len c.in-Ok-close.left ≡ length left = omega arith in (
+    let left = c.in-Ok-close.closed.left.items in
+    let log = c.in-Ok-close.closed.history.log in
+    let v : vec_len c.in-Ok-close.closed.left ≡ length left = omega arith in (
       behind c.room_of.new.handles,
       c.room_of.ensures.follows,
       record {
         all = all;
         left = left;
-        closes = subst (λ (seats : List ValueSeated). ClosesAll seats left) (c.in-Ok.ensures.taken ∙ all_seats os all)
-            c.in-Ok-close.ensures;
+        log = log;
+        closes = subst (λ (seats : List ValueSeated). ClosesAll seats left log)
+            (c.in-Ok.ensures.taken ∙ all_seats os all) c.in-Ok-close.ensures.closes;
         count_is = c.len.ensures ∙ v;
         written = c.write_values.ensures.written c.if-not-write_values.false
             ∙ ap (λ l. l ++ drop (length l) c.args.values.now) c.as_slice.ensures.value;
