@@ -120,8 +120,7 @@ fn stays_from(
     calls: &[Call],
     presences: &[Presence],
 ) -> Result<Vec<Stay>, AllocError>
-    requires history { IsHistory calls.now }
-    requires presences { ArePresences calls.now (length calls.now) presences.now }
+    requires { ArePresences calls.now (length calls.now) presences.now }
     ensures { IfOk result (λ v. IsBucketed calls.now presences.now (length calls.now) v.items) }
 {
     let mut stays = vec![in alloc; NO_STAY; calls.len()]?;
@@ -393,6 +392,21 @@ fn evidence_to_3(
     Ok(None)
 }
 
+/// The evidence of the kinds 5 and 6, where there is none of the kinds 1 to 3.
+fn evidence_5_and_6(alloc: Global, calls: &[Call]) -> Result<Option<Evidence>, AllocError>
+    requires history { IsHistory calls.now }
+    requires none { HasNoneTo3 calls.now }
+    ensures { IfOk result (λ found. MatchOption found (HasNoneForEachK calls.now) (IsFirstForEachK calls.now)) }
+{
+    if let Some(get) = taken_too_soon(alloc, calls)? {
+        return Ok(Some(Evidence::TakenTooSoon(get)));
+    }
+    if let Some(empty) = items_left(alloc, calls)? {
+        return Ok(Some(Evidence::ItemsLeft(empty)));
+    }
+    Ok(None)
+}
+
 /// The evidence among the calls of a history.
 fn evidence_among(
     alloc: Global,
@@ -414,11 +428,8 @@ fn evidence_among(
     if items.plain {
         return Ok(None);
     }
-    if let Some(get) = taken_too_soon(alloc, calls)? {
-        return Ok(Some(Evidence::TakenTooSoon(get)));
-    }
-    if let Some(empty) = items_left(alloc, calls)? {
-        return Ok(Some(Evidence::ItemsLeft(empty)));
+    if let Some(found) = evidence_5_and_6(alloc, calls)? {
+        return Ok(Some(found));
     }
     if let Some((get, puts)) = older_left(alloc, calls, k)? {
         return Ok(Some(Evidence::OlderLeft { get, puts }));
@@ -438,13 +449,7 @@ fn evidence_for_all(alloc: Global, calls: &[Call]) -> Result<Option<Evidence>, A
     if items.plain {
         return Ok(None);
     }
-    if let Some(get) = taken_too_soon(alloc, calls)? {
-        return Ok(Some(Evidence::TakenTooSoon(get)));
-    }
-    if let Some(empty) = items_left(alloc, calls)? {
-        return Ok(Some(Evidence::ItemsLeft(empty)));
-    }
-    Ok(None)
+    evidence_5_and_6(alloc, calls)
 }
 
 /// Returns the evidence that a history has no legal order for a queue that may give any of its k oldest items: of the

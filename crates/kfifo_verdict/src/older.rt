@@ -92,10 +92,7 @@ fn copy_of(calls: &[Call], listed: &Listed, p: usize) -> Presence
     requires listed { AreListed calls.now listed.now }
     ensures { IsCopy calls.now p result }
 {
-    let never = Presence {
-        start: calls.len(),
-        gone: 0,
-    };
+    let never = Presence::never(calls);
     let Effect::Adds(item) = calls[p].effect() else {
         return never;
     };

@@ -19,6 +19,19 @@ pub(crate) struct Presence {
     pub gone: usize,
 }
 
+impl Presence {
+    /// That an item is there at none of these calls.
+    pub(crate) fn never(calls: &[Call]) -> Presence
+        ensures start { result.start ≡ length calls.now }
+        ensures gone { result.gone ≡ 0 }
+    {
+        Presence {
+            start: calls.len(),
+            gone: 0,
+        }
+    }
+}
+
 /// The calls of a history by their items.
 #[derive(Drop)]
 pub(crate) struct Items {
@@ -42,10 +55,7 @@ fn presence_of(calls: &[Call], puts: &ByItem, gets: &ByItem, p: usize) -> Presen
     requires gets { AreGets calls.now gets.now }
     ensures { IsPresence calls.now p result }
 {
-    let never = Presence {
-        start: calls.len(),
-        gone: 0,
-    };
+    let never = Presence::never(calls);
     let Effect::Adds(item) = calls[p].effect() else {
         return never;
     };

@@ -91,24 +91,6 @@ fn places(
     Ok(places)
 }
 
-/// The items by their places.
-fn line_of(
-    alloc: Global,
-    calls: &[Call],
-    presences: &[Presence],
-    stays: &[Stay],
-) -> Result<Vec<Place>, AllocError>
-    requires history { IsHistory calls.now }
-    requires plain { IsPlain calls.now }
-    requires presences { ArePresences calls.now (length calls.now) presences.now }
-    requires longest { AreLongest presences.now stays.now }
-    ensures { IfOk result (λ line. IsLine calls.now presences.now line.items) }
-{
-    let mut line = places(alloc, calls, presences, stays)?;
-    sort_nearly(&mut line);
-    Ok(line)
-}
-
 /// A turn for each call, as if all neither put nor got an item: an Empty as a call begins at which no item is certainly
 /// there.
 fn idle_turns(
@@ -226,7 +208,8 @@ fn plain_order(alloc: Global, calls: &[Call], items: &Items) -> Result<Vec<usize
 {
     let presences = items.presences.as_slice();
     let stays = items.stays.as_slice();
-    let places = line_of(alloc, calls, presences, stays)?;
+    let mut places = places(alloc, calls, presences, stays)?;
+    sort_nearly(&mut places);
     let line = places.as_slice();
     let rank = line.len() + line.len();
     let idle = idle_turns(alloc, calls, presences, stays, rank)?;

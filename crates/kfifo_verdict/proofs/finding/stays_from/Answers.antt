@@ -21,10 +21,10 @@ loop-p-preserved c =
           let here : start < length c.loop-p.stays.items = omega (arith, lt, long) in
           let inside : start < length h = omega (arith, lt, long, size) in
           let p_inside : p < length h =
-          (let test = c.loop-p-test.true in let many = c.requires.presences.0 in omega (arith, test, many)) in
+          (let test = c.loop-p-test.true in let many = c.requires.0 in omega (arith, test, many)) in
           bucketed_more h ps p start c.loop-p.stays.items c.if-start-len.stays.items w.index.result.now w.longer.result
           c.loop-p.invariant
-          (c.requires.presences.1 p p_inside) refl inside p_inside
+          (c.requires.1 p p_inside) refl inside p_inside
           (w.index.ensures ∙ get_or_default c.loop-p.stays.items start _ no_stay here) w.longer.ensures
           (ap (λ v. v.items) w.stays-is)
           )

@@ -21,7 +21,7 @@ returns-then-tally_of-ne1 c =
     let G : Tally → Type 0 = λ t. IsTally (has_item Out h item) (first_of h) (length h) t in
     let put = subst P (sym c.tally_of.ensures) (c.requires.puts item) in
     let got = subst G (sym c.tally_of-got.ensures) (c.requires.gets item) in
-    never_presence h p _ refl refl (λ x s.
+    never_presence h p _ c.never-never.ensures.start c.never-never.ensures.gone (λ x s.
     let S : ℕ → Type 0 = λ w. IsSingle h w p in
     let single = subst S (same_put h x item p s.puts is) s in
     elim c.then-tally_of-ne1.branch [
