@@ -10,7 +10,7 @@ use crate::scene::Scene;
 use crate::svg::svg_picture;
 use crate::{lanes, svg};
 use kfifo_model::{Call, History, LoggedCall};
-use std::alloc::{AllocError, AllocFailed, Global};
+use std::alloc::{AllocError, Global};
 use thiserror::Error;
 
 /// The most calls of a picture.
@@ -48,6 +48,32 @@ pub struct Drawing<'a> {
     pub ghost few_places: { k ≤ 64 },
 }
 
+impl<'a> Drawing<'a> {
+    /// A drawing of this part of a history, for a k of 1 to 64.
+    pub fn new(
+        style: Style,
+        part: Part<'a>,
+        marking: Marking<'a>,
+        k: u32,
+        logged: &'a [LoggedCall],
+    ) -> Drawing<'a>
+        requires { (1 ≤ k) × (k ≤ 64) }
+        ensures style { result.style ≡ style }
+        ensures part { result.part ≡ part.entry }
+        ensures marking { result.marking ≡ marking.entry }
+        ensures k { result.k ≡ k }
+        ensures logged { result.logged ≡ logged.entry }
+    {
+        Drawing {
+            style,
+            part,
+            marking,
+            k,
+            logged,
+        }
+    }
+}
+
 /// Why a history is not drawn.
 #[derive(Clone, Copy, Debug, PartialEq, Eq, Error)]
 pub enum DrawFault {
@@ -77,16 +103,6 @@ impl From<AllocError> for DrawFault {
     ghost from_gives = { λ _ fault. fault ≡ Memory };
 
     fn from(_: AllocError) -> DrawFault {
-        DrawFault::Memory
-    }
-}
-
-impl<T: Drop> From<AllocFailed<T>> for DrawFault {
-    ghost use Rattle.kfifo_draw.specs.declared.picture.DrawFault.TheVariants.{Memory};
-
-    ghost from_gives = { λ _ fault. fault ≡ Memory };
-
-    fn from(_failed: AllocFailed<T>) -> DrawFault {
         DrawFault::Memory
     }
 }

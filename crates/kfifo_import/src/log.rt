@@ -9,7 +9,7 @@ use crate::moments::{Moment, by_time};
 use crate::stamping::stamped;
 use crate::wrong::Refusal;
 use kfifo_model::{Call, History, LoggedCall, Op, RecordFault, logged_line};
-use std::alloc::{AllocError, AllocFailed, Global};
+use std::alloc::{AllocError, Global};
 use thiserror::Error;
 
 /// The most calls of a log.
@@ -75,26 +75,6 @@ pub enum ImportFault {
     /// An allocation failed.
     #[error("out of memory")]
     Memory,
-}
-
-impl From<AllocError> for ImportFault {
-    ghost use Rattle.kfifo_import.specs.declared.log.ImportFault.TheVariants.{Memory};
-
-    ghost from_gives = { λ _ fault. fault ≡ Memory };
-
-    fn from(_: AllocError) -> ImportFault {
-        ImportFault::Memory
-    }
-}
-
-impl<T: Drop> From<AllocFailed<T>> for ImportFault {
-    ghost use Rattle.kfifo_import.specs.declared.log.ImportFault.TheVariants.{Memory};
-
-    ghost from_gives = { λ _ fault. fault ≡ Memory };
-
-    fn from(_failed: AllocFailed<T>) -> ImportFault {
-        ImportFault::Memory
-    }
 }
 
 /// The fault of the record as one of the log, whose calls these are.
