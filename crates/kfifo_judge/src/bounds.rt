@@ -1,7 +1,7 @@
 //! The answer of the command `least`.
 ghost use Rattle.std.specs.Prelude.{ℕ, ◌≡◌, ◌++◌, List, OnOk, IfOk, string_bytes};
 ghost use Rattle.kfifo_judge.specs.Bounds.{AreToldBounds, FollowsReason, IsLeastAnswer};
-ghost use Rattle.kfifo_judge.specs.Bounds.{bounds_text, no_least_text};
+ghost use Rattle.kfifo_judge.specs.Bounds.{bounds_text};
 
 use crate::outcome::Outcome;
 use crate::reasons::push_reasons;
@@ -22,21 +22,6 @@ fn push_bounds(text: &mut String, bounds: Bounds) -> Result<(), AllocError>
     }
 }
 
-/// What is said where no k has an order.
-fn no_least(
-    alloc: Global,
-    history: &History,
-    logged: &[LoggedCall],
-    found: &Evidence,
-) -> Result<String, AllocError>
-    ensures { IfOk result (λ text. string_bytes text ≡ no_least_text logged.now history.now found.now) }
-{
-    let mut text = String::new(alloc);
-    text.push_str("no order\n")?;
-    push_reasons(alloc, &mut text, history, logged, found)?;
-    Ok(text)
-}
-
 /// Returns the text of `least_text`, with the bounds; none where there is evidence for each k. An error means that an
 /// allocation failed.
 pub fn bounded_text(
@@ -48,11 +33,13 @@ pub fn bounded_text(
     ensures { IfOk result (λ a. AreToldBounds logged.now history.now (string_bytes a.0) a.1) }
 {
     let found = evidence_for_each_k(alloc, history)?;
+    let mut text = String::new(alloc);
     if let Some(found) = &found {
-        return Ok((no_least(alloc, history, logged, found)?, None));
+        text.push_str("no order\n")?;
+        push_reasons(alloc, &mut text, history, logged, found)?;
+        return Ok((text, None));
     }
     let bounds = least_k(alloc, history, tries)?;
-    let mut text = String::new(alloc);
     push_bounds(&mut text, bounds)?;
     Ok((text, Some(bounds)))
 }

@@ -1,9 +1,9 @@
 //! A verdict in one line, for the judge of many files.
 ghost use Rattle.std.specs.Prelude.{◌≡◌, ◌≤◌, ◌++◌, IfOk, OnOk, string_bytes};
-ghost use Rattle.kfifo_judge.specs.Briefs.{IsBrief, brief, counted, said_of};
+ghost use Rattle.kfifo_judge.specs.Briefs.{IsBrief, counted, said_of};
 
 use crate::headlines::headline;
-use crate::judgement::{outcome_of, push_stuck};
+use crate::judgement::push_stuck;
 use crate::outcome::Outcome;
 use kfifo_model::{History, LoggedCall};
 use kfifo_verdict::{Judgement, judge_and_count};
@@ -25,32 +25,6 @@ fn push_said(text: &mut String, said: &str) -> Result<(), AllocError>
     text.push_str(said)
 }
 
-/// What is said of a verdict.
-fn told(
-    alloc: Global,
-    history: &History,
-    logged: &[LoggedCall],
-    judgement: &Judgement,
-) -> Result<String, AllocError>
-    ensures { IfOk result (λ text. string_bytes text ≡ brief logged.now history.now judgement.now) }
-{
-    match judgement {
-        Judgement::Legal(_) => counted(alloc, "legal", history),
-        Judgement::NoOrder(found) => {
-            let said = headline(alloc, history, logged, found)?;
-            let mut text = counted(alloc, "no order", history)?;
-            push_said(&mut text, said.as_str())?;
-            Ok(text)
-        }
-        Judgement::Undecided(stuck) => {
-            let mut text = counted(alloc, "undecided", history)?;
-            text.push_str(": ")?;
-            push_stuck(&mut text, *stuck)?;
-            Ok(text)
-        }
-    }
-}
-
 /// Returns a verdict on a history, for a queue that may give any of its k oldest items, 1 to 64, in one line of words
 /// without a line feed, as `no order, calls 809: item 2 came out, and item 1, which went in before, had not`. `logged`
 /// and `tries` are as of `judge_text`. It makes no bounds of the least k, which that text has behind some evidence. An
@@ -66,6 +40,19 @@ pub fn judge_brief(
     ensures { IfOk result (λ a. IsBrief k logged.now history.now (string_bytes a.0) a.1) }
 {
     let (judgement, _) = judge_and_count(alloc, history, k, tries)?;
-    let text = told(alloc, history, logged, &judgement)?;
-    Ok((text, outcome_of(&judgement)))
+    match &judgement {
+        Judgement::Legal(_) => Ok((counted(alloc, "legal", history)?, Outcome::Answered)),
+        Judgement::NoOrder(found) => {
+            let said = headline(alloc, history, logged, found)?;
+            let mut text = counted(alloc, "no order", history)?;
+            push_said(&mut text, said.as_str())?;
+            Ok((text, Outcome::Unordered))
+        }
+        Judgement::Undecided(stuck) => {
+            let mut text = counted(alloc, "undecided", history)?;
+            text.push_str(": ")?;
+            push_stuck(&mut text, *stuck)?;
+            Ok((text, Outcome::Undecided))
+        }
+    }
 }

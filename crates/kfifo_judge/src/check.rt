@@ -1,12 +1,11 @@
 //! What `check` says of a record.
 ghost use Rattle.std.specs.Prelude.{◌≡◌, ◌≤◌, IfOk, MatchResult, option_map, string_bytes};
 ghost use Rattle.kfifo_model.specs.RecordTexts.{line};
-ghost use Rattle.kfifo_judge.specs.Check.{verdict_text, verdict_outcome, IsCheckAnswer, IsChecked, IsUnanswered};
-ghost use Rattle.kfifo_judge.specs.Check.{IsCheckFault};
+ghost use Rattle.kfifo_judge.specs.Check.{verdict_text, verdict_outcome, IsChecked, IsCheckFault};
 
 use crate::outcome::Outcome;
 use crate::record::{StreamFault, read_record};
-use kfifo_model::{History, Verdict, check_order, has_order};
+use kfifo_model::{Verdict, check_order, has_order};
 use std::alloc::{AllocError, Global};
 
 /// A line's text.
@@ -40,30 +39,6 @@ fn outcome_of(verdict: Verdict) -> Outcome
     }
 }
 
-/// The text and the outcome for a history.
-fn answer(
-    alloc: Global,
-    history: &History,
-    k: u32,
-    order: Option<&[usize]>,
-) -> Result<(String, Outcome), StreamFault>
-    requires { (1 ≤ k) × (k ≤ 64) }
-    ensures { let o = option_map (λ s. s.now) order.entry in
-        MatchResult result (λ a. IsCheckAnswer k o history.now (string_bytes a.0) a.1) (IsUnanswered o history.now) }
-{
-    match order {
-        Some(order) => {
-            let verdict = check_order(alloc, history, k, order)?;
-            Ok((verdict_line(alloc, verdict)?, outcome_of(verdict)))
-        }
-        None => match has_order(alloc, history, k) {
-            Ok(true) => Ok((line_of(alloc, "order")?, Outcome::Answered)),
-            Ok(false) => Ok((line_of(alloc, "no order")?, Outcome::Unordered)),
-            Err(fault) => Err(StreamFault::Search(fault)),
-        },
-    }
-}
-
 /// Returns whether the record that a text is has a legal order, or, if an order is given, whether that order is legal:
 /// as a line, with the outcome. k is 1 to 64: a dequeue may take any of the k oldest items.
 ///
@@ -84,6 +59,15 @@ pub fn check_text(
         MatchResult result (λ a. IsChecked k o bytes.now (string_bytes a.0) a.1) (IsCheckFault o bytes.now) }
 {
     let history = read_record(alloc, bytes)?;
-    let answered = answer(alloc, &history, k, order)?;
-    Ok(answered)
+    match order {
+        Some(order) => {
+            let verdict = check_order(alloc, &history, k, order)?;
+            Ok((verdict_line(alloc, verdict)?, outcome_of(verdict)))
+        }
+        None => match has_order(alloc, &history, k) {
+            Ok(true) => Ok((line_of(alloc, "order")?, Outcome::Answered)),
+            Ok(false) => Ok((line_of(alloc, "no order")?, Outcome::Unordered)),
+            Err(fault) => Err(StreamFault::Search(fault)),
+        },
+    }
 }

@@ -13,7 +13,7 @@ use crate::named::{NamedCall, named_call};
 use crate::outcome::Outcome;
 use crate::reasons::named_calls;
 use kfifo_model::{Effect, End, History, LoggedCall};
-use kfifo_verdict::{Bounds, Evidence, Judgement};
+use kfifo_verdict::{Bounds, Judgement};
 use serde_json::{Value, json};
 use std::alloc::{AllocError, Global};
 
@@ -90,23 +90,8 @@ fn named_values(
     Ok(Value::Array(values))
 }
 
-/// Evidence: its kind by number and name, what it says of the queue, and the calls that it names.
-fn evidence_value(
-    alloc: Global,
-    history: &History,
-    logged: &[LoggedCall],
-    found: &Evidence,
-) -> Result<Value, AllocError>
-    ensures { IfOk result (λ value. view value ≡ specs.evidence_value logged.now history.now found.now) }
-{
-    let said = headline(alloc, history, logged, found)?;
-    let (kind, name) = (kind_number(found), kind_name(found));
-    let numbers = named_calls(alloc, history, found)?;
-    let named = named_values(alloc, history, logged, numbers.as_slice())?;
-    json!(in alloc; {"headline": said, "kind": kind, "name": name, "named": named})
-}
-
-/// The evidence of a verdict, or null where it has none.
+/// The evidence of a verdict: its kind by number and name, what it says of the queue, and the calls that it names; or
+/// null where the verdict has none.
 fn evidence_in(
     alloc: Global,
     history: &History,
@@ -115,10 +100,14 @@ fn evidence_in(
 ) -> Result<Value, AllocError>
     ensures { IfOk result (λ value. view value ≡ specs.evidence_in logged.now history.now judgement.now) }
 {
-    match judgement {
-        Judgement::NoOrder(found) => evidence_value(alloc, history, logged, found),
-        Judgement::Legal(_) | Judgement::Undecided(_) => Ok(Value::Null),
-    }
+    let Judgement::NoOrder(found) = judgement else {
+        return Ok(Value::Null);
+    };
+    let said = headline(alloc, history, logged, found)?;
+    let (kind, name) = (kind_number(found), kind_name(found));
+    let numbers = named_calls(alloc, history, found)?;
+    let named = named_values(alloc, history, logged, numbers.as_slice())?;
+    json!(in alloc; {"headline": said, "kind": kind, "name": name, "named": named})
 }
 
 /// An array of numbers.
