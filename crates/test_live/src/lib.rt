@@ -3,12 +3,4 @@
 #![tactic(auto)]
 
 #[cfg(test)]
-mod dispatch;
-#[cfg(test)]
-mod live;
-#[cfg(test)]
-mod pages;
-#[cfg(test)]
-mod plain;
-#[cfg(test)]
-mod record;
+mod tests;

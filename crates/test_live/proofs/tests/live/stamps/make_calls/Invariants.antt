@@ -1,0 +1,5 @@
+use Rattle.kfifo_live.specs.Pass.{IsSamePass}
+use Rattle.test_live.proofs.tests.live.stamps.make_calls.Given as goal
+
+abbrev pub invariant-loop-number : goal.invariant-loop-number
+invariant-loop-number l = IsSamePass l.fn.pass.pass l.pass.pass
