@@ -37,7 +37,8 @@ Examples:
   kfifo draw --order 0,2,1 < record.json
                               with an order, for a plain queue";
 
-pub(crate) const DETAILS: &str = "\
+pub(crate) const DETAILS: &str = with_input_faults!(
+    "\
 FILE, or standard input where no file is named, has a record, as
 `kfifo check --help` says, or a log, as `kfifo import --help` says: a record
 where its first byte that is no white space is `[`. A record has at most 65536
@@ -91,14 +92,8 @@ and one that names its explanation:
                               or --lines
   kfifo: order fault          the value of --order, or its file, is no order or
                               cannot be read; the input is not read then
-  kfifo: input                the file or standard input cannot be read, or is a
-                              record of over 16777216 bytes
-  kfifo: no input             no byte came; in a pipe the command before has
-                              probably failed, and said why
-  kfifo: not json             the input is no JSON text, or is not UTF-8
-  kfifo: record fault <F>     record faults 1, 2 and 9, as `kfifo check --help`
-                              lists them
-  kfifo: record fault <F> at call <N>   record faults 3 to 8
+",
+    "  kfifo: record fault <F> at call <N>   record faults 3 to 8
   kfifo: csv fault at line <N>, record fault <F> at line <N>
                               faults of a log, as `kfifo import --help` lists
                               them
@@ -118,7 +113,8 @@ Examples:
   kfifo draw --order 0,2,1 < record.json
                               with an order, for a plain queue
 
-docs/JUDGE.md and docs/PROGRAM.md, where this program comes from, say more.";
+docs/JUDGE.md and docs/PROGRAM.md, where this program comes from, say more."
+);
 
 /// Adds the options `--text` and `--width`.
 fn with_style<'a>(alloc: Global, command: Command<'a>) -> Result<Command<'a>, AllocError>

@@ -17,7 +17,8 @@ Examples:
   kfifo least log.csv
   kfifo least < record.json";
 
-pub(crate) const DETAILS: &str = "\
+pub(crate) const DETAILS: &str = with_all_input_faults!(
+    "\
 FILE, or standard input where no file is named, has a record, as
 `kfifo check --help` says, or a log in CSV, as `kfifo import --help` says: a
 record begins with `[`. A record has at most 65536 calls and 16777216 bytes, a
@@ -35,21 +36,8 @@ or, where no k at all would do,
 
 Faults, each a line on standard error, followed by one that says what is wrong,
 and one that names its explanation:
-  kfifo: input                the file or standard input cannot be read, or is a
-                              record of over 16777216 bytes
-  kfifo: no input             no byte came; in a pipe the command before has
-                              probably failed, and said why
-  kfifo: not json             the input is no JSON text, or is not UTF-8
-  kfifo: record fault <F>     record faults 1, 2 and 9, as `kfifo check --help`
-                              lists them
-  kfifo: record fault <F> at call <N>   record faults 3 to 8 of a record
-  kfifo: record fault <F> at line <N>   the same of a log, as
-                                        `kfifo import --help` lists them
-  kfifo: csv fault at line <N>          the first line of a log lacks a field or
-                                        has one twice, or line N does not have
-                                        as many fields as it
-  kfifo: memory               an allocation failed
-
+",
+    "
 Exit status:
   0  the bounds were printed
   1  there was a fault of this list, or standard output could not be written
@@ -60,7 +48,8 @@ Examples:
   kfifo least log.csv
   kfifo least < record.json
 
-docs/JUDGE.md and docs/PROGRAM.md, where this program comes from, say more.";
+docs/JUDGE.md and docs/PROGRAM.md, where this program comes from, say more."
+);
 
 /// How the command is written, and its help.
 pub fn command<'a>(alloc: Global) -> Result<Command<'a>, AllocError>
