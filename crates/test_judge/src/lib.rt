@@ -1,18 +1,8 @@
 //! Tests of the public calls that judge, explain, draw and import records, in a crate of their own: tests beside the
-//! proofs would have every proof made once more.
+//! proofs would have every proof made once more. The readers and the writers that go on in pieces are public, for the
+//! rows of `test_judge_rows`.
 #![tactic(auto)]
 
+pub mod streams;
 #[cfg(test)]
-mod draw;
-#[cfg(test)]
-mod explain;
-#[cfg(test)]
-mod import;
-#[cfg(test)]
-mod judge;
-#[cfg(test)]
-mod plain;
-#[cfg(test)]
-mod streams;
-#[cfg(test)]
-mod verdict;
+mod tests;

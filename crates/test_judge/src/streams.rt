@@ -7,11 +7,11 @@ use std::io::{ErrorKind, Read, Write};
 
 /// Gives bytes a few at a time, and fails at one of its calls.
 #[derive(Drop)]
-pub(crate) struct Pieces<'a> {
-    pub(crate) bytes: &'a [u8],
-    pub(crate) step: usize,
-    pub(crate) fails_at: u64,
-    pub(crate) calls: u64,
+pub struct Pieces<'a> {
+    pub bytes: &'a [u8],
+    pub step: usize,
+    pub fails_at: u64,
+    pub calls: u64,
 }
 
 impl Read for Pieces<'_> {
@@ -29,12 +29,12 @@ impl Read for Pieces<'_> {
 
 /// Takes bytes a few at a time, and fails at one of its calls, or takes none there.
 #[derive(Drop)]
-pub(crate) struct Page {
-    pub(crate) taken: Vec<u8>,
+pub struct Page {
+    pub taken: Vec<u8>,
     step: usize,
     fails_at: u64,
     stalls_at: u64,
-    pub(crate) calls: u64,
+    pub calls: u64,
 }
 
 impl Write for Page {
@@ -56,18 +56,29 @@ impl Write for Page {
     }
 }
 
-/// A source of the text, in pieces of seven bytes, that fails at a call, 0 for never.
-pub(crate) fn source_of(text: &str, fails_at: u64) -> FromStd<Pieces<'_>> {
-    FromStd::new(Pieces {
+/// A source that gives bytes in pieces.
+pub type Input<'a> = FromStd<Pieces<'a>>;
+
+/// A sink that takes bytes in pieces.
+pub type Output = FromStd<Page>;
+
+/// The text in pieces of seven bytes, where reading fails at a call, 0 for never.
+pub fn pieces_of(text: &str, fails_at: u64) -> Pieces<'_> {
+    Pieces {
         bytes: text.as_bytes(),
         step: 7,
         fails_at,
         calls: 0,
-    })
+    }
+}
+
+/// A source of these pieces.
+pub fn source_of(text: &str, fails_at: u64) -> Input<'_> {
+    FromStd::new(pieces_of(text, fails_at))
 }
 
 /// A sink that takes three bytes at a time, and fails or stalls at a call, 0 for never.
-pub(crate) fn sink_with(alloc: Global, fails_at: u64, stalls_at: u64) -> FromStd<Page> {
+pub fn sink_with(alloc: Global, fails_at: u64, stalls_at: u64) -> Output {
     FromStd::new(Page {
         taken: Vec::new(alloc),
         step: 3,

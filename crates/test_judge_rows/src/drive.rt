@@ -32,12 +32,11 @@
 use crate::input::input_of;
 use crate::pictures::{add_picture, form_line};
 use crate::plain;
-use crate::streams::{Input, Output, Page, Pieces};
 use kfifo_import::{Line, Refusal};
-use kfifo_judge::FromStd;
 use kfifo_model::History;
 use serde_json::Value;
 use std::alloc::{AllocError, Global};
+use test_judge::streams::{Input, Output, pieces_of, sink_with, source_of};
 use test_rows::{flag, items, list, number, small, text};
 
 /// The most bytes of a piece in which a log comes.
@@ -148,13 +147,8 @@ fn add_stream(
     ask: &Value,
     lines: &mut Vec<String>,
 ) -> Result<(), AllocError> {
-    let mut source = FromStd::new(Pieces {
-        bytes: input.as_bytes(),
-    });
-    let mut sink = FromStd::new(Page {
-        taken: Vec::new(alloc),
-        calls: 0,
-    });
+    let mut source = source_of(input, 0);
+    let mut sink = sink_with(alloc, 0, 0);
     let ending = carried_out(alloc, &mut source, &mut sink, ask)?;
     add_page(alloc, &sink, source.failed, lines)?;
     Ok(lines.push(ending)?)
@@ -182,15 +176,10 @@ fn add_explained(
 /// The line of a verdict on a history.
 fn verdict_line(alloc: Global, history: &History, ask: &Value) -> Result<String, AllocError> {
     let name = text(ask, "ask");
-    let (k, tries) = (k_of(ask), tries_of(ask));
-    if name == "evidence" {
-        plain::evidence(alloc, history, k)
-    } else if name == "witness" {
-        plain::witness(alloc, history, k, tries)
-    } else if name == "verdict" {
-        plain::verdict(alloc, history, k, tries)
+    if name == "bounds" {
+        plain::bounds(alloc, history, tries_of(ask))
     } else {
-        plain::bounds(alloc, history, tries)
+        plain::verdict(alloc, history, name, k_of(ask), tries_of(ask))
     }
 }
 
@@ -242,10 +231,7 @@ fn are_same(first: &Result<Vec<Line>, Refusal>, second: &Result<Vec<Line>, Refus
 /// How many lines a log has, or its fault, where that is the same in pieces of any size; else a size of pieces in which
 /// it is not.
 fn count_line(alloc: Global, input: &str) -> Result<String, AllocError> {
-    let file = Pieces {
-        bytes: input.as_bytes(),
-    };
-    let Ok(bytes) = plain::bytes_of(alloc, file) else {
+    let Ok(bytes) = plain::bytes_of(alloc, pieces_of(input, 0)) else {
         return "not read".to_string(alloc);
     };
     let found = plain::lines_at_once(alloc, bytes.as_slice());

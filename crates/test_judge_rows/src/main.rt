@@ -7,7 +7,6 @@ mod form;
 mod input;
 mod pictures;
 mod plain;
-mod streams;
 
 use serde_json::Value;
 use std::alloc::{AllocError, Global};

@@ -79,6 +79,17 @@ fn fault_line(alloc: Global, fault: DrawFault) -> Result<String, AllocError> {
     format!(in alloc; "{fault:?}, fault {number}")
 }
 
+/// The style of the picture that a question asks for.
+fn style_of(ask: &Value) -> Style {
+    if text(ask, "ask") == "draw" {
+        Style::Text
+    } else {
+        Style::Svg {
+            width: DEFAULT_WIDTH,
+        }
+    }
+}
+
 /// Adds the lines of a picture, or one on its form.
 pub(crate) fn add_picture(
     alloc: Global,
@@ -86,16 +97,11 @@ pub(crate) fn add_picture(
     ask: &Value,
     lines: &mut Vec<String>,
 ) -> Result<(), AllocError> {
-    let name = text(ask, "ask");
-    let style = if name == "draw" {
-        Style::Text
-    } else {
-        Style::Svg {
-            width: DEFAULT_WIDTH,
-        }
-    };
-    match picture(alloc, history, style, ask) {
-        Ok(picture) if name == "form" => Ok(lines.push(form_line(alloc, picture.as_str())?)?),
+    match picture(alloc, history, style_of(ask), ask) {
+        Ok(picture) if text(ask, "ask") == "form" => Ok(lines.push(form_line(
+            alloc,
+            picture.as_str(),
+        )?)?),
         Ok(picture) => add_written(alloc, picture.as_str(), lines),
         Err(fault) => Ok(lines.push(fault_line(alloc, fault)?)?),
     }

@@ -1,7 +1,6 @@
 //! The calls that the rows ask for, with nothing said of what they return. Where a call wants k to be 1 to 64, another
 //! k gives a line of its own.
 
-use crate::streams::{Input, Output, Pieces};
 use kfifo_draw::{DrawFault, Drawing, Marking, Part, Style};
 use kfifo_import::{Line, LogReader, MAX_LOG_CALLS, Refusal, lines_of};
 use kfifo_judge::{FromStd, Outcome, ReadFault, StreamFault, read_all};
@@ -9,6 +8,7 @@ use kfifo_model::History;
 use serde_json::Value;
 use std::alloc::{AllocError, Global};
 use std::fmt::Debug;
+use test_judge::streams::{Input, Output, Pieces};
 
 /// A value, as its type prints it.
 pub(crate) fn told<T: Debug>(alloc: Global, value: &T) -> Result<String, AllocError> {
@@ -127,38 +127,27 @@ pub(crate) fn lines_in_pieces(
     reader.finish()
 }
 
-pub(crate) fn evidence(alloc: Global, history: &History, k: u32) -> Result<String, AllocError> {
-    if k < 1 || k > 64 {
-        return no_such_k(alloc, k);
-    }
-    let found = kfifo_verdict::evidence(alloc, history, k)?;
-    told(alloc, &found)
-}
-
-pub(crate) fn witness(
-    alloc: Global,
-    history: &History,
-    k: u32,
-    tries: u64,
-) -> Result<String, AllocError> {
-    if k < 1 || k > 64 {
-        return no_such_k(alloc, k);
-    }
-    let found = kfifo_verdict::witness(alloc, history, k, tries)?;
-    told(alloc, &found)
-}
-
+/// What `evidence`, `witness` or else `judge` returns.
 pub(crate) fn verdict(
     alloc: Global,
     history: &History,
+    name: &str,
     k: u32,
     tries: u64,
 ) -> Result<String, AllocError> {
     if k < 1 || k > 64 {
         return no_such_k(alloc, k);
     }
-    let found = kfifo_verdict::judge(alloc, history, k, tries)?;
-    told(alloc, &found)
+    if name == "evidence" {
+        let found = kfifo_verdict::evidence(alloc, history, k)?;
+        told(alloc, &found)
+    } else if name == "witness" {
+        let found = kfifo_verdict::witness(alloc, history, k, tries)?;
+        told(alloc, &found)
+    } else {
+        let found = kfifo_verdict::judge(alloc, history, k, tries)?;
+        told(alloc, &found)
+    }
 }
 
 pub(crate) fn bounds(alloc: Global, history: &History, tries: u64) -> Result<String, AllocError> {

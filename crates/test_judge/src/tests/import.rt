@@ -1,5 +1,5 @@
 //! A log where memory is refused, one of a queue that returned an item which no call can put, and logs in pieces.
-use crate::plain::{import_text, read_log, read_log_to_judge};
+use super::plain::{import_text, read_log, read_log_to_judge};
 use crate::streams::source_of;
 use kfifo_import::{
     ImportFault, Line, Log, LogReader, MAX_LOG_CALLS, Refusal, lines_of, log_to_judge,

@@ -1,22 +1,13 @@
 //! What no contract says: that the calls find what they must, over all short histories and over long ones.
 ghost use Rattle.std.specs.Prelude.{◌≤◌};
 
-use crate::plain::{evidence, has_order, history_of, judge, witness};
+use super::plain::{evidence, has_order, history_of, judge, witness};
+use super::{begun, ended};
 use kfifo_model::{Answer, Call, End, History, Op, RecordFault};
 use kfifo_verdict::Judgement;
 use std::alloc::{AllocError, Global};
 use std::test::Fail;
 use std::time::Instant;
-
-/// A finished call.
-fn ended(thread: u32, op: Op, first: u64, last: u64, answer: Answer) -> Call {
-    Call {
-        thread,
-        op,
-        first,
-        end: Some(End { last, answer }),
-    }
-}
 
 /// A finished enqueue that returned Done.
 fn put(thread: u32, item: u32, first: u64, last: u64) -> Call {
@@ -43,12 +34,7 @@ fn shaped(shape: u64, n: u32, first: u64) -> Call {
         2 => got(n, 1, first, last),
         3 => got(n, 2, first, last),
         4 => empty(n, first, last),
-        _ => Call {
-            thread: n,
-            op: Op::Enqueue(1 + (length % 2) as u32),
-            first,
-            end: None,
-        },
+        _ => begun(n, Op::Enqueue(1 + (length % 2) as u32), first),
     }
 }
 
@@ -218,12 +204,8 @@ impl Simulation {
         };
         let first = self.tick();
         let n = self.calls.len();
-        self.calls.push(Call {
-            thread: u32::try_from(thread).unwrap_or(0),
-            op,
-            first,
-            end: None,
-        })?;
+        self.calls
+            .push(begun(u32::try_from(thread).unwrap_or(0), op, first))?;
         if thread < self.current.len() {
             self.current[thread] = Some((n, None));
         }
@@ -443,7 +425,7 @@ fn longest_history(rt: HostRuntime) -> Result<(), Fail> {
         let searched = start.elapsed(&rt)?;
         assert!(rt; found.is_none());
         let start = Instant::now(&rt)?;
-        let order = witness(rt.alloc(), &history, k, 1_000)?;
+        let order = witness(rt.alloc(), &history, k)?;
         let walked = start.elapsed(&rt)?;
         assert!(rt; order.is_some(), "k {k}");
         eprintln!(rt; "k {k}: evidence {searched:?}, witness {walked:?}")?;

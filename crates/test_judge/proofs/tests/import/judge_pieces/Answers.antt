@@ -1,6 +1,6 @@
 -- The reader has read both pieces.
 use Rattle.std.proofs.Common.{◌++◌, [], ◌∙◌}
-use Rattle.test_judge.proofs.import.judge_pieces.Goals as goal
+use Rattle.test_judge.proofs.tests.import.judge_pieces.Goals as goal
 
 pub log_to_judge-requires-clause-reading : goal.log_to_judge-requires-clause-reading
 log_to_judge-requires-clause-reading c =

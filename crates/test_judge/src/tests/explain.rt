@@ -1,5 +1,5 @@
 //! What a verdict says where memory is refused.
-use crate::plain::{judge_record, least_record};
+use super::plain::{judge_record, least_record};
 use kfifo_judge::Outcome;
 use std::test::Fail;
 

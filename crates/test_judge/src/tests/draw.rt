@@ -1,42 +1,23 @@
 //! Where the bars of pictures stand, and a picture where memory is refused.
-use crate::plain::{draw, history_of};
+use super::plain::{draw, history_of};
+use super::{begun, ended};
 use kfifo_draw::{DrawFault, Style};
-use kfifo_model::{Answer, Call, End, Op};
+use kfifo_model::{Answer, Call, Op};
 use std::alloc::Global;
 use std::test::Fail;
 
 /// A style in which a band has room for all calls of a test.
 const WIDE: Style = Style::Svg { width: 4_000 };
 
-/// A finished call.
-fn done(thread: u32, op: Op, first: u64, last: u64, answer: Answer) -> Call {
-    Call {
-        thread,
-        op,
-        first,
-        end: Some(End { last, answer }),
-    }
-}
-
-/// An unfinished call.
-fn begun(thread: u32, op: Op, first: u64) -> Call {
-    Call {
-        thread,
-        op,
-        first,
-        end: None,
-    }
-}
-
 /// A call of each kind by three threads; one ends at the step at which another begins.
 fn all_kinds() -> [Call; 8] {
     [
-        done(0, Op::Enqueue(1), 0, 3, Answer::Done),
-        done(11, Op::Dequeue, 1, 20, Answer::Empty),
-        done(0, Op::Enqueue(2), 4, 30, Answer::Done),
-        done(3, Op::Dequeue, 20, 40, Answer::Got(1)),
-        done(11, Op::Enqueue(16_777_215), 25, 45, Answer::Full),
-        done(0, Op::Dequeue, 1_000_000, 1_000_000, Answer::Worn),
+        ended(0, Op::Enqueue(1), 0, 3, Answer::Done),
+        ended(11, Op::Dequeue, 1, 20, Answer::Empty),
+        ended(0, Op::Enqueue(2), 4, 30, Answer::Done),
+        ended(3, Op::Dequeue, 20, 40, Answer::Got(1)),
+        ended(11, Op::Enqueue(16_777_215), 25, 45, Answer::Full),
+        ended(0, Op::Dequeue, 1_000_000, 1_000_000, Answer::Worn),
         begun(3, Op::Dequeue, 1_000_001),
         begun(11, Op::Enqueue(3), 1_000_002),
     ]
@@ -121,7 +102,7 @@ fn bars_stand_as_calls_precede(rt: HostRuntime) -> Result<(), Fail> {
                 .saturating_add(1 + (state >> 40) % 2);
             let last = first.saturating_add((state >> 50) % 9);
             free[thread] = last;
-            calls.push(done(
+            calls.push(ended(
                 thread as u32,
                 Op::Enqueue(number + 1),
                 first,

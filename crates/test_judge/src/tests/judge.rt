@@ -1,7 +1,7 @@
 //! What the streams of records return when reading, writing or an allocation fails, and for inputs that are too long.
-use crate::plain::{check_stream, measure_stream};
-use crate::streams::{Pieces, sink_with, source_of};
-use kfifo_judge::{FromStd, StreamFault};
+use super::plain::measure_stream;
+use crate::streams::{Input, Pieces, sink_with, source_of};
+use kfifo_judge::{FromStd, StreamFault, check_stream};
 use kfifo_model::{RecordFault, SearchFault};
 use std::alloc::Global;
 use std::test::Fail;
@@ -49,7 +49,7 @@ fn blanks(alloc: Global, count: usize) -> Result<Vec<u8>, Fail> {
 }
 
 /// A source of so many spaces, in pieces of 4,096 bytes.
-fn long_source(blanks: &[u8]) -> FromStd<Pieces<'_>> {
+fn long_source(blanks: &[u8]) -> Input<'_> {
     FromStd::new(Pieces {
         bytes: blanks,
         step: 4_096,
