@@ -101,35 +101,25 @@ fn read_calls<S: Source, P: Progress>(
         (S.failed source.new) failure.fault) }
     ensures reads { FailsWell result (S.failed source.old) (S.failed source.new) }
 {
-    let calls = take_calls(alloc, source, name, progress)?;
-    progress.begun(Stage::Judging(calls.history.calls().len()));
-    Ok(calls)
-}
-
-/// The calls of a source with this name, as `read_calls` reads them.
-fn take_calls<S: Source, P: Progress>(
-    alloc: Global,
-    source: &mut S,
-    name: &str,
-    progress: &mut P,
-) -> Result<Calls, Failure>
-    ensures ok { IfOk result (λ calls. HasCalls (S.remaining source.old) calls.history
-        (option_map (λ logged. logged.items) calls.logged)) }
-    ensures err { IfErr result (λ failure. IsCallsRefusal (S.remaining source.old) (S.failed source.old)
-        (S.failed source.new) failure.fault) }
-    ensures reads { FailsWell result (S.failed source.old) (S.failed source.new) }
-{
     match begin_reading(alloc, source) {
         Ok(Begun::Whole(bytes)) => {
             let calls = parse_calls(alloc, bytes.as_slice())?;
-            Ok(calls)
+            Ok(to_judge(calls, progress))
         }
         Ok(Begun::Log(bytes)) => {
             let calls = read_log(alloc, source, name, bytes.as_slice(), progress)?;
-            Ok(calls)
+            Ok(to_judge(calls, progress))
         }
         Err(fault) => Err(source_failure(alloc, source, name, fault, LONG_RECORD)),
     }
+}
+
+/// These calls, with the progress told that they are judged now.
+fn to_judge<P: Progress>(calls: Calls, progress: &mut P) -> Calls
+    ensures { result ≡ calls }
+{
+    progress.begun(Stage::Judging(calls.history.calls().len()));
+    calls
 }
 
 /// The calls of an input of these bytes.

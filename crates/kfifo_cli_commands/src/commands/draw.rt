@@ -154,7 +154,7 @@ fn picture_of_evidence(
     let Some(found) = found else {
         let none: Vec<usize> = Vec::new(alloc);
         let part = part_of(cut, None);
-        return match marked(alloc, history, logged, k, style, part, none.as_slice(), why) {
+        return match marked(alloc, history, style, part, none.as_slice(), why, k, logged) {
             Ok(text) => Ok(text),
             Err(fault) => Err(fault_without_evidence(fault, cut)),
         };
@@ -164,12 +164,12 @@ fn picture_of_evidence(
     let text = marked(
         alloc,
         history,
-        logged,
-        k,
         style,
         part,
         named.as_slice(),
         why,
+        k,
+        logged,
     )?;
     Ok(text)
 }
@@ -194,12 +194,12 @@ fn fault_without_evidence(fault: DrawFault, cut: Cut) -> Fault
 fn marked<'x>(
     alloc: Global,
     history: &History,
-    logged: &'x [LoggedCall],
-    k: u32,
     style: Style,
     part: Part<'x>,
     named: &'x [usize],
     reason: &'x str,
+    k: u32,
+    logged: &'x [LoggedCall],
 ) -> Result<String, DrawFault>
     requires { (1 ≤ k) × (k ≤ 64) }
     ensures { MatchResult result (λ _. AreFew (IsInPart history.now logged.now part.entry) (length history.now))
@@ -207,15 +207,6 @@ fn marked<'x>(
         → AreMany (IsInPart history.now logged.now part.entry) (length history.now)) }
 {
     let marking = Marking::Calls(named, reason);
-    draw(
-        alloc,
-        history,
-        &Drawing {
-            style,
-            part,
-            marking,
-            k,
-            logged,
-        },
-    )
+    let drawing = Drawing::new(style, part, marking, k, logged);
+    draw(alloc, history, &drawing)
 }

@@ -37,7 +37,7 @@ fn report_of(alloc: Global, shape: Shape, calls: &[Begin]) -> Result<String, Fau
     let (queue, mut pass) = open(alloc, shape)?;
     let mut text = String::new(alloc);
     make_calls(&queue, &mut pass, calls, &mut text)?;
-    push_words(&queue, &mut pass, &mut text)?;
+    push_words(&mut text, &queue, &mut pass)?;
     Ok(text)
 }
 
@@ -100,7 +100,7 @@ fn make_call(
 }
 
 /// Adds the lines of the ends word and of each slot.
-fn push_words(queue: &Queue, pass: &mut Pass, text: &mut String) -> Result<(), AllocError>
+fn push_words(text: &mut String, queue: &Queue, pass: &mut Pass) -> Result<(), AllocError>
     requires { IsAlone queue.now pass.old }
     ensures same { pass.new ≡ pass.old }
     ensures lines { OnOk result ((world : World)
@@ -110,17 +110,17 @@ fn push_words(queue: &Queue, pass: &mut Pass, text: &mut String) -> Result<(), A
     let shape = queue.shape();
     push_ends(text, Ends::of_bits(load(queue, pass, 0)))?;
     for segment in 0..shape.n() {
-        push_slots(queue, pass, segment, text)?;
+        push_slots(text, queue, pass, segment)?;
     }
     Ok(())
 }
 
 /// Adds the lines of the slots of a segment.
 fn push_slots(
+    text: &mut String,
     queue: &Queue,
     pass: &mut Pass,
     segment: u32,
-    text: &mut String,
 ) -> Result<(), AllocError>
     requires alone { IsAlone queue.now pass.old }
     requires segment { segment < queue.now.opened.shape.n }

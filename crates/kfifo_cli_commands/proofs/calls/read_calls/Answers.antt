@@ -1,6 +1,6 @@
 use Rattle.std.proofs.Common.{◌≡◌, inl, inr, rules}
 use Rattle.kfifo_cli_commands.specs.Inputs.{IsCallsInput, IsCallsRefusal, IsNoCalls}
-use Rattle.kfifo_cli_commands.proofs.calls.take_calls.Goals as goal
+use Rattle.kfifo_cli_commands.proofs.calls.read_calls.Goals as goal
 
 pub returns-in_err-calls-in-Ok-Whole-clause-err : goal.returns-in_err-calls-in-Ok-Whole-clause-err
 returns-in_err-calls-in-Ok-Whole-clause-err g c =
