@@ -7,8 +7,8 @@ use Rattle.kfifo_live.specs.Pass.{OpenQueue}
 use Rattle.kfifo_live.specs.Tokens.{new_token_passes}
 use Rattle.kfifo_pool.specs.Pooled.{Pooled, new_handle, new_handles}
 use Rattle.kfifo_renewing.specs.declared.change.Change.{Change}
-use Rattle.kfifo_renewing.specs.Renewing.{HeldIn, IsNew, IsUntouched, LeavesGone}
-use Rattle.kfifo_renewing.proofs.Histories.{gone-later, made-later}
+use Rattle.kfifo_renewing.specs.Renewing.{HasLeft, HeldIn, IsNew, IsUntouched, LeavesGone}
+use Rattle.kfifo_renewing.proofs.Histories.{gone-later, made-later, prefix-trans}
 use Rattle.kfifo_renewing.proofs.Parts.{all-next}
 
 module _ {T : Type 0} where
@@ -16,21 +16,34 @@ module _ {T : Type 0} where
   leaves-refl log [] = refl
   leaves-refl log (h ∷ hs) = inl (hs, refl, leaves-refl log hs)
 
+  pub left-later : (xs ys : List Change) (h : HeldIn T) → IsPrefix xs ys → HasLeft xs h → HasLeft ys h
+  left-later xs ys h p l = record {
+    before = l.before;
+    earlier = prefix-trans l.before xs ys l.earlier p;
+    all = l.all;
+    table = l.table;
+    opened = l.opened;
+    left = l.left;
+    ends = l.ends;
+    sealed = l.sealed;
+    promise = l.promise;
+  }
+
   pub leaves-later : (xs ys : List Change) (hs kept : List (HeldIn T)) → IsPrefix xs ys → LeavesGone xs hs kept
       → LeavesGone ys hs kept
   leaves-later xs ys [] kept p none = none
   leaves-later xs ys (h ∷ hs) kept p (inl (rest, is, l)) = inl (rest, is, leaves-later xs ys hs rest p l)
-  leaves-later xs ys (h ∷ hs) kept p (inr (left, free, l)) =
-      inr (gone-later xs ys h.number p left, free, leaves-later xs ys hs kept p l)
+  leaves-later xs ys (h ∷ hs) kept p (inr (gone, free, left, l)) =
+      inr (gone-later xs ys h.number p gone, free, left-later xs ys h p left, leaves-later xs ys hs kept p l)
 
   pub leaves-trans : (log : List Change) (a b c : List (HeldIn T)) → LeavesGone log a b → LeavesGone log b c
       → LeavesGone log a c
   leaves-trans log [] b c p q = subst (λ l. LeavesGone log l c) p q
   leaves-trans log (h ∷ a) b c (inl (rest, is, p)) q = ⊎_elim
       (λ keeps. inl (keeps.0, keeps.1, leaves-trans log a rest keeps.0 p keeps.2))
-      (λ left. inr (left.0, left.1, leaves-trans log a rest c p left.2))
+      (λ left. inr (left.0, left.1, left.2, leaves-trans log a rest c p left.3))
       (subst (λ l. LeavesGone log l c) is q)
-  leaves-trans log (h ∷ a) b c (inr (left, free, p)) q = inr (left, free, leaves-trans log a b c p q)
+  leaves-trans log (h ∷ a) b c (inr (gone, free, left, p)) q = inr (gone, free, left, leaves-trans log a b c p q)
 
   -- those of a list and of another one behind it
   pub leaves-split : (log : List Change) (a b kept : List (HeldIn T)) → LeavesGone log (a ++ b) kept
@@ -39,16 +52,16 @@ module _ {T : Type 0} where
   leaves-split log (h ∷ a) b kept (inl (rest, is, p)) =
       let s = leaves-split log a b rest p in
       (h ∷ s.0, s.1, is ∙ ap (λ l. h ∷ l) s.2, inl (s.0, refl, s.3), s.4)
-  leaves-split log (h ∷ a) b kept (inr (left, free, p)) =
+  leaves-split log (h ∷ a) b kept (inr (gone, free, left, p)) =
       let s = leaves-split log a b kept p in
-      (s.0, s.1, s.2, inr (left, free, s.3), s.4)
+      (s.0, s.1, s.2, inr (gone, free, left, s.3), s.4)
 
   pub leaves-append : (log : List Change) (a b x y : List (HeldIn T)) → LeavesGone log a b → LeavesGone log x y
       → LeavesGone log (a ++ x) (b ++ y)
   leaves-append log [] b x y p q = subst (λ l. LeavesGone log x (l ++ y)) (sym p) q
   leaves-append log (h ∷ a) b x y (inl (rest, is, p)) q =
       inl (rest ++ y, ap (λ l. l ++ y) is, leaves-append log a rest x y p q)
-  leaves-append log (h ∷ a) b x y (inr (left, free, p)) q = inr (left, free, leaves-append log a b x y p q)
+  leaves-append log (h ∷ a) b x y (inr (gone, free, left, p)) q = inr (gone, free, left, leaves-append log a b x y p q)
 
   pub all-kept : (P : HeldIn T → Type 0) (log : List Change) (hs kept : List (HeldIn T)) → LeavesGone log hs kept
       → All P hs → All P kept
@@ -56,7 +69,7 @@ module _ {T : Type 0} where
   all-kept P log (h ∷ hs) kept (inl (rest, is, l)) all =
       let next = all-next P h hs (h ∷ hs) refl all in
       subst (All P) (sym is) (All-cons P h rest next.0 (all-kept P log hs rest l next.1))
-  all-kept P log (h ∷ hs) kept (inr (left, free, l)) all =
+  all-kept P log (h ∷ hs) kept (inr (gone, free, left, l)) all =
       all-kept P log hs kept l (all-next P h hs (h ∷ hs) refl all).1
 
   -- a new generation is new after an earlier one too, and as more of the history is seen

@@ -88,7 +88,7 @@ leaves-goes v log p s n i g a labels nexts all inside few pre over sealed h true
     (λ m was. refl) (there-same g labels nexts log e (λ m j is. absurd cc) h)
     (λ j in-it. label-written g labels nexts log e i w all (λ m k apart is. absurd cc) h here j in-it (j == i) refl)
     (λ t is. ⊎_elim (h.gone t) (λ last. subst (λ k. k < newest_of log) (sym (gone-number t s last ∙ sealed.number))
-    over) (contains-more log e (C.Gone t) is))))
+    over) (contains-more log e (C.Gone t) is)) (λ m. refl)))
     (λ m j number at is. subst (IsGone (log ++ e ∷ [])) (let number-is : n ≡ m = omega (arith, number) in number-is)
     gone)
 leaves-goes v log p s n i g a labels nexts all inside few pre over sealed h false found =

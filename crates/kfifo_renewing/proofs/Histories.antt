@@ -1,6 +1,8 @@
 -- Histories: what holds of one holds of each longer one.
-use Rattle.std.proofs.Common.{◌≡◌, ◌⊎◌, ◌<◌, ◌≤◌, ⊎_elim, ℕ, zero, suc, List, [], ◌∷◌, ◌++◌, length}
-use Rattle.std.proofs.Common.{Some, slice_get, refl, sym, ap, ◌∙◌, subst, arith, inl, inr, append_assoc}
+use Rattle.std.proofs.Common.{◌≡◌, ◌⊎◌, ◌<◌, ◌≤◌, ◌==◌, ⊎_elim, ℕ, zero, suc, Bool, true, false, List, [], ◌∷◌, ◌++◌}
+use Rattle.std.proofs.Common.{length}
+use Rattle.std.proofs.Common.{Some, slice_get, refl, sym, ap, ◌∙◌, subst, arith, inl, inr, append_assoc, length-append}
+use Rattle.std.specs.Prelude.{if◌then◌else◌}
 use Rattle.std.proofs.lemmas.List.{append-nil}
 use Rattle.std.proofs.lemmas.List.Elements.{Contains-append_cases, Contains-append_left}
 use Rattle.std.specs.List.{Contains}
@@ -8,7 +10,8 @@ use Rattle.atomic_table.specs.Seated.{TableId}
 use mathlib.Core.List.{IsPrefix}
 use Rattle.kfifo_renewing.specs.declared.change.Change.{Change}
 use Rattle.kfifo_renewing.specs.declared.change.Change.TheVariants as C
-use Rattle.kfifo_renewing.specs.History.{HasRisen, IsGone, IsMade, WasNewest, made, making_of, newest_after}
+use Rattle.kfifo_renewing.specs.declared.change.Sight.{Sight}
+use Rattle.kfifo_renewing.specs.History.{HasRisen, IsGone, IsMade, WasNewest, left_of, made, making_of, newest_after}
 use Rattle.kfifo_renewing.specs.History.{newest_of}
 
 pub prefix-trans : {A : Type 0} (xs ys zs : List A) → IsPrefix xs ys → IsPrefix ys zs → IsPrefix xs zs
@@ -38,6 +41,10 @@ prefix-last (b ∷ before) after (y ∷ xs) x is =
     (λ less. inr (less.0, cc))
     (prefix-last before after xs x tail)
 
+none-of : {A : Type 0} (xs : List A) → length xs ≡ 0 → xs ≡ []
+none-of [] none = refl
+none-of (x ∷ xs) none = absurd (omega (arith, none))
+
 pub made-append : (xs ys : List Change) → made (xs ++ ys) ≡ made xs ++ made ys
 made-append [] ys = refl
 made-append (C.Made q ∷ xs) ys = ap (λ l. q.table ∷ l) (made-append xs ys)
@@ -45,6 +52,7 @@ made-append (C.Newest n ∷ xs) ys = made-append xs ys
 made-append (C.Look t ∷ xs) ys = made-append xs ys
 made-append (C.Placed n i ∷ xs) ys = made-append xs ys
 made-append (C.Gone s ∷ xs) ys = made-append xs ys
+made-append (C.Left n t ∷ xs) ys = made-append xs ys
 
 pub newest-append : (n : ℕ) (xs ys : List Change) → newest_after n (xs ++ ys) ≡ newest_after (newest_after n xs) ys
 newest-append n [] ys = refl
@@ -53,6 +61,32 @@ newest-append n (C.Newest m ∷ xs) ys = newest-append m xs ys
 newest-append n (C.Look t ∷ xs) ys = newest-append n xs ys
 newest-append n (C.Placed m i ∷ xs) ys = newest-append n xs ys
 newest-append n (C.Gone s ∷ xs) ys = newest-append n xs ys
+newest-append n (C.Left m t ∷ xs) ys = newest-append n xs ys
+
+left-cond : (b : Bool) (t : Sight) (xs ys zs : List Sight) → xs ≡ ys ++ zs
+    → (if b then t ∷ xs else xs) ≡ (if b then t ∷ ys else ys) ++ zs
+left-cond true t xs ys zs is = ap (λ l. t ∷ l) is
+left-cond false t xs ys zs is = is
+
+pub left-append : (n : ℕ) (xs ys : List Change) → left_of n (xs ++ ys) ≡ left_of n xs ++ left_of n ys
+left-append n [] ys = refl
+left-append n (C.Made q ∷ xs) ys = left-append n xs ys
+left-append n (C.Newest m ∷ xs) ys = left-append n xs ys
+left-append n (C.Look t ∷ xs) ys = left-append n xs ys
+left-append n (C.Placed m i ∷ xs) ys = left-append n xs ys
+left-append n (C.Gone s ∷ xs) ys = left-append n xs ys
+left-append n (C.Left m t ∷ xs) ys =
+    left-cond (m == n) t (left_of n (xs ++ ys)) (left_of n xs) (left_of n ys) (left-append n xs ys)
+
+-- of two beginnings with as many passes that left, the longer one has no other
+pub left-as-many : (n : ℕ) (xs ys : List Change) → IsPrefix xs ys → length (left_of n xs) ≡ length (left_of n ys)
+    → left_of n ys ≡ left_of n xs
+left-as-many n xs ys p many =
+    let whole : left_of n ys ≡ left_of n xs ++ left_of n p.0 = ap (left_of n) (sym p.1) ∙ left-append n xs p.0 in
+    let none : left_of n p.0 ≡ [] =
+    none-of (left_of n p.0) (let l = ap length whole in let m = length-append (left_of n xs) (left_of n p.0) in
+    omega (arith, l, m, many)) in
+    whole ∙ ap (λ l. left_of n xs ++ l) none ∙ append-nil (left_of n xs)
 
 -- what was made stays so
 pub made-later : (xs ys : List Change) (n : ℕ) (t : TableId) → IsPrefix xs ys → IsMade xs n t → IsMade ys n t

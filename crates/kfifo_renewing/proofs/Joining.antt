@@ -2,8 +2,8 @@
 use Rattle.std.proofs.Common.{◌≡◌, ◌<◌, ◌≤◌, ◌+◌, ◌⊎◌, ⊎_elim, ℕ, zero, suc, List, [], ◌∷◌, ◌++◌, All, take, drop}
 use Rattle.std.proofs.Common.{length, slice_get, slice_index_or, ◌≢◌, ◌==◌, Bool, true, false, MatchBool, None, Option}
 use Rattle.std.proofs.Common.{Some, arith, inl, inr, refl, sym, ap, ◌∙◌, subst}
-use Rattle.std.specs.List.{Contains}
-use Rattle.std.specs.Prelude.{if◌then◌else◌}
+use Rattle.std.specs.List.{Contains, insert, remove}
+use Rattle.std.specs.Prelude.{IfSome, if◌then◌else◌}
 use Rattle.std.specs.Result.{IsOk, is_ok}
 use Rattle.core.specs.declared.result.Result.{Result}
 use Rattle.std.proofs.lemmas.List.Elements.{All-append, All-cons, All-nil, All-push, Contains-append_left}
@@ -20,14 +20,16 @@ use Rattle.kfifo_renewing.specs.declared.change.Change.{Change}
 use Rattle.kfifo_renewing.specs.declared.change.Change.TheVariants as C
 use Rattle.kfifo_renewing.specs.History.{FindsThere, HasRisen, IsGone, IsKept, IsMade, IsPlaced, WasNewest}
 use Rattle.kfifo_renewing.specs.History.{place_count}
-use Rattle.kfifo_renewing.specs.Joining.{AreAmong, AreSameParts, HasJoined, HasNumber, HasOlder, IsPart, IsSamePart}
+use Rattle.kfifo_renewing.specs.Joining.{AreAmong, AreSameParts, HasJoined, HasNumber, HasOlder, HasSealedAt}
+use Rattle.kfifo_renewing.specs.Joining.{HasSeenSealed, IsPart, IsPartOf, IsSamePart, IsSealedPart}
 use Rattle.kfifo_renewing.specs.Joining.{PartView, held_by, held_in}
-use Rattle.kfifo_renewing.specs.Renewing.{Generations, HasAll, HeldIn, IsOpenedAs, LeavesGone, Numbered}
+use Rattle.kfifo_renewing.specs.Renewing.{Generations, HasAll, HasLeft, HeldIn, LeavesGone, Numbered}
 use Rattle.kfifo_renewing.proofs.Histories.{contains-later, gone-later, made-later, was-below, was-later}
 use Rattle.kfifo_renewing.proofs.Histories.{risen-was, was_first}
 use Rattle.kfifo_renewing.proofs.Keeping.{kept-placed}
 use Rattle.kfifo_renewing.proofs.Departures.{leaves-refl}
-use Rattle.kfifo_renewing.proofs.Parts.{all-next, all-without, contains-cons, contains-head, contains-map, contains-without}
+use Rattle.kfifo_renewing.proofs.Parts.{all-next, all-without, contains-cons, contains-head, contains-map}
+use Rattle.kfifo_renewing.proofs.Parts.{contains-without}
 
 -- the element at an index
 pub get-at : {A : Type 0} (xs : List A) (i : ℕ) (x d : A) → i < length xs → x ≡ slice_index_or xs i d
@@ -67,15 +69,19 @@ module _ {T : Type 0} where
       (λ has. inr has)
       (older n (was-below xs ys n number more risen newest below was) below)
 
+  -- the book of the history by another name
+  of-book : (o : Opening) (b c : Book) (ps : List (PartView T)) → c ≡ b → All (IsPartOf o b) ps → All (IsPartOf o c) ps
+  of-book o b c ps same all = λ i d inside. ((all i d inside).0, (all i d inside).1 ∙ sym same)
+
   -- a handle that has joined the first generation alone
   pub joined-first : (o : Opening) (shared book : Book) (log : List Change) (g : Numbered) (h : PartView T)
-      → IsOpenedAs o h.handle
+      → IsPartOf o book h
       → book ≡ shared → g.book ≡ book → IsPassOf g.queue h.handle.held.pass.pass → g.number ≡ 0 → h.number ≡ 0
       → IsPart log h → HasRisen log
       → HasJoined o shared book log g h []
   joined-first o shared book log g h opened same books of first number part risen = record {
     newest_opened = opened;
-    older_opened = All-nil (λ (p : PartView T). IsOpenedAs o p.handle);
+    older_opened = All-nil (IsPartOf o book);
     same_book = same;
     books = books;
     of = of;
@@ -94,8 +100,8 @@ module _ {T : Type 0} where
       → HasJoined o shared book xs g h ps → mine ≡ book → IsPrefix xs ys → HasRisen ys
       → HasJoined o shared mine ys g h ps
   joined-later o shared book mine xs ys g h ps j same more risen = record {
-    newest_opened = j.newest_opened;
-    older_opened = j.older_opened;
+    newest_opened = (j.newest_opened.0, j.newest_opened.1 ∙ sym same);
+    older_opened = of-book o book mine ps same j.older_opened;
     same_book = same ∙ j.same_book;
     books = j.books ∙ sym same;
     of = j.of;
@@ -113,7 +119,7 @@ module _ {T : Type 0} where
       (ps : List (PartView T))
       → HasJoined o shared book log g h ps → IsSamePart h k → HasJoined o shared book log g k ps
   joined-newest o shared book log g h k ps j same = record {
-    newest_opened = same.2.1 ∙ j.newest_opened;
+    newest_opened = (same.2.1 ∙ j.newest_opened.0, same.3 ∙ j.newest_opened.1);
     older_opened = j.older_opened;
     same_book = j.same_book;
     books = j.books;
@@ -129,7 +135,7 @@ module _ {T : Type 0} where
 
   pub same-refl : (ps : List (PartView T)) → AreSameParts ps ps
   same-refl [] = refl
-  same-refl (p ∷ ps) = (p, ps, refl, (refl, refl, (refl, refl, refl)), same-refl ps)
+  same-refl (p ∷ ps) = (p, ps, refl, (refl, refl, (refl, refl, refl), refl), same-refl ps)
 
   number-same : (ps qs : List (PartView T)) (n : ℕ) → AreSameParts ps qs → HasNumber ps n → HasNumber qs n
   number-same [] qs n same (p, (k, inside, is), number) = absurd (omega (arith, inside))
@@ -153,8 +159,7 @@ module _ {T : Type 0} where
       → HasJoined o shared book log g h ps → AreSameParts ps qs → HasJoined o shared book log g h qs
   joined-same o shared book log g h ps qs j same = record {
     newest_opened = j.newest_opened;
-    older_opened = all-same (λ (p : PartView T). IsOpenedAs o p.handle) (λ p q s is. s.2.1 ∙ is) ps qs same
-        j.older_opened;
+    older_opened = all-same (IsPartOf o book) (λ p q s is. (s.2.1 ∙ is.0, s.3 ∙ is.1)) ps qs same j.older_opened;
     same_book = j.same_book;
     books = j.books;
     of = j.of;
@@ -175,7 +180,7 @@ module _ {T : Type 0} where
       → slice_get ps i ≡ Some p → IsGone log p.number → HasJoined o shared book log g h qs
   joined-less o shared book log g h ps qs i p j without at gone = record {
     newest_opened = j.newest_opened;
-    older_opened = all-without (λ (q : PartView T). IsOpenedAs o q.handle) ps qs i without j.older_opened;
+    older_opened = all-without (IsPartOf o book) ps qs i without j.older_opened;
     same_book = j.same_book;
     books = j.books;
     of = j.of;
@@ -224,9 +229,9 @@ module _ {T : Type 0} where
       (h k : PartView T)
       (ps between qs : List (PartView T)) → HasJoined o shared book xs g h ps → mine ≡ book → IsPrefix xs ys
       → HasRisen ys
-      → (next.book ≡ book) → IsOpenedAs o k.handle → IsPassOf next.queue k.handle.held.pass.pass
+      → (next.book ≡ book) → IsPartOf o book k → IsPassOf next.queue k.handle.held.pass.pass
       → k.number ≡ next.number → IsPart ys k
-      → g.number < next.number → WasNewest xs next.number → All (λ (p : PartView T). IsOpenedAs o p.handle) between
+      → g.number < next.number → WasNewest xs next.number → All (IsPartOf o book) between
       → All (IsPart ys) between
       → All (λ (p : PartView T). p.number < next.number) between → AreAmong g.number next.number between xs ys
       → qs ≡ (ps ++ h ∷ []) ++ between → HasJoined o shared mine ys next k qs
@@ -236,8 +241,8 @@ module _ {T : Type 0} where
       λ P first mid last. subst (All P) (sym is) (All-append P (ps ++ h ∷ []) between (All-push P ps h first mid)
       last) in
       record {
-        newest_opened = opened;
-        older_opened = both (λ (p : PartView T). IsOpenedAs o p.handle) j.older_opened j.newest_opened all-opened;
+        newest_opened = (opened.0, opened.1 ∙ sym same);
+        older_opened = of-book o book mine qs same (both (IsPartOf o book) j.older_opened j.newest_opened all-opened);
         same_book = same ∙ j.same_book;
         books = books ∙ sym same;
         of = of;
@@ -395,28 +400,103 @@ module _ {T : Type 0} where
       subst (IsPart log) same (all-next (IsPart log) q ps (q ∷ ps) refl all).0
   part-at log (q ∷ ps) (suc i) p all at = part-at log ps i p (all-next (IsPart log) q ps (q ∷ ps) refl all).1 at
 
+  -- the part at an index
+  pub at-all : (P : PartView T → Type 0) (ps : List (PartView T)) (i : ℕ) (p : PartView T) → All P ps
+      → slice_get ps i ≡ Some p → P p
+  at-all P [] i p all at = absurd cc
+  at-all P (q ∷ ps) zero p all at =
+      let same : q ≡ p = cc in
+      subst P same (all-next P q ps (q ∷ ps) refl all).0
+  at-all P (q ∷ ps) (suc i) p all at = at-all P ps i p (all-next P q ps (q ∷ ps) refl all).1 at
+
+  held-at : (ps : List (PartView T)) (i : ℕ) (p : PartView T) → slice_get ps i ≡ Some p
+      → slice_get (held_by ps) i ≡ Some (held_in p)
+  held-at [] i p at = absurd cc
+  held-at (q ∷ ps) zero p at =
+      let same : q ≡ p = cc in
+      ap (λ (x : PartView T). Some (held_in x)) same
+  held-at (q ∷ ps) (suc i) p at = held-at ps i p at
+
+  -- the part at an index, of whose handle it is known that it has seen its generation sealed empty
+  pub sealed-at : (ps : List (PartView T)) (i : ℕ) (p : PartView T) → slice_get ps i ≡ Some p
+      → HasSealedAt (held_by ps) i → IsSealedPart p
+  sealed-at ps i p at (h, is, seen) =
+      let there = held-at ps i p at in
+      let same : h ≡ held_in p = cc in
+      subst (λ (x : HeldIn T). HasSeenSealed x.handle.held.pass.pass) same seen
+
+  less-length : (ps : List (PartView T)) (i : ℕ) → i < length ps → length (take i ps ++ drop (i + 1) ps) + 1 ≡ length ps
+  less-length [] i inside = absurd (omega (arith, inside))
+  less-length (q ∷ ps) zero inside = let e : length ps + 1 ≡ suc (length ps) = omega arith in e
+  less-length (q ∷ ps) (suc i) inside =
+      let rest = less-length ps i (omega (arith, inside)) in
+      subst (λ n. length (q ∷ (take i ps ++ drop n (q ∷ ps))) + 1 ≡ suc (length ps))
+      (let e : suc (i + 1) ≡ suc i + 1 = omega arith in e)
+      (let e : suc (length (take i ps ++ drop (i + 1) ps)) + 1 ≡ suc (length ps) = omega (arith, rest) in e)
+
   less-at : (log : List Change) (ps : List (PartView T)) (i : ℕ) (p : PartView T) → slice_get ps i ≡ Some p
-      → IsGone log p.number
-      → p.handle.cells ≡ no_cells → LeavesGone log (held_by ps) (held_by (take i ps ++ drop (i + 1) ps))
-  less-at log [] i p at left none = absurd cc
-  less-at log (q ∷ ps) zero p at left none =
+      → IsGone log p.number → p.handle.cells ≡ no_cells → HasLeft log (held_in p)
+      → LeavesGone log (held_by ps) (held_by (take i ps ++ drop (i + 1) ps))
+  less-at log [] i p at gone none left = absurd cc
+  less-at log (q ∷ ps) zero p at gone none left =
       let same : q ≡ p = cc in
       inr (
-        subst (λ (x : PartView T). IsGone log x.number) (sym same) left,
-        ap (λ (x : PartView T). x.handle.cells)
-            same ∙ none,
+        subst (λ (x : PartView T). IsGone log x.number) (sym same) gone,
+        ap (λ (x : PartView T). x.handle.cells) same ∙ none,
+        subst (λ (x : PartView T). HasLeft log (held_in x)) (sym same) left,
         leaves-refl log (held_by ps),
       )
-  less-at log (q ∷ ps) (suc i) p at left none = inl (
+  less-at log (q ∷ ps) (suc i) p at gone none left = inl (
     held_by (take i ps ++ drop (i + 1) ps),
     ap (λ n. held_by (q ∷ (take i ps ++ drop n (q ∷ ps)))) (let e : suc i + 1 ≡ suc (i + 1) = omega arith in e),
-    less-at log ps i p at left none,
+    less-at log ps i p at gone none left,
   )
 
-  -- the handles of parts but one, whose generation has left its place
-  pub held-less : (log : List Change) (ps qs : List (PartView T)) (i : ℕ) (p : PartView T)
-      → qs ≡ take i ps ++ drop (i + 1) ps
-      → slice_get ps i ≡ Some p → IsGone log p.number → p.handle.cells ≡ no_cells
-      → LeavesGone log (held_by ps) (held_by qs)
-  held-less log ps qs i p is at left none =
-      subst (λ l. LeavesGone log (held_by ps) (held_by l)) (sym is) (less-at log ps i p at left none)
+  -- the handles of parts, but the one at an index where its generation has gone and was left
+  pub held-left : (b : Bool) (log : List Change) (ps qs : List (PartView T)) (i : ℕ) (p : PartView T)
+      → qs ≡ (if b then take i ps ++ drop (i + 1) ps else ps) → slice_get ps i ≡ Some p → IsGone log p.number
+      → p.handle.cells ≡ no_cells → (b ≡ true → HasLeft log (held_in p)) → LeavesGone log (held_by ps) (held_by qs)
+  held-left true log ps qs i p is at gone none left =
+      subst (λ l. LeavesGone log (held_by ps) (held_by l)) (sym is) (less-at log ps i p at gone none (left refl))
+  held-left false log ps qs i p is at gone none left =
+      subst (λ l. LeavesGone log (held_by ps) (held_by l)) (sym is) (leaves-refl log (held_by ps))
+
+  pub joined-left : (b : Bool) (o : Opening) (shared book : Book) (log : List Change) (g : Numbered) (h : PartView T)
+      (ps qs : List (PartView T)) (i : ℕ) (p : PartView T) → HasJoined o shared book log g h ps
+      → qs ≡ (if b then take i ps ++ drop (i + 1) ps else ps) → slice_get ps i ≡ Some p → IsGone log p.number
+      → HasJoined o shared book log g h qs
+  joined-left true o shared book log g h ps qs i p j is at gone =
+      joined-less o shared book log g h ps qs i p j is at gone
+  joined-left false o shared book log g h ps qs i p j is at gone =
+      subst (HasJoined o shared book log g h) (sym is) j
+
+  pub fewer-left : (b : Bool) (ps qs : List (PartView T)) (i : ℕ)
+      → qs ≡ (if b then take i ps ++ drop (i + 1) ps else ps) → i < length ps
+      → length qs + (if b then 1 else 0) ≡ length ps
+  fewer-left true ps qs i is inside = ap (λ l. length l + 1) is ∙ less-length ps i inside
+  fewer-left false ps qs i is inside = let same = ap length is in omega (arith, same)
+
+pub get-of : {A : Type 0} (xs : List A) (i : ℕ) (x d : A) → slice_get xs i ≡ Some x → slice_index_or xs i d ≡ x
+get-of [] i x d at = absurd cc
+get-of (y ∷ xs) zero x d at = cc
+get-of (y ∷ xs) (suc i) x d at = get-of xs i x d at
+
+-- what is put back where it was taken from
+pub insert-back : {A : Type 0} (xs : List A) (i : ℕ) (x : A) → slice_get xs i ≡ Some x → insert (remove xs i) i x ≡ xs
+insert-back [] i x at = absurd cc
+insert-back (y ∷ xs) zero x at = let same : y ≡ x = cc in ap (λ z. z ∷ xs) (sym same)
+insert-back (y ∷ xs) (suc i) x at = ap (λ l. y ∷ l) (insert-back xs i x at)
+
+-- the first of some handles that has seen its generation sealed empty
+pub sealed-first : {T : Type 0} (r behind : Option ℕ) (b : Bool) (h : HeldIn T) (hs : List (HeldIn T))
+    → ((i : ℕ) → r ≡ Some i → ((b ≡ true) × (i ≡ 0)) ⊎ ((n : ℕ) × (behind ≡ Some n) × (i ≡ n + 1)))
+    → IfSome behind (HasSealedAt hs) → (b ≡ true → HasSeenSealed h.handle.held.pass.pass)
+    → IfSome r (HasSealedAt (h ∷ hs))
+sealed-first None behind b h hs is rest first = tt
+sealed-first (Some i) behind b h hs is rest first = ⊎_elim
+    (λ here. subst (HasSealedAt (h ∷ hs)) (sym here.1) (h, refl, first here.0))
+    (λ next.
+    let there : HasSealedAt hs next.0 = subst (λ o. IfSome o (HasSealedAt hs)) next.1 rest in
+    subst (HasSealedAt (h ∷ hs)) (let is' = next.2 in let e : suc next.0 ≡ i = omega (arith, is') in e)
+    (there.0, there.1, there.2))
+    (is i refl)

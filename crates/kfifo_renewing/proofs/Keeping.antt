@@ -1,5 +1,6 @@
 -- Steps of the history keep its rule.
-use Rattle.std.proofs.Common.{◌≡◌, ◌≢◌, ◌+◌, ◌-◌, ◌/◌, ◌%◌, ◌<◌, ◌≤◌, ◌^◌, ◌==◌, ⊎_elim, ℕ, zero, suc, Bool, true, false, List}
+use Rattle.std.proofs.Common.{◌≡◌, ◌≢◌, ◌+◌, ◌-◌, ◌/◌, ◌%◌, ◌<◌, ◌≤◌, ◌^◌, ◌==◌, ⊎_elim, ℕ, zero, suc, Bool, true}
+use Rattle.std.proofs.Common.{false, List}
 use Rattle.std.proofs.Common.{[], ◌∷◌, ◌++◌, length, MatchBool, None, Option, Some, replicate, slice_set, refl, sym, ap}
 use Rattle.std.proofs.Common.{◌∙◌, subst, arith, inl, inr, length-append}
 use Rattle.std.proofs.lemmas.Bool.Decides.{nat_tests}
@@ -7,7 +8,8 @@ use Rattle.std.proofs.lemmas.List.{append-nil, get_or_append_left, get_or-append
 use Rattle.std.proofs.lemmas.List.{get_or-set_other, get_or-set_same, length-replicate, length-set}
 use Rattle.std.proofs.lemmas.List.{replicate-append-replicate, set-append_left, set-append_right, set-get_or}
 use Rattle.std.proofs.lemmas.List.Elements.{Contains-push}
-use Rattle.std.proofs.Math.Nat.{div-add-mod, eq-zero-or-pos}
+use Rattle.std.proofs.Math.Nat.{div-add-mod}
+use Rattle.std.proofs.lemmas.Nat.{mod_below}
 use Rattle.std.specs.List.{Contains}
 use Rattle.atomic_table.specs.Seated.{TableId}
 use mathlib.Core.List.{IsPrefix}
@@ -21,8 +23,9 @@ use Rattle.kfifo_renewing.specs.declared.change.Sealed.{Sealed}
 use Rattle.kfifo_renewing.specs.declared.change.Sight.{Sight}
 use Rattle.kfifo_renewing.specs.History.{Finds, FindsThere, HasRisen, Holds, IsGone, IsKept, IsPlaced}
 use Rattle.kfifo_renewing.specs.History.{Looks, LooksThere, Fills, TellsNext, TellsPlace, WasNewest}
-use Rattle.kfifo_renewing.specs.History.{key_of, made, making_of, newest_of, place_count, label_of, shows}
-use Rattle.kfifo_renewing.proofs.Histories.{contains-later, contains-more, gone-later, made-append}
+use Rattle.kfifo_renewing.specs.History.{key_of, left_of, made, making_of, newest_of, next_in, place_count, label_of}
+use Rattle.kfifo_renewing.specs.History.{shows}
+use Rattle.kfifo_renewing.proofs.Histories.{contains-later, contains-more, gone-later, left-append, made-append}
 use Rattle.kfifo_renewing.proofs.Histories.{newest-append, risen-more, risen-none, risen-was, was-later, was-less}
 use Rattle.kfifo_renewing.proofs.Histories.{was-made}
 
@@ -149,12 +152,13 @@ first-holds t = record {
   told = λ n was. subst
       (λ k. ((cell ((0, true) ∷ []) k).1 ≡ true) × TellsNext (making_of t ∷ []) k (cell ((0, true) ∷ []) k).0)
       (sym (was-made t n was))
-      (refl, record { newest = λ none. refl; next = λ some. absurd (omega (arith, some)) });
+      (refl, record { newest = λ none. refl; next = λ some. absurd (omega (arith, some)); left = refl });
   placed = λ n some was below. let first = was-made t n was in absurd (omega (arith, some, first));
   newest_there = λ n i is. absurd (first-only t (C.Placed n i) is (λ same. absurd cc));
   labelled = λ i inside. subst (λ (c : Cell). (c.1 ≡ true) × TellsPlace (making_of t ∷ []) i c.0)
       (sym (get_or-replicate place_count i (0, true) (0, false) inside)) (refl, first-place t i);
   gone = λ s is. absurd (first-only t (C.Gone s) is (λ same. absurd cc));
+  stayed = λ n up. refl;
 }
 
 pub kept_first : (t : TableId) → IsKept (replicate (place_count + 2) (0, true)) (making_of t ∷ [])
@@ -191,13 +195,23 @@ within g labels nexts log n h was =
     let each = h.each in
     omega (arith, below, newest, each)
 
+-- an entry more by which none leaves a generation
+pub left-stays : (n : ℕ) (log : List Change) (e : Change) → left_of n (e ∷ []) ≡ []
+    → left_of n (log ++ e ∷ []) ≡ left_of n log
+left-stays n log e none =
+    left-append n log (e ∷ []) ∙ ap (λ l. left_of n log ++ l) none ∙ append-nil (left_of n log)
+
 -- what a word says stays so while an entry more leaves the newest generation as it is
 pub tells-same : (log : List Change) (e : Change) (n w : ℕ) → newest_of (log ++ e ∷ []) ≡ newest_of log
-    → TellsNext log n w
+    → left_of n (e ∷ []) ≡ [] → TellsNext log n w
     → TellsNext (log ++ e ∷ []) n w
-tells-same log e n w same t = record {
-  newest = λ none. same ∙ t.newest none;
-  next = λ some. ((t.next some).0, (t.next some).1, was-later log (log ++ e ∷ []) w (e ∷ [], refl) (t.next some).2);
+tells-same log e n w same none t = record {
+  newest = λ zero. same ∙ t.newest zero;
+  next = λ some. (
+    (t.next some).0,
+    was-later log (log ++ e ∷ []) (next_in w) (e ∷ [], refl) (t.next some).1,
+  );
+  left = t.left ∙ ap length (sym (left-stays n log e none));
 }
 
 -- what the word of a place says stays so while an entry more shows none there
@@ -223,8 +237,9 @@ pub holds-entry : (g : ℕ) (labels nexts labels' nexts' : List Cell) (log : Lis
     → ((n i : ℕ) → IsPlaced (log ++ e ∷ []) n i → WasNewest log n)
     → ((i : ℕ) → i < place_count → ((cell labels' i).1 ≡ true) × TellsPlace (log ++ e ∷ []) i (cell labels' i).0)
     → ((s : Sealed) → Contains (log ++ e ∷ []) (C.Gone s) → s.number < newest_of log)
+    → ((n : ℕ) → left_of n (e ∷ []) ≡ [])
     → Holds (log ++ e ∷ []) g labels' nexts'
-holds-entry g labels nexts labels' nexts' log e none same h long words there labelled gone = record {
+holds-entry g labels nexts labels' nexts' log e none same h long words there labelled gone left = record {
   count = ap length (made-append log (e ∷ []) ∙ ap (λ l. made log ++ l) none ∙ append-nil (made log)) ∙ h.count;
   each = long ∙ h.each;
   newest = subst (λ n. n ≤ g) (sym same) h.newest;
@@ -234,13 +249,14 @@ holds-entry g labels nexts labels' nexts' log e none same h long words there lab
       let before = was-less log e n same was in
       let t = h.told n before in
       subst (λ c. (c.1 ≡ true) × TellsNext (log ++ e ∷ []) n c.0) (sym (words n before))
-      (t.0, tells-same log e n (cell nexts n).0 same t.1);
+      (t.0, tells-same log e n (cell nexts n).0 same (left n) t.1);
   placed = λ n some was below.
       let p = h.placed n some (was-less log e n same was) (subst (λ k. n < k) same below) in
       (p.0, p.1, contains-later log (log ++ e ∷ []) (C.Placed n p.0) (e ∷ [], refl) p.2);
   newest_there = λ n i is. was-later log (log ++ e ∷ []) n (e ∷ [], refl) (there n i is);
   labelled = labelled;
   gone = λ s is. subst (λ k. s.number < k) (sym same) (gone s is);
+  stayed = λ n up. left-stays n log e (left n) ∙ h.stayed n (subst (λ k. k ≤ n) same up);
 }
 
 -- what was said of generations that have gone is still said, where the entry more is of none
@@ -272,7 +288,7 @@ table-same t q e = cc
 
 -- what a word says is what a look finds
 found-next : (v log : List Change) (sight : Sight) (n w : ℕ) → IsPrefix v log → HasRisen log → TellsNext log n w
-    → Finds sight n w v (log ++ C.Look sight ∷ [])
+    → Finds sight n (next_in w) v (log ++ C.Look sight ∷ [])
 found-next v log sight n w pre risen t =
     let e = C.Look sight in
     let same : newest_of (log ++ e ∷ []) ≡ newest_of log = newest-append 0 log (e ∷ []) in
@@ -282,13 +298,10 @@ found-next v log sight n w pre risen t =
       same = λ none. t.newest none;
       other = λ some is.
           let above = (t.next some).0 in
-          let below = risen-was log w risen (t.next some).2 in
+          let below = risen-was log (next_in w) risen (t.next some).1 in
           omega (arith, above, below, is);
-      next = λ some. was-later log (log ++ e ∷ []) w (e ∷ [], refl) (t.next some).2;
-      small = ⊎_elim
-          (λ none. omega (arith, none))
-          (λ some. (t.next some).1)
-          (eq-zero-or-pos w);
+      next = λ some. was-later log (log ++ e ∷ []) (next_in w) (e ∷ [], refl) (t.next some).1;
+      small = mod_below w (2 ^ 32) (omega arith);
       risen = risen-more log e (omega (arith, same)) risen;
     }
 
@@ -300,7 +313,7 @@ look-holds g labels nexts log sight h =
     holds-entry g labels nexts labels nexts log e refl (newest-append 0 log (e ∷ [])) h refl (λ n was. refl)
     (there-same g labels nexts log e (λ n i is. absurd cc) h)
     (labelled-same g labels nexts log e (λ n i is. absurd cc) h)
-    (gone-same g labels nexts log e (λ n is. absurd cc) h)
+    (gone-same g labels nexts log e (λ n is. absurd cc) h) (λ n. refl)
 
 looks-goes : (v log : List Change) (sight : Sight) (n g : ℕ) (labels nexts : List Cell) → length labels ≡ place_count
     → IsPrefix v log → WasNewest log n
@@ -316,8 +329,8 @@ looks-goes v log sight n g labels nexts all pre was h =
     (λ t m asked at.
     let sight-is : sight ≡ t = sight-same sight t asked in
     let number-is : n ≡ m = omega (arith, at) in
-    subst (λ k. Finds k m (cell nexts n).0 v (log ++ e ∷ [])) sight-is
-    (subst (λ k. Finds sight k (cell nexts n).0 v (log ++ e ∷ [])) number-is
+    subst (λ k. Finds k m (next_in (cell nexts n).0) v (log ++ e ∷ [])) sight-is
+    (subst (λ k. Finds sight k (next_in (cell nexts n).0) v (log ++ e ∷ [])) number-is
     (found-next v log sight n (cell nexts n).0 pre h.risen told.1)))
 
 -- a look at the word of a generation that was the newest
@@ -451,7 +464,7 @@ shows-goes v log p n i none g a labels nexts all inside few (half, even) was h t
     (λ last. subst (WasNewest log) (sym (placed-same m n j i last).0) was) (contains-more log e (C.Placed m j) is))
     (λ j in-it. label-written g labels nexts log e i (shows n) all
     (λ m k apart at. absurd (apart (sym (placed-same n m i k at).1))) h here j in-it (j == i) refl)
-    (gone-same g labels nexts log e (λ t is. absurd cc) h)))
+    (gone-same g labels nexts log e (λ t is. absurd cc) h) (λ m. refl)))
     (λ m j number at is.
     let number-is : n ≡ m = omega (arith, number) in
     let place-is : i ≡ j = omega (arith, at) in

@@ -3,7 +3,9 @@ pub mod Histories
 pub mod Keeping
 pub mod Emptying
 pub mod Making
+pub mod Departing
 pub mod Parts
+pub mod Leavers
 pub mod Joining
 pub mod Following
 pub mod Looking

@@ -1,9 +1,11 @@
 -- Steps that make a generation, or make one the newest, keep the rule of the history.
-use Rattle.std.proofs.Common.{◌≡◌, ◌≢◌, ◌+◌, ◌<◌, ◌≤◌, ◌⊎◌, ◌^◌, ◌==◌, ⊎_elim, ℕ, suc, Bool, true, false, List, [], ◌∷◌, ◌++◌}
+use Rattle.std.proofs.Common.{◌≡◌, ◌≢◌, ◌+◌, ◌<◌, ◌≤◌, ◌⊎◌, ◌^◌, ◌==◌, ⊎_elim, ℕ, suc, Bool, true, false, List, []}
+use Rattle.std.proofs.Common.{◌∷◌, ◌++◌}
 use Rattle.std.proofs.Common.{length, None, Some, slice_get, slice_set, refl, sym, ap, ◌∙◌, subst, arith, inl, inr}
 use Rattle.std.proofs.Common.{append_assoc, length-append}
 use Rattle.std.proofs.lemmas.Bool.{cases_lt}
 use Rattle.std.proofs.lemmas.Bool.Decides.{nat_tests}
+use Rattle.std.proofs.Math.Nat.{div-eq_of_lt, mod-eq_of_lt}
 use Rattle.std.proofs.lemmas.List.{append-nil, get_or_append_left, get_or-set_other, get_or-set_same, length-set}
 use Rattle.atomic_table.specs.Seated.{TableId}
 use mathlib.Core.List.{IsPrefix}
@@ -13,11 +15,12 @@ use Rattle.kfifo_renewing.specs.declared.change.Change.{Change}
 use Rattle.kfifo_renewing.specs.declared.change.Change.TheVariants as C
 use Rattle.kfifo_renewing.specs.History.{GivesNumber, Holds, IsKept, IsPlaced}
 use Rattle.kfifo_renewing.specs.History.{Renews, TellsNext, WasNewest, key_of, made, making_of}
-use Rattle.kfifo_renewing.specs.History.{newest_of, place_count}
+use Rattle.kfifo_renewing.specs.History.{newest_of, next_in, place_count}
 use Rattle.kfifo_renewing.proofs.Histories.{contains-later, get-last, made-append, newest-append}
 use Rattle.kfifo_renewing.proofs.Histories.{risen-more, risen-was, was-later, was-less}
 use Rattle.kfifo_renewing.proofs.Histories.{was-more, was-now}
-use Rattle.kfifo_renewing.proofs.Keeping.{goes-by, gone-same, kept-of, labelled-same, load-same, moved, there-same}
+use Rattle.kfifo_renewing.proofs.Keeping.{goes-by, gone-same, kept-of, labelled-same, left-stays, load-same, moved}
+use Rattle.kfifo_renewing.proofs.Keeping.{there-same}
 use Rattle.kfifo_renewing.proofs.Keeping.{next-at, next-within, set-next, shown, table-same, tells-same}
 use Rattle.kfifo_renewing.proofs.Keeping.{within, words-of}
 
@@ -50,7 +53,7 @@ holds-made g labels nexts log t room h =
           let t = h.told n before in
           subst (λ c. (c.1 ≡ true) × TellsNext (log ++ e ∷ []) n c.0)
           (sym (first n (within g labels nexts log n h before)))
-          (t.0, tells-same log e n (cell nexts n).0 same t.1);
+          (t.0, tells-same log e n (cell nexts n).0 same refl t.1);
       placed = λ n some was below.
           let p = h.placed n some (was-less log e n same was) (subst (λ k. n < k) same below) in
           (p.0, p.1, contains-later log (log ++ e ∷ []) (C.Placed n p.0) (e ∷ [], refl) p.2);
@@ -58,6 +61,7 @@ holds-made g labels nexts log t room h =
           (there-same g labels nexts log e (λ m j at. absurd cc) h n i is);
       labelled = labelled-same g labels nexts log e (λ n i is. absurd cc) h;
       gone = λ s is. subst (λ k. s.number < k) (sym same) (gone-same g labels nexts log e (λ t is. absurd cc) h s is);
+      stayed = λ n up. left-stays n log e refl ∙ h.stayed n (subst (λ k. k ≤ n) same up);
     }
 
 numbers-goes : (v log : List Change) (p : Nib) (t : TableId) (old g : ℕ) (labels nexts : List Cell)
@@ -125,8 +129,17 @@ tells-before g labels nexts log n m x h is above later small inside was true e =
     get_or-set_same nexts n (m, true) (0, false) (omega (arith, same, inside)) in
     subst (λ k. ((cell (slice_set nexts n (m, true)) k).1 ≡ true)
     × TellsNext (log ++ C.Newest m ∷ []) k (cell (slice_set nexts n (m, true)) k).0) (sym same)
-    (subst (λ c. (c.1 ≡ true) × TellsNext (log ++ C.Newest m ∷ []) n c.0) (sym at)
-    (refl, record { newest = λ none. absurd (omega (arith, none, above)); next = λ some. (above, small, later) }))
+    (subst (λ c. (c.1 ≡ true) × TellsNext (log ++ C.Newest m ∷ []) n c.0) (sym at) (
+      refl,
+      record {
+        newest = λ none. let at = mod-eq_of_lt small in absurd (omega (arith, none, above, at));
+        next = λ some.
+            let at = mod-eq_of_lt small in
+            (omega (arith, at, above), subst (WasNewest (log ++ C.Newest m ∷ [])) (sym at) later);
+        left = div-eq_of_lt small ∙ ap length (sym (left-stays n log (C.Newest m) refl
+            ∙ h.stayed n (omega (arith, is))));
+      },
+    ))
 tells-before g labels nexts log n m x h is above later small inside was false e =
     let apart : x ≢ n = λ same. grind (arith, nat_tests) in
     let at : cell (slice_set nexts n (m, true)) x ≡ cell nexts x =
@@ -138,9 +151,9 @@ tells-before g labels nexts log n m x h is above later small inside was false e 
         newest = λ none. absurd (apart (sym (t.1.newest none) ∙ is));
         next = λ some. (
           (t.1.next some).0,
-          (t.1.next some).1,
-          was-later log (log ++ C.Newest m ∷ []) (cell nexts x).0 (C.Newest m ∷ [], refl) (t.1.next some).2,
+          was-later log (log ++ C.Newest m ∷ []) (next_in (cell nexts x).0) (C.Newest m ∷ [], refl) (t.1.next some).1,
         );
+        left = t.1.left ∙ ap length (sym (left-stays x log (C.Newest m) refl));
       },
     )
 
@@ -169,8 +182,14 @@ tells-renewed g labels nexts log n m x h is above made-it now was =
     get_or-set_same (slice_set nexts n (m, true)) m (0, true) (0, false) (omega (arith, long, made-it)) in
     subst (λ k. ((cell (renewed nexts n m) k).1 ≡ true) × TellsNext (log ++ C.Newest m ∷ []) k
     (cell (renewed nexts n m) k).0) (sym at)
-    (subst (λ c. (c.1 ≡ true) × TellsNext (log ++ C.Newest m ∷ []) m c.0) (sym here)
-    (refl, record { newest = λ none. now; next = λ some. absurd (omega (arith, some)) })))
+    (subst (λ c. (c.1 ≡ true) × TellsNext (log ++ C.Newest m ∷ []) m c.0) (sym here) (
+      refl,
+      record {
+        newest = λ none. now;
+        next = λ some. absurd (omega (arith, some));
+        left = ap length (sym (left-stays m log (C.Newest m) refl ∙ h.stayed m (omega (arith, is, above))));
+      },
+    )))
     (was-more log (C.Newest m) x was)
 
 -- each generation that was the newest before n is in a place, and so is n
@@ -213,6 +232,7 @@ renewed-holds g labels nexts log n m i h is above made-it inside there =
       gone = λ s gone.
           let below = gone-same g labels nexts log e (λ t is. absurd cc) h s gone in
           omega (arith, below, is, above, now);
+      stayed = λ x up. left-stays x log e refl ∙ h.stayed x (omega (arith, up, now, is, above));
     }
 
 renews-goes : (v log : List Change) (n m i g : ℕ) (a : Change) (labels nexts : List Cell) → length labels ≡ place_count
@@ -225,7 +245,8 @@ renews-goes : (v log : List Change) (n m i g : ℕ) (a : Change) (labels nexts :
 renews-goes v log n m i g a labels nexts all was above inside there made-it h true found =
     let p = nib may_write (key_of m) 0 in
     let told = h.told n was in
-    let newest : newest_of log ≡ n = told.1.newest (grind (arith, nat_tests)) in
+    let none : (cell nexts n).0 ≡ 0 = grind (arith, nat_tests) in
+    let newest : newest_of log ≡ n = told.1.newest (ap next_in none) in
     let e = C.Newest m in
     let now : newest_of (log ++ e ∷ []) ≡ m = newest-append 0 log (e ∷ []) in
     goes-by (key_of n) v p (λ k. either (k == 0) m k) (Renews (step (key_of n) 0 m a) (v, (p, None)))

@@ -1,7 +1,8 @@
 -- The history of a queue's generations: which were made, which became the newest, where they were, and when handles
 -- looked.
-use Rattle.std.specs.Prelude.{◌≡◌, ◌≢◌, ◌+◌, ◌<◌, ◌≤◌, ◌^◌, ◌⊎◌, ℕ, suc, true, List, [], ◌∷◌, ◌++◌, length, Option}
-use Rattle.std.specs.Prelude.{Some, slice_get}
+use Rattle.std.specs.Prelude.{◌≡◌, ◌≢◌, ◌+◌, ◌<◌, ◌≤◌, ◌^◌, ◌%◌, ◌/◌, ◌==◌, ◌⊎◌, ℕ, suc, true, List, [], ◌∷◌, ◌++◌}
+use Rattle.std.specs.Prelude.{length}
+use Rattle.std.specs.Prelude.{if◌then◌else◌, Option, Some, slice_get}
 use Rattle.std.specs.List.{Contains}
 use Rattle.atomic_table.specs.Seated.{TableId}
 use mathlib.Core.List.{IsPrefix}
@@ -26,6 +27,7 @@ made (C.Newest n ∷ log) = made log
 made (C.Look sight ∷ log) = made log
 made (C.Placed n i ∷ log) = made log
 made (C.Gone sealed ∷ log) = made log
+made (C.Left n sight ∷ log) = made log
 
 -- the number of the newest generation, if that of before is this
 abbrev pub newest_after : ℕ → List Change → ℕ
@@ -35,6 +37,7 @@ newest_after n (C.Newest m ∷ log) = newest_after m log
 newest_after n (C.Look sight ∷ log) = newest_after n log
 newest_after n (C.Placed m i ∷ log) = newest_after n log
 newest_after n (C.Gone sealed ∷ log) = newest_after n log
+newest_after n (C.Left m sight ∷ log) = newest_after n log
 
 -- the number of the newest generation: at first that of the first one
 abbrev pub newest_of : List Change → ℕ
@@ -66,15 +69,33 @@ pub record IsGone (log : List Change) (n : ℕ) : Type 0 where
   pub made : IsMade log n sealed.queue.table
   pub empty : SealedEmpty sealed.shape sealed.threads sealed.seen
 
+-- what the passes had seen that left the generation with this number, the first first
+abbrev pub left_of : ℕ → List Change → List Sight
+left_of n [] = []
+left_of n (C.Made q ∷ log) = left_of n log
+left_of n (C.Newest m ∷ log) = left_of n log
+left_of n (C.Look sight ∷ log) = left_of n log
+left_of n (C.Placed m i ∷ log) = left_of n log
+left_of n (C.Gone sealed ∷ log) = left_of n log
+left_of n (C.Left m sight ∷ log) = if m == n then sight ∷ left_of n log else left_of n log
+
 -- how many places there are
 abbrev pub place_count : ℕ
 place_count = 130
 
--- What the word of generation n says of the next one, where n was the newest at some moment: 0 as long as it is the
--- newest, and then the number of a later one
+-- the two halves of the word of a generation: the number of a later one, and how many passes have left it
+abbrev pub next_in : ℕ → ℕ
+next_in word = word % 2 ^ 32
+
+abbrev pub left_in : ℕ → ℕ
+left_in word = word / 2 ^ 32
+
+-- What the word of generation n says, where n was the newest at some moment. Of the next one: 0 as long as n is the
+-- newest, and then the number of a later one. And how many passes have left n
 pub record TellsNext (log : List Change) (n word : ℕ) : Type 0 where
-  pub newest : word ≡ 0 → newest_of log ≡ n
-  pub next : 0 < word → (n < word) × (word < 2 ^ 32) × WasNewest log word
+  pub newest : next_in word ≡ 0 → newest_of log ≡ n
+  pub next : 0 < next_in word → (n < next_in word) × WasNewest log (next_in word)
+  pub left : left_in word ≡ length (left_of n log)
 
 -- what the word of a place says of the generation that is there
 abbrev pub shows : ℕ → ℕ
@@ -99,6 +120,7 @@ pub record Holds (log : List Change) (greatest : ℕ) (labels nexts : List Cell)
   pub newest_there : (n i : ℕ) → IsPlaced log n i → WasNewest log n
   pub labelled : (i : ℕ) → i < place_count → ((cell labels i).1 ≡ true) × TellsPlace log i (cell labels i).0
   pub gone : (sealed : Sealed) → Contains log (C.Gone sealed) → sealed.number < newest_of log
+  pub stayed : (n : ℕ) → newest_of log ≤ n → left_of n log ≡ []
 
 -- The words of a book in their order: the greatest number, the words of the places, and those of the generations
 pub record IsKept (cells : List Cell) (log : List Change) : Type 0 where
@@ -156,7 +178,7 @@ abbrev pub NewestWas : Sight → ℕ → List Change → List Change → Type 0
 NewestWas sight n old new = (others : List Change) × (more : List Change)
     × (new ≡ (old ++ others) ++ C.Look sight ∷ more) × (newest_of (old ++ others) ≡ n)
 
--- What a look by a pass that had seen this found at the word of generation n, between these two beginnings of the
+-- What a look by a pass that had seen this found in the word of generation n, between these two beginnings of the
 -- history: 0 where that was the newest, and else the number of a later one that was the newest
 pub record Finds (sight : Sight) (n found : ℕ) (old new : List Change) : Type 0 where
   pub number : ℕ
@@ -175,7 +197,15 @@ pub record FindsThere (place : ℕ) (found : Option ℕ) (old new : List Change)
 
 -- what a look tells
 abbrev pub Looks : Step Change → View Change ℕ → ℕ → View Change ℕ → Type 0
-Looks s v found w = (sight : Sight) (n : ℕ) → s.ask ≡ C.Look sight → s.key ≡ key_of n → Finds sight n found v.0 w.0
+Looks s v found w = (sight : Sight) (n : ℕ) → s.ask ≡ C.Look sight → s.key ≡ key_of n
+    → Finds sight n (next_in found) v.0 w.0
+
+-- What a step tells by which a pass leaves a generation: where it did, no other had left that since as many had as the
+-- word said
+abbrev pub Leaves : Step Change → View Change ℕ → ℕ → View Change ℕ → Type 0
+Leaves s v found w = (sight : Sight) (n : ℕ) (before : List Change) → s.ask ≡ C.Left n sight → s.key ≡ key_of n
+    → found ≡ s.old → IsPrefix before v.0 → length (left_of n before) ≡ left_in s.old
+    → left_of n w.0 ≡ left_of n before ++ sight ∷ []
 
 -- What a step tells that gives a generation a number: where it did, the history has that, and the pen may make the word
 -- of that generation

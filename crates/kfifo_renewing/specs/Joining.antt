@@ -1,19 +1,24 @@
 -- What a handle of a renewing queue has joined: parts in generations.
-use Rattle.std.specs.Prelude.{◌≡◌, ◌⊎◌, ◌<◌, ℕ, List, [], ◌∷◌, All, map}
+use Rattle.std.specs.Prelude.{◌≡◌, ◌⊎◌, ◌<◌, ℕ, Bool, true, List, [], ◌∷◌, All, Some, map, slice_get}
 use Rattle.std.specs.List.{Contains}
 use Rattle.logbook.specs.Pages.{Book}
 use Rattle.kfifo_pool.specs.Pooled.{Pooled, no_cells}
-use Rattle.kfifo_live.specs.Pass.{IsPassOf, IsSamePass, IsSealedEmpty}
+use Rattle.kfifo_live.specs.Pass.{IsPassOf, IsSamePass, IsSealedEmpty, PassKeepsPromise, PassView}
 use Rattle.kfifo_live.specs.declared.view.Opening.{Opening}
-use Rattle.kfifo_renewing.specs.History.{HasRisen, IsGone, IsMade, IsPlaced, WasNewest, place_count}
+use Rattle.kfifo_renewing.specs.History.{HasRisen, IsGone, IsMade, IsPlaced, WasNewest, newest_of, place_count}
 use Rattle.kfifo_renewing.specs.Renewing.{Generations, HeldIn, IsFresh, IsOpenedAs, Numbered, all_of}
 use Rattle.kfifo_renewing.specs.declared.change.Change.{Change}
 
--- a part in a generation: the handle there, and the number and the place of the generation
+-- a pass has seen its queue sealed empty, in a schedule that keeps the promise
+abbrev pub HasSeenSealed : PassView → Type 0
+HasSeenSealed p = IsSealedEmpty p × PassKeepsPromise p
+
+-- a part in a generation: the handle there, the number and the place of the generation, and the book of its history
 pub record PartView (T : Type 0) : Type 0 where
   pub handle : Pooled T
   pub number : ℕ
   pub place : ℕ
+  pub book : Book
 
 -- the older generations of a handle: its parts in them, and for how many there is room
 pub record OlderView (T : Type 0) : Type 0 where
@@ -27,18 +32,34 @@ module _ {T : Type 0} where
     pub inside : p.place < place_count
     pub placed : IsPlaced log p.number p.place
 
+  -- a part in a queue with this opening, whose history is in this book
+  abbrev pub IsPartOf : Opening → Book → PartView T → Type 0
+  IsPartOf o book p = IsOpenedAs o p.handle × (p.book ≡ book)
+
   -- the handle of a part has no cell of its generation
   abbrev pub HasNoCell : PartView T → Type 0
   HasNoCell p = p.handle.cells ≡ no_cells
 
   -- the pass of a part has seen its generation sealed empty
   abbrev pub IsSealedPart : PartView T → Type 0
-  IsSealedPart p = IsSealedEmpty p.handle.held.pass.pass
+  IsSealedPart p = HasSeenSealed p.handle.held.pass.pass
+
+  -- A part whose generation its handle may leave, by this book and this beginning of the history: it is the newest no
+  -- more. If it is the first to leave it, it has to have seen that sealed empty
+  pub record MayLeave (book : Book) (log : List Change) (is_sealed : Bool) (p : PartView T) : Type 0 where
+    pub same_book : p.book ≡ book
+    pub was : WasNewest log p.number
+    pub over : p.number < newest_of log
+    pub sealed : is_sealed ≡ true → IsSealedPart p
+
+  -- a part in this generation
+  abbrev pub IsPartIn : Numbered → PartView T → Type 0
+  IsPartIn g p = (p.number ≡ g.number) × (p.book ≡ g.book) × IsPassOf g.queue p.handle.held.pass.pass
 
   -- a part in the same generation, with the same pass
   abbrev pub IsSamePart : PartView T → PartView T → Type 0
   IsSamePart old new = (new.number ≡ old.number) × (new.place ≡ old.place)
-      × IsSamePass old.handle.held.pass.pass new.handle.held.pass.pass
+      × IsSamePass old.handle.held.pass.pass new.handle.held.pass.pass × (new.book ≡ old.book)
 
   -- parts in the same generations, in the same order
   abbrev pub AreSameParts : List (PartView T) → List (PartView T) → Type 0
@@ -52,6 +73,10 @@ module _ {T : Type 0} where
 
   abbrev pub held_by : List (PartView T) → List (HeldIn T)
   held_by = map held_in
+
+  -- of these handles in generations the one at this index has seen its generation sealed empty
+  abbrev pub HasSealedAt : List (HeldIn T) → ℕ → Type 0
+  HasSealedAt hs index = (h : HeldIn T) × (slice_get hs index ≡ Some h) × HasSeenSealed h.handle.held.pass.pass
 
   -- a part of this thread, with a fresh handle, in a generation that comes after this number
   abbrev pub IsUnused : ℕ → ℕ → PartView T → Type 0
@@ -83,8 +108,8 @@ module _ {T : Type 0} where
   -- generation, and its parts
   pub record HasJoined (o : Opening) (shared book : Book) (log : List Change) (g : Numbered) (newest : PartView T)
       (older : List (PartView T)) : Type 0 where
-    pub newest_opened : IsOpenedAs o newest.handle
-    pub older_opened : All (λ p. IsOpenedAs o p.handle) older
+    pub newest_opened : IsPartOf o book newest
+    pub older_opened : All (IsPartOf o book) older
     pub same_book : book ≡ shared
     pub books : g.book ≡ book
     pub of : IsPassOf g.queue newest.handle.held.pass.pass

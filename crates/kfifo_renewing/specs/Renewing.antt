@@ -16,7 +16,11 @@ use Rattle.kfifo_model.specs.declared.calls.TheConstants.{MAX_THREADS}
 use Rattle.kfifo_live.specs.Calls.{IsDisturbed}
 use Rattle.kfifo_live.specs.Capacities.{HasRoom, segments_for, sizes_fault, tokens_for}
 use Rattle.kfifo_live.specs.Handles.{further}
+use Rattle.kfifo_linear.specs.Seals.{SealedEmpty}
+use Rattle.kfifo_machine.specs.Runs.{Begins}
+use Rattle.kfifo_machine.specs.declared.event.Event.{Event}
 use Rattle.kfifo_live.specs.Pass.{HasNoEvent, IsPassOf, IsSamePass, IsSealedEmpty, OpenQueue, PassKeepsPromise}
+use Rattle.kfifo_live.specs.Pass.{PassView, StartsWith}
 use Rattle.kfifo_live.specs.Payloads.{PayCloses}
 use Rattle.kfifo_live.specs.Refusals.{IsOutOf}
 use Rattle.kfifo_live.specs.Schedule.{count_up}
@@ -27,7 +31,7 @@ use Rattle.kfifo_live.specs.declared.tokens.sizes.SizesFault.{SizesFault}
 use Rattle.kfifo_live.specs.declared.tokens.sizes.TheConstants.{SPARE_TOKENS}
 use Rattle.kfifo_live.specs.declared.view.Opening.{Opening}
 use Rattle.kfifo_pool.specs.Pooled.{GivesOne, Pooled, ReceivesOne, ReceivesOneOrSeals, new_handle, no_cells}
-use Rattle.kfifo_renewing.specs.History.{IsGone, IsMade, NewestWas, WasNewest, newest_of, place_count}
+use Rattle.kfifo_renewing.specs.History.{IsGone, IsMade, NewestWas, WasNewest, left_of, newest_of, place_count}
 use Rattle.kfifo_renewing.specs.History.{sight_of}
 use Rattle.kfifo_renewing.specs.declared.change.Change.{Change}
 use Rattle.kfifo_renewing.specs.declared.change.Sight.{Sight}
@@ -136,6 +140,12 @@ pub record HeldIn (T : Type 0) : Type 0 where
   pub handle : Pooled T
   pub number : ℕ
 
+-- after a beginning of what a pass has seen its queue was sealed empty
+pub record WasSealedEmpty (p : PassView) : Type 0 where
+  pub first : List Event
+  pub begins : StartsWith p.seen first
+  pub empty : SealedEmpty p.opened.shape p.opened.threads first
+
 -- The generations that the handle of a thread has joined: its handle in each. It gives to the newest, which has this
 -- number. The older ones, the oldest first, may still have payloads. Of the history of the queue, which is that of this
 -- book, it has seen this beginning
@@ -236,12 +246,25 @@ module _ {T : Type 0} where
   IsBehind old new = (number : ℕ) × NewestWas (sight new) number old.seen new.seen × (number ≢ new.number)
       × IsNumbered new
 
-  -- Of these handles in generations, some are kept as they were, in their order. The others have no cell, and their
-  -- generations have gone by this history
+  -- A handle has left its generation, as the history tells. One schedule of that generation has all that the passes did
+  -- there which had left by then, this handle's among them, and after a beginning of it the generation was sealed empty
+  pub record HasLeft (log : List Change) (h : HeldIn T) : Type 0 where
+    pub before : List Change
+    pub earlier : IsPrefix before log
+    pub all : PassView
+    pub table : all.table ≡ h.handle.held.pass.pass.table
+    pub opened : all.opened ≡ h.handle.held.pass.pass.opened
+    pub left : Contains (left_of h.number before) (sight_of h.handle.held.pass.pass)
+    pub ends : All (λ s. Begins s.thread s.seen all.seen) (left_of h.number before)
+    pub sealed : WasSealedEmpty all
+    pub promise : PassKeepsPromise all
+
+  -- Of these handles in generations, some are kept as they were, in their order. The others have no cell, their
+  -- generations have gone by this history, and they have left them
   abbrev pub LeavesGone : List Change → List (HeldIn T) → List (HeldIn T) → Type 0
   LeavesGone log [] kept = kept ≡ []
   LeavesGone log (h ∷ hs) kept = ((rest : List (HeldIn T)) × (kept ≡ h ∷ rest) × LeavesGone log hs rest)
-      ⊎ (IsGone log h.number × (h.handle.cells ≡ no_cells) × LeavesGone log hs kept)
+      ⊎ (IsGone log h.number × (h.handle.cells ≡ no_cells) × HasLeft log h × LeavesGone log hs kept)
 
   -- a handle with the first starts, without free tokens or cells, whose thread has begun no call
   abbrev pub IsUntouched : Pooled T → Type 0

@@ -16,7 +16,7 @@ impl Model for Made {
     ghost also_owns = { λ m. ftrue };
 }
 
-/// What the pass of a handle had seen when the handle looked which generation is the newest.
+/// What a pass had seen when its handle looked which generation is the newest, or as it left its generation.
 pub struct Sight {
     /// The thread of the pass.
     pub thread: u32,
@@ -50,4 +50,6 @@ pub enum Change {
     Placed(u32, u32),
     /// This generation went from its place, as it was the newest no more.
     Gone(Sealed),
+    /// A pass left the generation with this number. It had seen this.
+    Left(u32, Sight),
 }

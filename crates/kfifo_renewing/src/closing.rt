@@ -7,7 +7,8 @@ ghost use Rattle.kfifo_pool.specs.Pooled.{Pooled};
 ghost use Rattle.kfifo_live.specs.declared.view.Opening.{Opening};
 ghost use Rattle.kfifo_renewing.specs.Joining.{HaveParts, IsBeside, IsPart, held_by, held_in};
 ghost use Rattle.kfifo_renewing.specs.declared.change.Change.{Change};
-ghost use Rattle.kfifo_renewing.specs.Renewing.{AreOfOneQueue, ClosesAll, ClosesEach, Gathers, Generations, HaveOwnAmong};
+ghost use Rattle.kfifo_renewing.specs.Renewing.{AreOfOneQueue, ClosesAll, ClosesEach, Gathers, Generations};
+ghost use Rattle.kfifo_renewing.specs.Renewing.{HaveOwnAmong};
 ghost use Rattle.kfifo_renewing.specs.Renewing.{HaveSeen, IsOpenedAs, WereLeft, opening_with, other_threads};
 
 use crate::handle::{JoinedAll, RenewingHandle};
@@ -158,9 +159,10 @@ pub(crate) fn gather<T: Drop, K: Kind<T>>(
     let mut seen = last.history().again();
     let theirs = take_apart(alloc, handles, &mut seen)?;
     last.learn(&seen);
-    let Some(_) = last.generations() else {
+    // A generation that another handle has left cannot be closed any more, and has gone.
+    if !last.catch_up() {
         return Err(CloseFault::Memory);
-    };
+    }
     let JoinedAll {
         shared,
         history,

@@ -1,15 +1,22 @@
 //! A generation: a queue of payloads, with the handles that wait in it for their threads.
-ghost use Rattle.std.specs.Prelude.{◌≡◌, ◌<◌, ◌≤◌, ◌+◌, ◌++◌, ◌⊎◌, [], ◌∷◌, All, IfOk, IfSome, Some, length, map, true};
+ghost use Rattle.std.specs.Prelude.{◌≡◌, ◌<◌, ◌≤◌, ◌+◌, ◌++◌, ◌⊎◌, [], ◌∷◌, All, IfOk, IfSome, MatchOption, Some};
+ghost use Rattle.std.specs.Prelude.{length};
+ghost use Rattle.std.specs.Prelude.{map, true};
 ghost use Rattle.std.specs.Prelude.{vec_capacity};
 ghost use Rattle.std.specs.List.{Contains};
 ghost use Rattle.kfifo_pool.specs.Pooled.{Pooled};
 ghost use Rattle.kfifo_live.specs.Pass.{IsPassOf};
+ghost use mathlib.Core.List.{IsPrefix};
 ghost use Rattle.kfifo_renewing.specs.History.{IsMade};
-ghost use Rattle.kfifo_renewing.specs.Renewing.{IsFresh, IsUntouched, Numbered, other_threads, without};
+ghost use Rattle.kfifo_renewing.specs.Joining.{IsPartIn, MayLeave, held_in};
+ghost use Rattle.kfifo_renewing.specs.Renewing.{HasLeft, IsFresh, IsUntouched, Numbered, other_threads, without};
 
+use crate::departed::Departed;
 use crate::history::{History, Next};
+use crate::joined::Joined;
+use crate::leaving::Leaving;
 use crate::memory::CellMemory;
-use counted_slot::{Counted, FREE, Fits, TAKEN};
+use counted_slot::{Counted, FREE, Fits, PRESENT, TAKEN};
 use kfifo_exclusive::Exclusive;
 use kfifo_live::CloseFault;
 use kfifo_pool::{PooledHandle, PooledQueue};
@@ -54,16 +61,37 @@ impl<T: Drop> Fits for Waiting<T> {
         × (waiting.is_unused ≡ true → IsUntouched waiting.handle.inner) };
 }
 
-/// A queue of payloads with its number and what it says of the next one, the handles that wait in it, and how many
-/// handles may give to it.
+/// A queue of payloads with its number and what it says of the next one.
+///
+/// Clauses see it as its queue and its number, with a beginning of the history, in which it has that number.
+#[derive(Drop)]
+pub(crate) struct Core<T: Drop> {
+    pub(crate) queue: PooledQueue<T>,
+    pub(crate) next: Next,
+    pub(crate) history: History,
+}
+
+impl<T: Drop> Model for Core<T> {
+    ghost Value = { Numbered };
+
+    ghost view = { λ c. record {
+      queue = c.queue;
+      number = c.next.number;
+      book = c.history.book;
+      seen = c.history.log;
+    } };
+
+    ghost invariant = { λ c. IsMade c.history.log c.next.number c.queue.table × (c.next.book ≡ c.history.book) };
+}
+
+/// A generation with the handles that wait in it, how many handles may give to it, and the passes that have left it.
 ///
 /// Clauses see it as its queue and its number, with a beginning of the history, in which it has that number.
 #[derive(Drop)]
 pub(crate) struct Generation<T: Drop> {
-    queue: PooledQueue<T>,
-    next: Next,
-    history: History,
+    core: Core<T>,
     waiting: Vec<Counted<Option<Waiting<T>>>>,
+    departed: Counted<Option<Departed<T>>>,
     givers: AtomicU64,
     /// The memory of its cells.
     memory: CellMemory,
@@ -72,15 +100,9 @@ pub(crate) struct Generation<T: Drop> {
 impl<T: Drop> Model for Generation<T> {
     ghost Value = { Numbered };
 
-    ghost view = { λ g. record {
-      queue = g.queue;
-      number = g.next.number;
-      book = g.history.book;
-      seen = g.history.log;
-    } };
+    ghost view = { λ g. g.core };
 
-    ghost invariant = { λ g. All (λ queue. queue ≡ g.queue) g.waiting.items
-        × IsMade g.history.log g.next.number g.queue.table × (g.next.book ≡ g.history.book) };
+    ghost invariant = { λ g. All (λ queue. queue ≡ g.core.queue) g.waiting.items × (g.departed ≡ g.core) };
 }
 
 /// A place for each of these handles, in which it waits, in their order.
@@ -193,11 +215,16 @@ impl<T: Drop> Generation<T> {
         ensures { IfOk result (λ g. (g.queue ≡ queue) × (g.number ≡ next.number) × (g.book ≡ history.book)) }
     {
         let waiting = seat_all(alloc, &queue, handles)?;
-        Ok(Generation {
+        let core = Core {
             queue,
             next,
             history,
+        };
+        let departed = Counted::new(None, &core);
+        Ok(Generation {
+            core,
             waiting,
+            departed,
             givers: AtomicU64::new(0),
             memory,
         })
@@ -208,7 +235,7 @@ impl<T: Drop> Generation<T> {
     pub(crate) fn queue(&self) -> &PooledQueue<T>
         ensures { result.now ≡ self.now.queue }
     {
-        &self.queue
+        &self.core.queue
     }
 
     /// The memory of its cells.
@@ -221,7 +248,7 @@ impl<T: Drop> Generation<T> {
     pub(crate) fn number(&self) -> u32
         ensures { result ≡ self.now.number }
     {
-        self.next.number()
+        self.core.next.number()
     }
 
     /// What it says of the next generation.
@@ -229,7 +256,7 @@ impl<T: Drop> Generation<T> {
     pub(crate) fn next(&self) -> &Next
         ensures { (result.now.number ≡ self.now.number) × (result.now.book ≡ self.now.book) }
     {
-        &self.next
+        &self.core.next
     }
 
     /// What its maker had seen of the history.
@@ -237,7 +264,7 @@ impl<T: Drop> Generation<T> {
         ensures book { result.now.book ≡ self.now.book }
         ensures made { IsMade result.now.log self.now.number self.now.queue.table }
     {
-        &self.history
+        &self.core.history
     }
 
     /// The handle of this thread, unless its thread has it already, or has given it back.
@@ -311,7 +338,7 @@ impl<T: Drop> Generation<T> {
         ensures theirs { IfOk result (λ r. (h : Pooled T) → Contains theirs.items h → Contains r.1.items h) }
     {
         let Generation {
-            queue,
+            core,
             waiting,
             memory,
             ..
@@ -328,6 +355,40 @@ impl<T: Drop> Generation<T> {
         if thread < threads || !theirs.is_empty() {
             return Err(CloseFault::MissingPass);
         }
+        let Core { queue, .. } = core;
         Ok((queue, others, memory))
+    }
+
+    /// The pass of this part, which is in this generation, leaves it for good, and comes to those that have left. The
+    /// first of these has to have seen the generation sealed empty.
+    ///
+    /// Returns the part where it does not leave: none has left that has seen the generation sealed, or another thread
+    /// is about to leave.
+    pub(crate) fn depart(
+        &self,
+        part: Leaving<Joined<T>>,
+        is_sealed: bool,
+        history: &mut History,
+    ) -> Option<Leaving<Joined<T>>>
+        requires part { IsPartIn self.now part }
+        requires may { MayLeave history.old.book history.old.log is_sealed part }
+        ensures later { (history.new.book ≡ history.old.book) × IsPrefix history.old.log history.new.log }
+        ensures left { MatchOption result (HasLeft history.new.log (held_in part)) (λ back. back ≡ part) }
+    {
+        let (found, claim) = self.departed.turn(FREE, TAKEN);
+        if found != FREE {
+            claim.done();
+            return Some(part);
+        }
+        // With `PRESENT` the place is this thread's alone: nobody reads there, and others leave it as it is.
+        let before = claim.put(None, PRESENT);
+        let (after, back) = self.core.depart(before, part, is_sealed, history);
+        let (found, claim) = self.departed.turn(PRESENT, TAKEN);
+        if found == PRESENT {
+            let _ = claim.put(after, FREE);
+        } else {
+            claim.done();
+        }
+        back
     }
 }

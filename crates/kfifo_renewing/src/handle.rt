@@ -1,11 +1,11 @@
 //! The handle of a queue that does not wear out, and how it follows others.
 ghost use Rattle.std.specs.Prelude.{◌≡◌, ◌<◌, ◌+◌, ◌*◌, ◌↔◌, true, [], All, IfOk, IfSome, MatchBool};
-ghost use Rattle.std.specs.Prelude.{MatchOption, length};
+ghost use Rattle.std.specs.Prelude.{MatchOption, if◌then◌else◌, length};
 ghost use Rattle.std.specs.Ptr.{as_ptr};
 ghost use mathlib.Core.List.{IsPrefix};
 ghost use Rattle.kfifo_live.specs.Pass.{IsPassOf};
 ghost use Rattle.kfifo_renewing.specs.History.{HasRisen, WasNewest, place_count};
-ghost use Rattle.kfifo_renewing.specs.Joining.{AreAmong, HasJoined, IsPart, IsUnused, held_by};
+ghost use Rattle.kfifo_renewing.specs.Joining.{AreAmong, HasJoined, HasSealedAt, IsPart, IsPartOf, IsUnused, held_by};
 ghost use Rattle.kfifo_renewing.specs.Renewing.{Counts, Follows, Generations, HasAll};
 ghost use Rattle.kfifo_renewing.specs.Renewing.{IsAtNewest, IsBehind, IsFresh, IsLater, IsOpenedAs, IsUntouched};
 ghost use Rattle.kfifo_renewing.specs.Renewing.{LeavesGone};
@@ -102,7 +102,8 @@ impl<T: Drop, K: Kind<T>> RenewingHandle<T, K> {
     ) -> Result<RenewingHandle<T, K>, AllocError>
         requires opened { IsOpenedAs (opening_in shared.value) newest.handle }
         requires bare { shared.value.bare ≡ K.bare }
-        requires books { (history.book ≡ shared.value.history.book) × (generation.value.book ≡ history.book) }
+        requires books { (history.book ≡ shared.value.history.book) × (generation.value.book ≡ history.book)
+            × (newest.book ≡ history.book) }
         requires first { (generation.value.number ≡ 0) × (newest.number ≡ 0) }
         requires part { IsPart history.log newest }
         requires of { IsPassOf generation.value.queue newest.handle.held.pass.pass }
@@ -180,7 +181,7 @@ impl<T: Drop, K: Kind<T>> RenewingHandle<T, K> {
         requires book { history.old.book ≡ self.now.book }
         requires inside { place < place_count }
         ensures later { (history.new.book ≡ history.old.book) × IsPrefix history.old.log history.new.log }
-        ensures of { IfSome result (λ r. IsOpenedAs self.now.opened r.1.handle
+        ensures of { IfSome result (λ r. IsPartOf self.now.opened self.now.book r.1
             × IsPassOf r.0.value.queue r.1.handle.held.pass.pass × (r.0.value.book ≡ self.now.book)) }
         ensures part { IfSome result (λ r. (r.0.value.number ≡ number) × (r.1.number ≡ number)
             × IsPart history.new.log r.1 × IsFresh self.now.thread r.1.handle) }
@@ -208,7 +209,7 @@ impl<T: Drop, K: Kind<T>> RenewingHandle<T, K> {
         requires book { history.old.book ≡ self.now.book }
         requires newest { WasNewest history.old.log number }
         ensures later { (history.new.book ≡ history.old.book) × IsPrefix history.old.log history.new.log }
-        ensures of { IfSome result (λ r. IsOpenedAs self.now.opened r.1.handle
+        ensures of { IfSome result (λ r. IsPartOf self.now.opened self.now.book r.1
             × IsPassOf r.0.value.queue r.1.handle.held.pass.pass × (r.0.value.book ≡ self.now.book)) }
         ensures part { IfSome result (λ r. (r.0.value.number ≡ number) × (r.1.number ≡ number)
             × IsPart history.new.log r.1 × (self.now.number < number)
@@ -234,7 +235,7 @@ impl<T: Drop, K: Kind<T>> RenewingHandle<T, K> {
         requires none { between.old.items ≡ [] }
         requires newest { WasNewest history.old.log end }
         ensures later { (history.new.book ≡ history.old.book) × IsPrefix history.old.log history.new.log }
-        ensures opened { All (λ p. IsOpenedAs self.now.opened p.handle) between.new.items }
+        ensures opened { All (IsPartOf self.now.opened self.now.book) between.new.items }
         ensures parts { All (IsPart history.new.log) between.new.items }
         ensures below { All (λ p. p.number < end) between.new.items }
         ensures unused { All (IsUnused self.now.thread self.now.number) between.new.items }
@@ -301,12 +302,12 @@ impl<T: Drop, K: Kind<T>> RenewingHandle<T, K> {
         history: &History,
     )
         requires books { (history.now.book ≡ self.old.book) × (generation.value.book ≡ self.old.book) }
-        requires of { IsOpenedAs self.old.opened newest.handle
+        requires of { IsPartOf self.old.opened self.old.book newest
             × IsPassOf generation.value.queue newest.handle.held.pass.pass }
         requires part { (newest.number ≡ generation.value.number) × IsPart history.now.log newest }
         requires later { self.old.number < generation.value.number }
         requires was { WasNewest self.old.seen generation.value.number }
-        requires opened { All (λ p. IsOpenedAs self.old.opened p.handle) between.items }
+        requires opened { All (IsPartOf self.old.opened self.old.book) between.items }
         requires parts { All (IsPart history.now.log) between.items }
         requires below { All (λ p. p.number < generation.value.number) between.items }
         requires unused { IsFresh self.old.thread newest.handle
@@ -342,6 +343,30 @@ impl<T: Drop, K: Kind<T>> RenewingHandle<T, K> {
         self.shared.numbers().newest(&mut self.history)
     }
 
+    /// Leaves the older generation at this index, if that has gone and the handle has no cell there. Returns whether it
+    /// did. The first pass to leave it has to have seen it sealed empty.
+    pub(crate) fn leave_if_gone(&mut self, index: usize, is_sealed: bool) -> bool
+        requires index { index < length self.old.older }
+        requires sealed { is_sealed ≡ true → HasSealedAt self.old.older index }
+        ensures same { self.new ≡ with_older (with_seen self.old self.new.seen) self.new.older }
+        ensures later { IsLater self.old self.new }
+        ensures older { LeavesGone self.new.seen self.old.older self.new.older }
+        ensures fewer { length self.new.older + (if result then 1 else 0) ≡ length self.old.older }
+    {
+        let joined = &self.older.parts()[index];
+        if joined.has_cell() {
+            return false;
+        }
+        let (place, number) = (joined.place(), joined.number());
+        if self.shared.places().has(place, number, &mut self.history) {
+            return false;
+        }
+        let has_left = self.older.leave(index, is_sealed, &mut self.history);
+        let seen = self.history.again();
+        self.history.learn(&seen);
+        has_left
+    }
+
     /// Leaves those of the older generations that have gone: they are sealed empty.
     pub(crate) fn leave_gone(&mut self)
         ensures same { self.new ≡ with_older (with_seen self.old self.new.seen) self.new.older }
@@ -350,20 +375,9 @@ impl<T: Drop, K: Kind<T>> RenewingHandle<T, K> {
     {
         let mut index = 0;
         while index < self.older.len() {
-            let joined = &self.older.parts()[index];
-            if joined.has_cell() {
+            if !self.leave_if_gone(index, false) {
                 index += 1;
-                continue;
             }
-            if self
-                .shared
-                .places()
-                .has(joined.place(), joined.number(), &mut self.history)
-            {
-                index += 1;
-                continue;
-            }
-            self.older.leave(index);
         }
     }
 
@@ -437,6 +451,16 @@ impl<T: Drop, K: Kind<T>> RenewingHandle<T, K> {
             return self.follow();
         }
         true
+    }
+
+    /// Leaves the generations that have gone, and then follows others, as `keep_up` does.
+    pub(crate) fn catch_up(&mut self) -> bool
+        ensures follows { Follows self.old self.new }
+        ensures newest { MatchBool result (IsAtNewest self.old self.new) (IsBehind self.old self.new) }
+        ensures all { HasAll self.new }
+    {
+        self.leave_gone();
+        self.keep_up()
     }
 
     /// Opens the generation after the newest one, unless another handle has done so, or memory or room is missing.

@@ -1,11 +1,12 @@
 //! The history of a queue's generations, and the words that tell of it.
 //!
 //! The history lives in proofs alone: a `History` is a beginning of it that was seen, and has no bytes.
-ghost use Rattle.std.specs.Prelude.{◌≡◌, ◌≢◌, ◌+◌, ◌<◌, ◌≤◌, ℕ, IfOk, IfSome, true};
+ghost use Rattle.std.specs.Prelude.{◌≡◌, ◌≢◌, ◌+◌, ◌++◌, ◌^◌, ◌<◌, ◌≤◌, ℕ, List, [], ◌∷◌, IfOk, IfSome, length, true};
 ghost use Rattle.logbook.specs.Pages.{may_make, may_write, nib};
 ghost use mathlib.Core.List.{IsPrefix};
 ghost use Rattle.kfifo_renewing.specs.History.{AreLabels, Finds, HasRisen, IsMade, IsPlaced, WasNewest, key_of};
-ghost use Rattle.kfifo_renewing.specs.History.{place_count, sight_of};
+ghost use Rattle.kfifo_renewing.specs.History.{left_of, newest_of, next_in as next_of, place_count, sight_of};
+ghost use Rattle.kfifo_renewing.specs.declared.change.Change.{Change as HasChanged};
 
 use crate::change::Change;
 use crate::joined::Joined;
@@ -130,6 +131,25 @@ impl Play<Change, u64> for Emptying {
     ghost then = { Empties };
 }
 
+/// A step by which a pass leaves its generation.
+pub struct Departing;
+
+impl<T: Drop> Plain<Leaving<Joined<T>>, Change, u64> for Departing {
+    ghost use Rattle.std.specs.Prelude.{None};
+    ghost use Rattle.kfifo_renewing.specs.declared.change.Change.TheVariants as C;
+    ghost use Rattle.kfifo_renewing.specs.History.{sight_of};
+
+    ghost ask = { λ part. C.Left part.number (sight_of part.handle.held.pass.pass) };
+
+    ghost state = { λ part. None };
+}
+
+impl Play<Change, u64> for Departing {
+    ghost use Rattle.kfifo_renewing.specs.History.{Leaves};
+
+    ghost then = { Leaves };
+}
+
 /// A step that gives a queue its number as a generation.
 pub struct Numbering;
 
@@ -156,7 +176,11 @@ impl<T: Drop> Opening<PooledQueue<T>, Change> for Numbering {
     ghost log = { λ count queue. making_of queue.table ∷ [] };
 }
 
-/// What a generation says of the next one: its number once there is one, and 0 before.
+/// What the word of a generation is more by for each pass that has left it.
+const ONE_LEFT: u64 = 0x1_0000_0000;
+
+/// What a generation says of the next one, its number once there is one, and 0 before; and how many passes have left
+/// the generation.
 ///
 /// Clauses see the generation's number, and the book that has the word.
 #[derive(Drop)]
@@ -229,6 +253,18 @@ impl Next {
         ensures finds { Finds (sight_of part.now.handle.held.pass.pass) self.now.number result history.old.log
             history.new.log }
     {
+        next_in(self.read(part, history))
+    }
+
+    /// The word, as one load finds it, which is a look by this part.
+    #[inline(always)]
+    fn read<T: Drop>(&self, part: &Leaving<Joined<T>>, history: &mut History) -> u64
+        requires book { history.old.book ≡ self.now.book }
+        requires newest { WasNewest history.old.log self.now.number }
+        ensures later { (history.new.book ≡ history.old.book) × IsPrefix history.old.log history.new.log }
+        ensures finds { Finds (sight_of part.now.handle.held.pass.pass) self.now.number (next_of result) history.old.log
+            history.new.log }
+    {
         let mut offer: Offer<Change, u64, HistoryRule, NoGain> = history.plain::<
             NoGain,
             Leaving<Joined<T>>,
@@ -259,6 +295,52 @@ impl Next {
             .compare_exchange::<Renewing, NoGain>(0, u64::from(number), history, &mut offer, pen);
         found == 0
     }
+
+    /// Counts the pass of this part among those that have left the generation, which is the newest no more, if so many
+    /// have. Returns whether it did.
+    pub(crate) fn depart<T: Drop>(
+        &self,
+        count: u64,
+        part: &Leaving<Joined<T>>,
+        history: &mut History,
+    ) -> bool
+        requires book { history.old.book ≡ self.now.book }
+        requires newest { WasNewest history.old.log self.now.number }
+        requires over { self.now.number < newest_of history.old.log }
+        requires number { part.now.number ≡ self.now.number }
+        ensures later { (history.new.book ≡ history.old.book) × IsPrefix history.old.log history.new.log }
+        ensures few { result ≡ true → count < 2 ^ 32 }
+        ensures left { result ≡ true → (before : List HasChanged) → IsPrefix before history.old.log
+            → length (left_of self.now.number before) ≡ count
+            → left_of self.now.number history.new.log
+            ≡ left_of self.now.number before ++ sight_of part.now.handle.held.pass.pass ∷ [] }
+    {
+        let word = self.read(part, history);
+        let Some(new) = word.checked_add(ONE_LEFT) else {
+            return false;
+        };
+        if word / ONE_LEFT != count {
+            return false;
+        }
+        let mut offer: Offer<Change, u64, HistoryRule, NoGain> = history.plain::<
+            NoGain,
+            Leaving<Joined<T>>,
+            Departing,
+        >(part);
+        let mut pen = history.no_pen();
+        let found = self
+            .word
+            .compare_exchange::<Departing, NoGain>(word, new, history, &mut offer, &mut pen);
+        found == word
+    }
+}
+
+/// The number of a later generation in the word of one.
+#[inline(always)]
+fn next_in(word: u64) -> u64
+    ensures { result ≡ next_of word }
+{
+    word % ONE_LEFT
 }
 
 impl Numbers {

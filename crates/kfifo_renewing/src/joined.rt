@@ -1,12 +1,15 @@
 //! A generation that a handle has joined.
-ghost use Rattle.std.specs.Prelude.{◌≡◌, ◌↔◌, IfSome, false, true};
+ghost use Rattle.std.specs.Prelude.{◌≡◌, ◌↔◌, IfSome, MatchOption, false, true};
 ghost use Rattle.kfifo_live.specs.Pass.{IsPassOf};
 ghost use Rattle.kfifo_pool.specs.Pooled.{GivesOne, no_cells};
-ghost use Rattle.kfifo_renewing.specs.Joining.{IsSamePart, IsSealedPart, PartView};
-ghost use Rattle.kfifo_renewing.specs.Renewing.{IsFresh, IsUntouched, MaySeal, SealsThere, TakesOlder, TakesThere};
+ghost use mathlib.Core.List.{IsPrefix};
+ghost use Rattle.kfifo_renewing.specs.Joining.{IsSamePart, IsSealedPart, MayLeave, PartView, held_in};
+ghost use Rattle.kfifo_renewing.specs.Renewing.{HasLeft, IsFresh, IsUntouched, MaySeal, SealsThere, TakesOlder};
+ghost use Rattle.kfifo_renewing.specs.Renewing.{TakesThere};
 ghost use Rattle.kfifo_renewing.specs.Renewing.{got_or_sealed_of};
 
 use crate::generation::Generation;
+use crate::history::History;
 use crate::kind::Kind;
 use crate::leaving::{Leave, Leaving};
 use kfifo_live::{Given, Taken, TakenOrSealed};
@@ -35,6 +38,7 @@ impl<T: Drop> Model for Joined<T> {
       handle = j.handle;
       number = j.generation.value.number;
       place = j.place;
+      book = j.generation.value.book;
     } };
 
     ghost invariant = { λ j. IsPassOf j.generation.value.queue j.handle.held.pass.pass };
@@ -49,7 +53,8 @@ impl<T: Drop> Joined<T> {
     ) -> Option<Leaving<Joined<T>>>
         ensures of { IfSome result (λ p. IsPassOf generation.value.queue p.handle.held.pass.pass
             × IsFresh thread p.handle) }
-        ensures at { IfSome result (λ p. (p.number ≡ generation.value.number) × (p.place ≡ place)) }
+        ensures at { IfSome result (λ p. (p.number ≡ generation.value.number) × (p.place ≡ place)
+            × (p.book ≡ generation.value.book)) }
     {
         let handle = generation.take_handle(thread)?;
         let part = Joined {
@@ -124,6 +129,28 @@ impl<T: Drop> Leaving<Joined<T>> {
     {
         let (_, handle) = self.into_part().into_parts();
         handle
+    }
+
+    /// The handle in the generation, which is given up, and no longer counts among those that give to it.
+    pub(crate) fn end(self) -> PooledHandle<T>
+        ensures { result ≡ self.handle }
+    {
+        let mut part = self.into_part();
+        part.end_giving();
+        let (_, handle) = part.into_parts();
+        handle
+    }
+
+    /// Leaves the generation, which has gone, as `Generation::depart` does.
+    pub(crate) fn depart(self, is_sealed: bool, history: &mut History) -> Option<Leaving<Joined<T>>>
+        requires { MayLeave history.old.book history.old.log is_sealed self }
+        ensures later { (history.new.book ≡ history.old.book) × IsPrefix history.old.log history.new.log }
+        ensures left { MatchOption result (HasLeft history.new.log (held_in self)) (λ back. back ≡ self) }
+    {
+        let Ok(generation) = Arc::try_clone(&self.part.generation) else {
+            return Some(self);
+        };
+        generation.depart(self, is_sealed, history)
     }
 
     /// Whether the handle has a cell of the generation.

@@ -6,6 +6,7 @@ mod capacity;
 mod cells;
 mod change;
 mod closing;
+mod departed;
 mod fault;
 mod generation;
 mod handle;

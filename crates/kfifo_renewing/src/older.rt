@@ -1,15 +1,16 @@
 //! The older generations of a handle: those before the newest one that it has joined.
-ghost use Rattle.std.specs.Prelude.{◌≡◌, ◌≤◌, ◌<◌, ◌+◌, ◌*◌, ◌^◌, ◌++◌, ◌∷◌, [], All, IfOk, drop, false, length, take};
-ghost use Rattle.std.specs.Prelude.{true};
+ghost use Rattle.std.specs.Prelude.{◌≡◌, ◌≤◌, ◌<◌, ◌+◌, ◌*◌, ◌^◌, ◌⊎◌, ◌++◌, ◌∷◌, [], ℕ, All, IfOk, IfSome, Some};
+ghost use Rattle.std.specs.Prelude.{drop, false};
+ghost use Rattle.std.specs.Prelude.{if◌then◌else◌, length, slice_get, take, true};
 ghost use Rattle.std.specs.Prelude.{vec_capacity};
 ghost use mathlib.Core.List.{IsPrefix};
 ghost use Rattle.kfifo_live.specs.declared.view.Opening.{Opening};
 ghost use Rattle.kfifo_renewing.specs.Cells.{CallsFirst, reserved_in};
 ghost use Rattle.kfifo_renewing.specs.History.{HasRisen, newest_of};
-ghost use Rattle.kfifo_renewing.specs.Joining.{AreSameParts, HasNoCell, IsPart, IsSealedPart, OlderView};
-ghost use Rattle.kfifo_renewing.specs.Joining.{held_by};
+ghost use Rattle.kfifo_renewing.specs.Joining.{AreSameParts, HasNoCell, HasSealedAt, IsPart, IsSealedPart, MayLeave};
+ghost use Rattle.kfifo_renewing.specs.Joining.{OlderView, PartView, held_by, held_in};
 ghost use Rattle.kfifo_renewing.specs.Memory.{cell_reserved};
-ghost use Rattle.kfifo_renewing.specs.Renewing.{IsOpenedAs, TakesFirst, slots_of};
+ghost use Rattle.kfifo_renewing.specs.Renewing.{HasLeft, IsOpenedAs, TakesFirst, slots_of};
 
 use crate::cells::CellCall;
 use crate::history::History;
@@ -102,23 +103,34 @@ impl<T: Drop> Older<T> {
         let _ = self.parts.append(between);
     }
 
-    /// Leaves the generation at this index.
-    pub(crate) fn leave(&mut self, index: usize)
-        requires { index < length self.old.items }
-        ensures { self.new.items ≡ take index self.old.items ++ drop (index + 1) self.old.items }
+    /// Leaves the generation at this index, which has gone. Returns whether it did. Else all is as before.
+    pub(crate) fn leave(&mut self, index: usize, is_sealed: bool, history: &mut History) -> bool
+        requires { (p : PartView T) × (slice_get self.old.items index ≡ Some p)
+            × MayLeave history.old.book history.old.log is_sealed p }
+        ensures later { (history.new.book ≡ history.old.book) × IsPrefix history.old.log history.new.log }
+        ensures left { result ≡ true → (p : PartView T) → slice_get self.old.items index ≡ Some p
+            → HasLeft history.new.log (held_in p) }
+        ensures items { self.new.items ≡ (if result then take index self.old.items ++ drop (index + 1) self.old.items
+            else self.old.items) }
     {
-        let gone = self.parts.remove(index);
-        drop(gone);
+        let part = self.parts.remove(index);
+        let Some(back) = part.depart(is_sealed, history) else {
+            return true;
+        };
+        // There is room, as it was there before.
+        let _ = self.parts.insert(index, back);
+        false
     }
 
-    /// Takes from the first that is not found empty. Says whether it found one empty. Such a one goes from its place
-    /// once it is sealed.
+    /// Takes from the first that is not found empty. Says whether it found one empty, and which one is sealed: such a
+    /// one goes from its place.
     #[inline(always)]
     pub(crate) fn take_first<K: Kind<T>>(
         &mut self,
         places: &Places<T>,
         history: &mut History,
         found_empty: &mut bool,
+        sealed: &mut Option<usize>,
     ) -> Option<Taken<K::Got>>
         requires bare { All (λ p. p.handle.held.pass.pass.opened.bare ≡ K.bare) self.old.items }
         requires book { history.old.book ≡ places.now.history.book }
@@ -127,11 +139,12 @@ impl<T: Drop> Older<T> {
         requires risen { HasRisen history.old.log }
         ensures same { AreSameParts self.old.items self.new.items }
         ensures takes { TakesFirst K.takes K.seals result (held_by self.old.items) (held_by self.new.items) }
+        ensures sealed { IfSome sealed.new (HasSealedAt (held_by self.new.items)) }
         ensures later { (history.new.book ≡ history.old.book) × IsPrefix history.old.log history.new.log }
         ensures risen { HasRisen history.new.log }
     {
         let parts = self.parts.as_mut_slice();
-        let taken = take_first::<T, K>(parts, places, history, found_empty);
+        let taken = take_first::<T, K>(parts, places, history, found_empty, sealed);
         if *found_empty {
             self.with_cells = self.parts.len();
         } else if self.with_cells == 0 {
@@ -232,13 +245,14 @@ fn retire_if<T: Drop>(
     }
 }
 
-/// Takes from the first of these generations that is not empty. Says whether it found one empty: that one goes from its
-/// place once it is sealed.
+/// Takes from the first of these generations that is not empty. Says whether it found one empty, and which one is
+/// sealed: such a one goes from its place.
 fn take_first<T: Drop, K: Kind<T>>(
     generations: &mut [Leaving<Joined<T>>],
     places: &Places<T>,
     history: &mut History,
     found_empty: &mut bool,
+    sealed: &mut Option<usize>,
 ) -> Option<Taken<K::Got>>
     requires bare { All (λ p. p.handle.held.pass.pass.opened.bare ≡ K.bare) generations.old }
     requires book { history.old.book ≡ places.now.history.book }
@@ -248,20 +262,34 @@ fn take_first<T: Drop, K: Kind<T>>(
     ensures same { AreSameParts generations.old generations.new }
     ensures takes { TakesFirst K.takes K.seals result (held_by generations.old) (held_by generations.new) }
     ensures others { found_empty.new ≡ false → drop 1 generations.new ≡ drop 1 generations.old }
+    ensures sealed { IfSome sealed.new (HasSealedAt (held_by generations.new)) }
     ensures later { (history.new.book ≡ history.old.book) × IsPrefix history.old.log history.new.log }
     ensures risen { HasRisen history.new.log }
 {
+    *sealed = None;
     let (first, rest) = generations.split_first_mut()?;
     let mut is_sealed = false;
     match first.take_older::<K>(&mut is_sealed) {
         Some(taken) => Some(taken),
         None => {
             retire_if(is_sealed, places, first, history);
-            let taken = take_first::<T, K>(rest, places, history, found_empty);
+            let taken = take_first::<T, K>(rest, places, history, found_empty, sealed);
+            *sealed = first_sealed(is_sealed, *sealed);
             *found_empty = true;
             taken
         }
     }
+}
+
+/// The index of the first generation that is sealed, by whether the first one is, and that of the first one behind it.
+fn first_sealed(is_sealed: bool, behind: Option<usize>) -> Option<usize>
+    ensures { (index : ℕ) → result ≡ Some index
+        → ((is_sealed ≡ true) × (index ≡ 0)) ⊎ ((next : ℕ) × (behind ≡ Some next) × (index ≡ next + 1)) }
+{
+    if is_sealed {
+        return Some(0);
+    }
+    behind?.checked_add(1)
 }
 
 /// Makes this call in the first of these generations in which the handle has such a cell. It has none in those from

@@ -1,5 +1,6 @@
 //! How a handle takes: from the oldest of its generations that is not empty.
-ghost use Rattle.std.specs.Prelude.{◌≡◌, ◌<◌, ◌+◌, List};
+ghost use Rattle.std.specs.Prelude.{◌≡◌, ◌<◌, ◌+◌, IfSome, List};
+ghost use Rattle.kfifo_renewing.specs.Joining.{HasSealedAt};
 ghost use Rattle.kfifo_renewing.specs.Renewing.{HeldIn};
 ghost use Rattle.kfifo_renewing.specs.Renewing.{IsLater};
 ghost use Rattle.kfifo_renewing.specs.Renewing.{LeavesGone, LooksAgain};
@@ -22,25 +23,46 @@ impl<T: Drop, K: Kind<T>> RenewingHandle<T, K> {
             × LeavesGone self.new.seen looked self.new.older }
     {
         let mut found_empty = false;
-        let taken = self.take_first(&mut found_empty);
+        let mut sealed = None;
+        let taken = self.take_first(&mut found_empty, &mut sealed);
         // Else none has gone, and in a queue that has grown a look at each place would cost more than the take.
         if !found_empty {
             return taken;
         }
+        self.leave_sealed(sealed);
         self.leave_gone();
         taken
     }
 
-    /// Takes from the first of the older generations that is not found empty. Says whether it found one empty.
+    /// Takes from the first of the older generations that is not found empty. Says whether it found one empty, and
+    /// which one is sealed.
     #[inline(always)]
-    fn take_first(&mut self, found_empty: &mut bool) -> Option<Taken<K::Got>>
+    fn take_first(
+        &mut self,
+        found_empty: &mut bool,
+        sealed: &mut Option<usize>,
+    ) -> Option<Taken<K::Got>>
         ensures same { self.new ≡ with_older (with_seen self.old self.new.seen) self.new.older }
         ensures later { IsLater self.old self.new }
         ensures takes { TakesFirst K.takes K.seals result self.old.older self.new.older }
+        ensures sealed { IfSome sealed.new (HasSealedAt self.new.older) }
     {
         let places = self.shared.places();
         self.older
-            .take_first::<K>(places, &mut self.history, found_empty)
+            .take_first::<K>(places, &mut self.history, found_empty, sealed)
+    }
+
+    /// Leaves the older generation at this index, which the handle has seen sealed empty. The first to leave one has to
+    /// have seen that.
+    fn leave_sealed(&mut self, sealed: Option<usize>)
+        requires { IfSome sealed (HasSealedAt self.old.older) }
+        ensures same { self.new ≡ with_older (with_seen self.old self.new.seen) self.new.older }
+        ensures later { IsLater self.old self.new }
+        ensures older { LeavesGone self.new.seen self.old.older self.new.older }
+    {
+        if let Some(index) = sealed {
+            self.leave_if_gone(index, true);
+        }
     }
 
     /// What a take returns that came to this in the newest generation: Busy in place of Empty where another one is the

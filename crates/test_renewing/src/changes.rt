@@ -101,6 +101,11 @@ fn carries_values_from_one_handle_to_another(rt: HostRuntime) -> Result<(), Fail
         assert_eq!(rt; handles.give(giver, value), Given::Done, "give {value}");
         assert_eq!(rt; handles.take(taker), Taken::Got(value - 1), "take {value}");
     }
+    // Each of the two leaves what the taker has found empty, also the one that never takes.
+    for place in [giver, taker] {
+        let count = handles.generations(place).unwrap_or(usize::MAX);
+        assert!(rt; count <= 2, "in {count} generations");
+    }
     let left = handles.close(rt.alloc())?;
     assert_eq!(rt; left.as_slice(), [1_999].as_slice());
     Ok(())

@@ -33,10 +33,10 @@ returns-clause-all g c =
         c.learn.ensures.same,
         c.learn.ensures.later,
         seen-later c.pop.new.self.items log told.seen c.learn.ensures.seen c.in_ok-theirs.ensures.seen,
-        c.generations.new.self,
-        c.generations.ensures.follows,
-        c.in-Some-generations.ensures.count.1,
-        c.generations.ensures.all,
+        c.catch_up.new.self,
+        c.catch_up.ensures.follows,
+        c.if-not-catch_up.ensures.newest,
+        c.catch_up.ensures.all,
         c.in_ok-shared.ensures.joined,
         sym c.in_ok-shared.ensures.history.1,
       ),
@@ -45,7 +45,7 @@ returns-clause-all g c =
 
 pub returns-clause-book : goal.returns-clause-book
 returns-clause-book g c =
-    let same = c.in_ok-shared.ensures.history.0 ∙ c.generations.ensures.follows.later.book
+    let same = c.in_ok-shared.ensures.history.0 ∙ c.catch_up.ensures.follows.later.book
     ∙ c.learn.ensures.later.book in
     let one = one-queue c.args.handles.items c.pop.new.self.items c.in-Some.last c.in-Some.ensures.items c.requires in
     let book = sym (same ∙ one.5) in
@@ -57,12 +57,12 @@ pub returns-clause-parts : goal.returns-clause-parts
 returns-clause-parts g c =
     let log = c.take_apart.new.history.log in
     let told = c.learn.new.self.seen in
-    let here = c.generations.new.self.seen in (
+    let here = c.catch_up.new.self.seen in (
       c.in_ok-shared.field-0.history.log,
       c.in_ok-shared.ensures.history.2,
       parts-later log c.in_ok-shared.field-0.history.log c.in_ok-theirs.theirs.items
           (subst (IsPrefix log) (sym c.in_ok-shared.ensures.history.1)
-          (prefix-trans log told here c.learn.ensures.seen c.generations.ensures.follows.later.seen))
+          (prefix-trans log told here c.learn.ensures.seen c.catch_up.ensures.follows.later.seen))
           c.in_ok-theirs.ensures.parts,
     )
 
@@ -71,7 +71,7 @@ returns-clause-opened g c =
     let T = g.row.T.Denot in
     let shared = c.in_ok-shared.field-0.shared.value in
     let one = one-queue c.args.handles.items c.pop.new.self.items c.in-Some.last c.in-Some.ensures.items c.requires in
-    let same = c.in_ok-shared.ensures.shared.0 ∙ c.generations.ensures.follows.later.opened ∙ c.learn.ensures.later.opened
+    let same = c.in_ok-shared.ensures.shared.0 ∙ c.catch_up.ensures.follows.later.opened ∙ c.learn.ensures.later.opened
     ∙ one.4 in
     let sizes = c.sizes-sizes.ensures ∙ ap (λ (l : Lineage). l.sizes) c.in-Some-into_inner.ensures in
     let as_asked : opening_in shared ≡ opening_with g.K.Kind.bare c.sizes-sizes.result =

@@ -4,7 +4,7 @@ use Rattle.kfifo_renewing.specs.History.{newest_of}
 use Rattle.kfifo_renewing.specs.Joining.{AreSameParts, IsPart, PartView, held_by, held_in}
 use Rattle.kfifo_renewing.specs.Renewing.{TakesFirst, TakesOlder}
 use Rattle.kfifo_renewing.proofs.Histories.{prefix-trans, risen-from}
-use Rattle.kfifo_renewing.proofs.Joining.{below-newest, part-same, parts-later, same-refl}
+use Rattle.kfifo_renewing.proofs.Joining.{below-newest, part-same, parts-later, same-refl, sealed-first}
 use Rattle.kfifo_renewing.proofs.Parts.{all-next, bare_rest}
 use Rattle.kfifo_renewing.proofs.older.+take_first.Goals as goal
 
@@ -114,3 +114,9 @@ returns-in-Some-clause-takes g t c =
 
 pub returns-in-Some-clause-others : goal.returns-in-Some-clause-others
 returns-in-Some-clause-others g t c = λ unseen. sym (ap (drop 1) c.in_ok-generations.ensures.cases.0)
+
+pub returns-in-None-clause-sealed : goal.returns-in-None-clause-sealed
+returns-in-None-clause-sealed g t c =
+    sealed-first c.first_sealed.result c.take_first-taken.new.sealed c.take_older.new.is_sealed
+    (held_in c.take_older.new.self) (held_by c.take_first-taken.new.generations) c.first_sealed.ensures
+    c.take_first-taken.ensures.sealed c.in-None.ensures.sealed

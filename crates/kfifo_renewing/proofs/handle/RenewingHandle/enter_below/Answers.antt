@@ -2,8 +2,7 @@
 use Rattle.std.proofs.Common.{◌<◌, ◌⊎◌, All, List, [], ◌∷◌, ◌++◌, ap, arith, refl, sym, ◌∙◌, subst}
 use Rattle.std.proofs.lemmas.List.Elements.{All-push}
 use Rattle.kfifo_renewing.specs.History.{IsGone}
-use Rattle.kfifo_renewing.specs.Joining.{HasNumber, IsPart, IsUnused, PartView}
-use Rattle.kfifo_renewing.specs.Renewing.{IsOpenedAs}
+use Rattle.kfifo_renewing.specs.Joining.{HasNumber, IsPart, IsPartOf, IsUnused, PartView}
 use Rattle.kfifo_renewing.proofs.Histories.{prefix-trans, was-later}
 use Rattle.kfifo_renewing.proofs.Joining.{parts-later}
 use Rattle.kfifo_renewing.proofs.handle.RenewingHandle.enter_below.Goals as goal
@@ -58,7 +57,7 @@ returns-in_default-reserve-clause-later g c =
 
 pub returns-in_default-reserve-clause-opened : goal.returns-in_default-reserve-clause-opened
 returns-in_default-reserve-clause-opened g c =
-    subst (All (λ (p : PartView g.row.T.Denot). IsOpenedAs c.args.self.now.opened p.handle))
+    subst (All (IsPartOf {T = g.row.T.Denot} c.args.self.now.opened c.args.self.now.book))
     (sym c.reserve.ensures.items) c.loop.invariant.opened
 
 pub returns-in_default-reserve-clause-parts : goal.returns-in_default-reserve-clause-parts
@@ -100,7 +99,7 @@ loop-preserved g c =
       end = refl;
       book = c.enter.ensures.later.0 ∙ c.next_after.ensures.later.0 ∙ i.book;
       more = prefix-trans c.args.history.now.log first log i.more more;
-      opened = each (λ (p : PartView T). IsOpenedAs c.args.self.now.opened p.handle) i.opened entered.of.0;
+      opened = each (IsPartOf c.args.self.now.opened c.args.self.now.book) i.opened entered.of.0;
       parts = each (IsPart log) (parts-later first log c.loop.between.items more i.parts) entered.part.2;
       below = each (λ (p : PartView T). p.number < c.args.end) i.below
           (omega (arith, entered.part.1, c.in-Some.ensures.between.2));

@@ -18,7 +18,7 @@ invariant_of-self g c = (
       (λ k. Finds (sight_of c.self.inside.newest.handle.held.pass.pass) k c.look-found.result c.self.inside.history.log
       c.look-found.new.history.log)
       (c.next.ensures.0 ∙ ap (λ (v : Numbered). v.number) c.deref.ensures) c.look-found.ensures.finds)
-      c.look-found.ensures.book (refl, refl, (refl, refl, refl)),
+      c.look-found.ensures.book (refl, refl, (refl, refl, refl), refl),
   c.self.invariant.1,
 )
 
@@ -78,4 +78,4 @@ returns-clause-all g c =
     (subst (λ k. Finds (sight_of s.newest.handle.held.pass.pass) k c.look-found.result s.history.log
     c.look-found.new.history.log)
     (c.next.ensures.0 ∙ ap (λ (v : Numbered). v.number) c.deref.ensures) c.look-found.ensures.finds)
-    c.look-found.ensures.book (refl, refl, (refl, refl, refl))) refl refl refl
+    c.look-found.ensures.book (refl, refl, (refl, refl, refl), refl)) refl refl refl

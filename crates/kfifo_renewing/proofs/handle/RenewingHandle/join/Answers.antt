@@ -5,8 +5,8 @@ use Rattle.std.proofs.lemmas.List.Elements.{All-map, All-push}
 use mathlib.Core.List.{IsPrefix}
 use Rattle.kfifo_live.specs.Pass.{IsPassOf}
 use Rattle.kfifo_renewing.specs.History.{IsMade, WasNewest, newest_of}
-use Rattle.kfifo_renewing.specs.Joining.{AreAmong, IsPart, PartView, held_by, held_in}
-use Rattle.kfifo_renewing.specs.Renewing.{Generations, HeldIn, IsFresh, IsNew, IsOpenedAs, LeavesGone, all_of}
+use Rattle.kfifo_renewing.specs.Joining.{AreAmong, IsPart, IsPartOf, PartView, held_by, held_in}
+use Rattle.kfifo_renewing.specs.Renewing.{Generations, HeldIn, IsFresh, IsNew, LeavesGone, all_of}
 use Rattle.kfifo_renewing.specs.Renewing.{opening_in}
 use Rattle.kfifo_renewing.proofs.Histories.{risen-from}
 use Rattle.kfifo_renewing.proofs.Joining.{among-later, joined-more, part-later, parts-later}
@@ -32,14 +32,14 @@ invariant_of-self-2 g c = (
       c.learn.ensures.0
       c.learn.ensures.2 (kept-risen c.learn.ensures.4.0 log c.learn.ensures.4.1)
       (subst (λ (x : Generations T). next.book ≡ x.book) v c.requires.books.1)
-      (subst (λ (p : PartView T). IsOpenedAs o p.handle) after
-      (subst (λ (x : Generations T). IsOpenedAs x.opened c.args.newest.handle) v c.requires.of.0))
+      (subst (IsPartOf o s.history.book) after
+      (subst (λ (x : Generations T). IsPartOf x.opened x.book c.args.newest) v c.requires.of.0))
       (subst (λ (p : PartView T). IsPassOf next.queue p.handle.held.pass.pass) after c.requires.of.1)
       (subst (λ (p : PartView T). p.number ≡ next.number) after c.requires.part.0)
       (subst (IsPart log) after (part-later seen log c.args.newest c.learn.ensures.3 c.requires.part.1))
       (subst (λ (x : Generations T). x.number < next.number) v c.requires.later)
       (subst (λ (x : Generations T). WasNewest x.seen next.number) v c.requires.was)
-      (subst (λ (x : Generations T). All (λ (p : PartView T). IsOpenedAs x.opened p.handle) c.args.between.items) v
+      (subst (λ (x : Generations T). All (IsPartOf x.opened x.book) c.args.between.items) v
       c.requires.opened)
       (parts-later seen log c.args.between.items c.learn.ensures.3 c.requires.parts)
       c.requires.below

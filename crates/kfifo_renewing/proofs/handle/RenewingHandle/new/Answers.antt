@@ -17,7 +17,7 @@ invariant_of-result g c = (
       c.args.generation.value p [])
       (sym c.start_giving.ensures)
       (joined-first o c.args.shared.value.history.book c.args.history.book log c.args.generation.value c.args.newest
-      c.requires.opened
+      (c.requires.opened, c.requires.books.2)
       c.requires.books.0 c.requires.books.1 c.requires.of c.requires.first.0 c.requires.first.1 c.requires.part
       c.requires.risen)),
   c.requires.bare,

@@ -22,7 +22,7 @@ invariant_of-self g c = (
       (λ k. Finds (sight_of c.self.inside.newest.handle.held.pass.pass) k c.look-later.result c.self.inside.history.log
       c.look-later.new.history.log)
       (c.next.ensures.0 ∙ ap (λ (v : Numbered). v.number) c.deref-generation.ensures) c.look-later.ensures.finds)
-      c.look-later.ensures.book (refl, refl, (refl, refl, refl)),
+      c.look-later.ensures.book (refl, refl, (refl, refl, refl), refl),
   c.self.invariant.1,
 )
 
@@ -117,7 +117,7 @@ returns-in-Got g c =
     c.look-later.new.history.book log new c.self.inside.generation.value c.self.inside.newest c.self.inside.newest
     c.self.inside.older.items
     (sight_of c.self.inside.newest.handle.held.pass.pass) found i finds c.look-later.ensures.book
-    (refl, refl, (refl, refl, refl)))
+    (refl, refl, (refl, refl, refl), refl))
     (ap (λ (v : Generations T). v.older) c.self.view_is) (ap (λ (v : Generations T). v.newest) c.self.view_is)
     (ap (λ (v : Generations T). v.number) c.self.view_is) in
     let takes = subst (λ (v : Generations T). TakesThere R c.take.result v.newest h) c.self.view_is
@@ -162,7 +162,7 @@ returns-in_default g c =
     c.look-later.new.history.book log new c.self.inside.generation.value c.self.inside.newest c.self.inside.newest
     c.self.inside.older.items
     (sight_of c.self.inside.newest.handle.held.pass.pass) found i finds c.look-later.ensures.book
-    (refl, refl, (refl, refl, refl)))
+    (refl, refl, (refl, refl, refl), refl))
     (ap (λ (v : Generations T). v.older) c.self.view_is) (ap (λ (v : Generations T). v.newest) c.self.view_is)
     (ap (λ (v : Generations T). v.number) c.self.view_is) in
     let takes = subst (λ (v : Generations T). TakesThere R c.take.result v.newest h) c.self.view_is

@@ -17,7 +17,7 @@ compare_exchange-requires g c =
     let pen = c.no_pen-pen.result.nib in
     let place = c.self.inside.place in
     let s = sealed_by n c.args.part.now.handle.held.pass.pass in
-    let sealed : IsSealedAt log s n = record { number = refl; made = c.requires.part.made; empty = c.requires.empty } in
+    let sealed : IsSealedAt log s n = record { number = refl; made = c.requires.part.made; empty = c.requires.empty.0 } in
     let up : shows n ≡ c.showing-shown.result = omega (arith, c.showing-shown.ensures.0, c.number.ensures) in (
       ap (λ w. w.tracked) h.0,
       c.requires.book ∙ sym book,

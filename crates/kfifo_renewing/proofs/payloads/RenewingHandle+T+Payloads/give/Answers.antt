@@ -27,7 +27,7 @@ invariant_of-self-then-look-ne0 g c = (
       (λ k. Finds (sight_of c.self.inside.newest.handle.held.pass.pass) k c.look.result c.self.inside.history.log
       c.look.new.history.log)
       (c.next.ensures.0 ∙ ap (λ (v : Numbered). v.number) c.deref-generation.ensures) c.look.ensures.finds)
-      c.look.ensures.book (refl, refl, (refl, refl, refl)),
+      c.look.ensures.book (refl, refl, (refl, refl, refl), refl),
   c.self.invariant.1,
 )
 

@@ -1,0 +1,126 @@
+//! The passes that have left a generation.
+ghost use Rattle.std.specs.Prelude.{◌≡◌, IfSome, MatchOption, Some, None, false, true};
+ghost use mathlib.Core.List.{IsPrefix};
+ghost use Rattle.kfifo_renewing.specs.Departed.{HaveDeparted};
+ghost use Rattle.kfifo_renewing.specs.Joining.{IsPartIn, MayLeave, held_in};
+ghost use Rattle.kfifo_renewing.specs.Renewing.{HasLeft};
+
+use crate::generation::Core;
+use crate::history::History;
+use crate::joined::Joined;
+use crate::leaving::Leaving;
+use counted_slot::Fits;
+use kfifo_exclusive::Exclusive;
+use kfifo_live::TokenGroup;
+
+/// The passes that have left a generation, how many these are, and what was seen of the history as the last of them
+/// left.
+#[derive(Drop)]
+pub(crate) struct Departed<T: Drop> {
+    passes: Exclusive<TokenGroup<T>>,
+    count: u64,
+    history: History,
+}
+
+impl<T: Drop> Fits for Departed<T> {
+    type Tag = Core<T>;
+
+    ghost fits = { λ core departed. HaveDeparted core departed.history.book departed.history.log departed.count
+        departed.passes.inner };
+}
+
+impl<T: Drop> Core<T> {
+    /// The pass of this part leaves the generation, and comes to these, which have left it. The first of them has to
+    /// have seen the generation sealed empty.
+    ///
+    /// Returns those that have then left, and the part where it does not leave.
+    pub(crate) fn depart(
+        &self,
+        departed: Option<Departed<T>>,
+        part: Leaving<Joined<T>>,
+        is_sealed: bool,
+        history: &mut History,
+    ) -> (Option<Departed<T>>, Option<Leaving<Joined<T>>>)
+        requires departed { IfSome departed (λ d. HaveDeparted self.now d.history.book d.history.log d.count
+            d.passes.inner) }
+        requires part { IsPartIn self.now part }
+        requires may { MayLeave history.old.book history.old.log is_sealed part }
+        ensures departed { IfSome result.0 (λ d. HaveDeparted self.now d.history.book d.history.log d.count
+            d.passes.inner) }
+        ensures later { (history.new.book ≡ history.old.book) × IsPrefix history.old.log history.new.log }
+        ensures left { MatchOption result.1 (HasLeft history.new.log (held_in part)) (λ back. back ≡ part) }
+    {
+        match departed {
+            Some(departed) => {
+                let (departed, back) = self.join(departed, part, history);
+                (Some(departed), back)
+            }
+            None if is_sealed => self.begin(part, history),
+            None => (None, Some(part)),
+        }
+    }
+
+    /// The pass of this part, which has seen the generation sealed empty, leaves it as the first.
+    fn begin(
+        &self,
+        part: Leaving<Joined<T>>,
+        history: &mut History,
+    ) -> (Option<Departed<T>>, Option<Leaving<Joined<T>>>)
+        requires part { IsPartIn self.now part }
+        requires may { MayLeave history.old.book history.old.log true part }
+        ensures departed { IfSome result.0 (λ d. HaveDeparted self.now d.history.book d.history.log d.count
+            d.passes.inner) }
+        ensures later { (history.new.book ≡ history.old.book) × IsPrefix history.old.log history.new.log }
+        ensures left { MatchOption result.1 (HasLeft history.new.log (held_in part)) (λ back. back ≡ part) }
+    {
+        if !self.next.depart(0, &part, history) {
+            return (None, Some(part));
+        }
+        let departed = Departed {
+            passes: Exclusive::new(part.end().into_group()),
+            count: 1,
+            history: history.again(),
+        };
+        (Some(departed), None)
+    }
+
+    /// The pass of this part leaves the generation as these have.
+    fn join(
+        &self,
+        departed: Departed<T>,
+        part: Leaving<Joined<T>>,
+        history: &mut History,
+    ) -> (Departed<T>, Option<Leaving<Joined<T>>>)
+        requires departed { HaveDeparted self.now departed.history.book departed.history.log departed.count
+            departed.passes.inner }
+        requires part { IsPartIn self.now part }
+        requires may { MayLeave history.old.book history.old.log false part }
+        ensures departed { HaveDeparted self.now result.0.history.book result.0.history.log result.0.count
+            result.0.passes.inner }
+        ensures later { (history.new.book ≡ history.old.book) × IsPrefix history.old.log history.new.log }
+        ensures left { MatchOption result.1 (HasLeft history.new.log (held_in part)) (λ back. back ≡ part) }
+    {
+        let Departed {
+            passes,
+            count,
+            history: seen,
+        } = departed;
+        history.learn(&seen);
+        if !self.next.depart(count, &part, history) {
+            let departed = Departed {
+                passes,
+                count,
+                history: seen,
+            };
+            return (departed, Some(part));
+        }
+        let mut group = passes.into_inner();
+        self.queue.join(&mut group, part.end());
+        let departed = Departed {
+            passes: Exclusive::new(group),
+            count: count + 1,
+            history: history.again(),
+        };
+        (departed, None)
+    }
+}
