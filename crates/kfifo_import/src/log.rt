@@ -77,6 +77,16 @@ pub enum ImportFault {
     Memory,
 }
 
+impl From<AllocError> for ImportFault {
+    ghost use Rattle.kfifo_import.specs.declared.log.ImportFault.TheVariants.{Memory};
+
+    ghost from_gives = { λ _ fault. fault ≡ Memory };
+
+    fn from(_: AllocError) -> ImportFault {
+        ImportFault::Memory
+    }
+}
+
 /// The fault of the record as one of the log, whose calls these are.
 fn fault_of(calls: &[LoggedCall], fault: RecordFault) -> ImportFault
     ensures { result ≡ fault_among calls.now fault }
