@@ -7,7 +7,8 @@ use Rattle.kfifo_live.specs.Pass.{OpenQueue}
 use Rattle.kfifo_live.specs.Tokens.{new_token_passes}
 use Rattle.kfifo_pool.specs.Pooled.{Pooled, new_handle, new_handles}
 use Rattle.kfifo_renewing.specs.declared.change.Change.{Change}
-use Rattle.kfifo_renewing.specs.Renewing.{HasLeft, HeldIn, IsNew, IsUntouched, LeavesGone}
+use Rattle.kfifo_renewing.specs.History.{IsGone}
+use Rattle.kfifo_renewing.specs.Renewing.{EndsGone, HasLeft, HeldIn, IsNew, IsUntouched, LeavesGone}
 use Rattle.kfifo_renewing.proofs.Histories.{gone-later, made-later, prefix-trans}
 use Rattle.kfifo_renewing.proofs.Parts.{all-next}
 
@@ -28,6 +29,28 @@ module _ {T : Type 0} where
     sealed = l.sealed;
     promise = l.promise;
   }
+
+  pub ends-later : (xs ys : List Change) (hs kept : List (HeldIn T)) → IsPrefix xs ys → EndsGone xs hs kept
+      → EndsGone ys hs kept
+  ends-later xs ys [] kept p none = none
+  ends-later xs ys (h ∷ hs) kept p (inl (rest, is, e)) = inl (rest, is, ends-later xs ys hs rest p e)
+  ends-later xs ys (h ∷ hs) kept p (inr (gone, left, e)) =
+      inr (gone-later xs ys h.number p gone, left-later xs ys h p left, ends-later xs ys hs kept p e)
+
+  -- one handle more that is kept, and one more that has left
+  pub ends-kept : (log : List Change) (hs kept : List (HeldIn T)) (h : HeldIn T) → EndsGone log hs kept
+      → EndsGone log (hs ++ h ∷ []) (kept ++ h ∷ [])
+  ends-kept log [] kept h none = inl ([], ap (λ l. l ++ h ∷ []) none, refl)
+  ends-kept log (x ∷ hs) kept h (inl (rest, is, e)) =
+      inl (rest ++ h ∷ [], ap (λ l. l ++ h ∷ []) is, ends-kept log hs rest h e)
+  ends-kept log (x ∷ hs) kept h (inr (gone, left, e)) = inr (gone, left, ends-kept log hs kept h e)
+
+  pub ends-left : (log : List Change) (hs kept : List (HeldIn T)) (h : HeldIn T) → EndsGone log hs kept
+      → IsGone log h.number → HasLeft log h → EndsGone log (hs ++ h ∷ []) kept
+  ends-left log [] kept h none gone left = inr (gone, left, none)
+  ends-left log (x ∷ hs) kept h (inl (rest, is, e)) gone left = inl (rest, is, ends-left log hs rest h e gone left)
+  ends-left log (x ∷ hs) kept h (inr (was, had, e)) gone left =
+      inr (was, had, ends-left log hs kept h e gone left)
 
   pub leaves-later : (xs ys : List Change) (hs kept : List (HeldIn T)) → IsPrefix xs ys → LeavesGone xs hs kept
       → LeavesGone ys hs kept

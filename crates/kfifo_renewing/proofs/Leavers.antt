@@ -1,4 +1,4 @@
--- Passes that leave a generation come to those that have left it.
+-- Passes that leave a generation join those that have left it.
 use Rattle.std.proofs.Common.{◌≡◌, ◌+◌, ◌++◌, ℕ, List, [], ◌∷◌, All, length, length-append, map, refl, sym, ap, ◌∙◌}
 use Rattle.std.proofs.Common.{append_assoc, subst}
 use Rattle.std.specs.List.{AllByRecursion, Contains}

@@ -266,6 +266,13 @@ module _ {T : Type 0} where
   LeavesGone log (h ∷ hs) kept = ((rest : List (HeldIn T)) × (kept ≡ h ∷ rest) × LeavesGone log hs rest)
       ⊎ (IsGone log h.number × (h.handle.cells ≡ no_cells) × HasLeft log h × LeavesGone log hs kept)
 
+  -- Of these handles in generations, some are kept as they were, in their order. The generations of the others have
+  -- gone by this history, and they have left them, with the cells that they may have had there
+  abbrev pub EndsGone : List Change → List (HeldIn T) → List (HeldIn T) → Type 0
+  EndsGone log [] kept = kept ≡ []
+  EndsGone log (h ∷ hs) kept = ((rest : List (HeldIn T)) × (kept ≡ h ∷ rest) × EndsGone log hs rest)
+      ⊎ (IsGone log h.number × HasLeft log h × EndsGone log hs kept)
+
   -- a handle with the first starts, without free tokens or cells, whose thread has begun no call
   abbrev pub IsUntouched : Pooled T → Type 0
   IsUntouched h = (h ≡ new_handle h.held.pass) × HasNoEvent h.held.pass.pass
@@ -496,12 +503,12 @@ module _ {T : Type 0} where
   HaveSeen handles log = All (λ g. IsPrefix g.seen log) handles
 
   -- What a close has by its last handle: it learned what the others had seen, and then followed them to the generation
-  -- that was the newest of the queue at a look, so it is in each that has not gone: in these, the oldest first. This
-  -- log is the beginning of the history that it has then seen
+  -- that was the newest of the queue at a look, so it was in each that has not gone. By this log, the beginning of the
+  -- history that it has then seen, it has left some that have gone. It is still in these, the oldest first
   abbrev pub Gathers : List (Generations T) → Generations T → List (HeldIn T) → List Change → Type 0
   Gathers others last all log = (told : Generations T) × (told ≡ with_seen last told.seen) × IsLater last told
       × HaveSeen others told.seen × (here : Generations T) × Follows told here × IsAtNewest told here × HasAll here
-      × (all ≡ all_of here) × (here.seen ≡ log)
+      × IsPrefix here.seen log × EndsGone log (all_of here) all
 
   -- What a close by these handles returned, with this log, the beginning of the history that the last of them had seen:
   -- each of the generations that the last was then in was closed, the oldest first. All that a handle did in one of

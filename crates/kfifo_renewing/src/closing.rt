@@ -1,15 +1,17 @@
 //! The end of a renewing queue: all its handles are given up, and each of its generations is closed by their parts.
-ghost use Rattle.std.specs.Prelude.{◌≡◌, ◌≤◌, ◌+◌, ◌==◌, ◌++◌, [], ◌∷◌, All, IfOk, List, false, filter, map, not};
+ghost use Rattle.std.specs.Prelude.{◌≡◌, ◌≤◌, ◌+◌, ◌==◌, ◌++◌, [], ◌∷◌, All, IfOk, List, MatchOption, false, filter};
+ghost use Rattle.std.specs.Prelude.{map, not};
 ghost use Rattle.std.specs.List.{Contains};
 ghost use mathlib.Core.List.{IsPrefix};
 ghost use Rattle.kfifo_live.specs.Pass.{IsPassOf};
 ghost use Rattle.kfifo_pool.specs.Pooled.{Pooled};
 ghost use Rattle.kfifo_live.specs.declared.view.Opening.{Opening};
-ghost use Rattle.kfifo_renewing.specs.Joining.{HaveParts, IsBeside, IsPart, held_by, held_in};
+ghost use Rattle.kfifo_renewing.specs.History.{IsGone};
+ghost use Rattle.kfifo_renewing.specs.Joining.{HaveParts, IsBeside, IsPart, PartView, held_by, held_in};
 ghost use Rattle.kfifo_renewing.specs.declared.change.Change.{Change};
-ghost use Rattle.kfifo_renewing.specs.Renewing.{AreOfOneQueue, ClosesAll, ClosesEach, Gathers, Generations};
-ghost use Rattle.kfifo_renewing.specs.Renewing.{HaveOwnAmong};
-ghost use Rattle.kfifo_renewing.specs.Renewing.{HaveSeen, IsOpenedAs, WereLeft, opening_with, other_threads};
+ghost use Rattle.kfifo_renewing.specs.Renewing.{AreOfOneQueue, ClosesAll, ClosesEach, EndsGone, HasLeft};
+ghost use Rattle.kfifo_renewing.specs.Renewing.{Gathers, Generations, HaveOwnAmong, HaveSeen, IsOpenedAs, WereLeft};
+ghost use Rattle.kfifo_renewing.specs.Renewing.{opening_with, other_threads};
 
 use crate::handle::{JoinedAll, RenewingHandle};
 use crate::history::History;
@@ -17,6 +19,7 @@ use crate::joined::Joined;
 use crate::kind::Kind;
 use crate::leaving::Leaving;
 use crate::memory::CellMemory;
+use crate::places::Places;
 use kfifo_live::{CloseFault, Sizes};
 use kfifo_pool::{PooledHandle, PooledQueue};
 use std::alloc::{AllocError, Global};
@@ -136,6 +139,47 @@ fn take_apart<T: Drop, K: Kind<T>>(
     Ok(theirs)
 }
 
+/// This part, if its generation has not gone, or its pass cannot leave it. Else the pass leaves.
+fn stay<T: Drop>(
+    places: &Places<T>,
+    part: Leaving<Joined<T>>,
+    history: &mut History,
+) -> Option<Leaving<Joined<T>>>
+    requires book { history.old.book ≡ places.now.history.book }
+    requires part { IsPart history.old.log part × (part.book ≡ history.old.book) }
+    ensures later { (history.new.book ≡ history.old.book) × IsPrefix history.old.log history.new.log }
+    ensures left { MatchOption result (IsGone history.new.log part.number × HasLeft history.new.log (held_in part))
+        (λ back. back ≡ part) }
+{
+    if places.has(part.place(), part.number(), history) {
+        return Some(part);
+    }
+    part.depart(false, history)
+}
+
+/// Of these parts, those whose generation has not gone, or that cannot leave it. The others leave theirs.
+fn leave_gone<T: Drop>(
+    alloc: Global,
+    places: &Places<T>,
+    parts: Vec<Leaving<Joined<T>>>,
+    history: &mut History,
+) -> Result<Vec<Leaving<Joined<T>>>, AllocError>
+    requires book { history.old.book ≡ places.now.history.book }
+    requires parts { All (IsPart history.old.log) parts.items × All (λ p. p.book ≡ history.old.book) parts.items }
+    ensures later { (history.new.book ≡ history.old.book) × IsPrefix history.old.log history.new.log }
+    ensures left { IfOk result (λ kept. EndsGone history.new.log (held_by parts.items) (held_by kept.items)) }
+    ensures among { IfOk result (λ kept. (p : PartView T) → Contains kept.items p → Contains parts.items p) }
+{
+    let mut kept = Vec::new(alloc);
+    for part in parts {
+        let Some(part) = stay(places, part, history) else {
+            continue;
+        };
+        kept.push(part)?;
+    }
+    Ok(kept)
+}
+
 /// The parts of all handles of a queue: those of the last one, which has followed the others, and theirs. With them it
 /// returns what the last one has then seen of the history.
 pub(crate) fn gather<T: Drop, K: Kind<T>>(
@@ -165,9 +209,11 @@ pub(crate) fn gather<T: Drop, K: Kind<T>>(
     }
     let JoinedAll {
         shared,
-        history,
+        mut history,
         parts,
     } = last.into_joined()?;
+    // With a cell in hand a handle stays in a generation that has gone. If others have left it, it cannot be closed.
+    let parts = leave_gone(alloc, shared.places(), parts, &mut history)?;
     let Some(shared) = Arc::into_inner(shared) else {
         return Err(CloseFault::MissingPass);
     };
@@ -264,9 +310,9 @@ fn close_each<T: Drop>(alloc: Global, gathered: Gathered<T>) -> Result<Vec<T>, C
 /// Closes a queue by all its handles, and returns the payloads that are left, those of the oldest generation first, and
 /// what was seen of its history.
 ///
-/// The last handle first learns what the others have seen, and follows them. Of each of its generations they are what
-/// is left after the one schedule of all calls there, in the order of `PayQueue::close`. All that the handles that are
-/// given did there is in that schedule.
+/// The last handle first learns what the others have seen, follows them, and leaves what has gone. Of each of its
+/// generations they are what is left after the one schedule of all calls there, in the order of `PayQueue::close`. All
+/// that the handles that are given did there is in that schedule.
 ///
 /// The handles are of one queue. MissingPass where one of its handles is still elsewhere, or none is given; Memory
 /// where an allocation failed. The payloads are then dropped.

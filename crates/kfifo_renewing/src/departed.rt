@@ -30,8 +30,8 @@ impl<T: Drop> Fits for Departed<T> {
 }
 
 impl<T: Drop> Core<T> {
-    /// The pass of this part leaves the generation, and comes to these, which have left it. The first of them has to
-    /// have seen the generation sealed empty.
+    /// The pass of this part leaves the generation and joins these, which have left it. The first of them has to have
+    /// seen the generation sealed empty.
     ///
     /// Returns those that have then left, and the part where it does not leave.
     pub(crate) fn depart(

@@ -359,8 +359,8 @@ impl<T: Drop> Generation<T> {
         Ok((queue, others, memory))
     }
 
-    /// The pass of this part, which is in this generation, leaves it for good, and comes to those that have left. The
-    /// first of these has to have seen the generation sealed empty.
+    /// The pass of this part, which is in this generation, leaves it for good and joins those that have left. The first
+    /// of these has to have seen the generation sealed empty.
     ///
     /// Returns the part where it does not leave: none has left that has seen the generation sealed, or another thread
     /// is about to leave.

@@ -559,6 +559,8 @@ impl<T: Drop, K: Kind<T>> RenewingHandle<T, K> {
         ensures history { IfOk result (λ r. (r.history.book ≡ self.book) × (r.history.log ≡ self.seen)
             × All (IsPart r.history.log) r.parts.items) }
         ensures joined { IfOk result (λ r. held_by r.parts.items ≡ all_of self) }
+        ensures books { IfOk result (λ r. (r.history.book ≡ r.shared.value.history.book)
+            × All (λ p. p.book ≡ r.history.book) r.parts.items) }
         ensures of { IfOk result (λ r. All (λ p. IsOpenedAs (opening_in r.shared.value) p.handle) r.parts.items) }
     {
         let Self {

@@ -297,7 +297,7 @@ impl Next {
     }
 
     /// Counts the pass of this part among those that have left the generation, which is the newest no more, if so many
-    /// have. Returns whether it did.
+    /// have left before. Returns whether it did.
     pub(crate) fn depart<T: Drop>(
         &self,
         count: u64,

@@ -330,6 +330,29 @@ fn cells_in_hand_outlive_changes(rt: HostRuntime) -> Result<(), Fail> {
     Ok(())
 }
 
+/// A queue is closed while a handle has a cell of a generation that has gone, and that the other handle has left.
+#[test]
+fn closes_beside_a_cell_of_what_has_gone(rt: HostRuntime) -> Result<(), Fail> {
+    for (keeper, other) in [(0, 1), (1, 0)] {
+        let mut handles = open_short(rt.alloc(), 2, 64, 1)?;
+        let first = handles.give(other);
+        assert_eq!(rt; handles.got(keeper), first);
+        for turn in 0..1_000 {
+            let cell = handles.give(other);
+            assert!(rt; cell.is_some());
+            assert_eq!(rt; handles.got(other), cell);
+            if turn == 500 {
+                // It follows, and so gives no more to the generation whose cell it has.
+                assert_eq!(rt; handles.generations(keeper), Some(2));
+            }
+        }
+        assert_eq!(rt; handles.receive(other), Taken::Empty);
+        assert_eq!(rt; handles.generations(other), Some(2));
+        assert_eq!(rt; count_left(handles.close(rt.alloc())?.as_slice()), 0);
+    }
+    Ok(())
+}
+
 /// A queue grows to its bound, and no further. What is left then comes back by generations, the oldest first.
 #[test]
 fn grows_to_its_bound(rt: HostRuntime) -> Result<(), Fail> {

@@ -1,4 +1,4 @@
-use Rattle.std.proofs.Common.{All, [], ◌∷◌, ◌++◌, sym, ap, ◌∙◌, subst}
+use Rattle.std.proofs.Common.{◌≡◌, All, [], ◌∷◌, ◌++◌, sym, ap, ◌∙◌, subst}
 use Rattle.std.proofs.lemmas.List.{map-append}
 use Rattle.std.proofs.lemmas.List.Elements.{All-push}
 use Rattle.kfifo_renewing.specs.Joining.{IsPart, PartView, held_by, held_in}
@@ -33,4 +33,14 @@ returns-clause-history g c =
           (sym (c.in_ok-push.ensures.items ∙ ap (λ l. l ++ c.self.inside.newest ∷ []) c.into_parts-parts.ensures))
           (All-push (IsPart log) c.self.inside.older.items c.self.inside.newest c.self.invariant.0.older_parts
           c.self.invariant.0.newest_part),
+    )
+
+pub returns-clause-books : goal.returns-clause-books
+returns-clause-books g c =
+    let P : PartView g.row.T.Denot → Type 0 = λ (p : PartView g.row.T.Denot). p.book ≡ c.self.inside.history.book in (
+      c.self.invariant.0.same_book,
+      subst (All P)
+          (sym (c.in_ok-push.ensures.items ∙ ap (λ l. l ++ c.self.inside.newest ∷ []) c.into_parts-parts.ensures))
+          (All-push P c.self.inside.older.items c.self.inside.newest
+          (λ k d inside. (c.self.invariant.0.older_opened k d inside).1) c.self.invariant.0.newest_opened.1),
     )
