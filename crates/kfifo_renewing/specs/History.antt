@@ -69,7 +69,7 @@ pub record IsGone (log : List Change) (n : ℕ) : Type 0 where
   pub made : IsMade log n sealed.queue.table
   pub empty : SealedEmpty sealed.shape sealed.threads sealed.seen
 
--- what the passes had seen that left the generation with this number, the first first
+-- what each pass that left the generation with this number had seen, the first to leave first
 abbrev pub left_of : ℕ → List Change → List Sight
 left_of n [] = []
 left_of n (C.Made q ∷ log) = left_of n log
@@ -200,8 +200,8 @@ abbrev pub Looks : Step Change → View Change ℕ → ℕ → View Change ℕ �
 Looks s v found w = (sight : Sight) (n : ℕ) → s.ask ≡ C.Look sight → s.key ≡ key_of n
     → Finds sight n (next_in found) v.0 w.0
 
--- What a step tells by which a pass leaves a generation: where it did, no other had left that since as many had as the
--- word said
+-- What a step tells that makes a pass leave generation n. If it succeeds, then only this pass has left n since the
+-- moment when as many had left it as the word said
 abbrev pub Leaves : Step Change → View Change ℕ → ℕ → View Change ℕ → Type 0
 Leaves s v found w = (sight : Sight) (n : ℕ) (before : List Change) → s.ask ≡ C.Left n sight → s.key ≡ key_of n
     → found ≡ s.old → IsPrefix before v.0 → length (left_of n before) ≡ left_in s.old

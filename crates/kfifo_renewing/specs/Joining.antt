@@ -44,8 +44,8 @@ module _ {T : Type 0} where
   abbrev pub IsSealedPart : PartView T → Type 0
   IsSealedPart p = HasSeenSealed p.handle.held.pass.pass
 
-  -- A part whose generation its handle may leave, by this book and this beginning of the history: it is the newest no
-  -- more. If it is the first to leave it, it has to have seen that sealed empty
+  -- A part that may leave its generation, by this book and this beginning of the history: that is no longer the newest.
+  -- Where `is_sealed` is true, the part has seen it sealed empty, as the first to leave has to
   pub record MayLeave (book : Book) (log : List Change) (is_sealed : Bool) (p : PartView T) : Type 0 where
     pub same_book : p.book ≡ book
     pub was : WasNewest log p.number

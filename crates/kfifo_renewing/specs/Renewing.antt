@@ -246,8 +246,8 @@ module _ {T : Type 0} where
   IsBehind old new = (number : ℕ) × NewestWas (sight new) number old.seen new.seen × (number ≢ new.number)
       × IsNumbered new
 
-  -- A handle has left its generation, as the history tells. One schedule of that generation has all that the passes did
-  -- there which had left by then, this handle's among them, and after a beginning of it the generation was sealed empty
+  -- A handle has left its generation, as the history tells. One schedule of that generation has all that the passes
+  -- that had left by then did there, this handle's among them. After a beginning of it the generation was sealed empty
   pub record HasLeft (log : List Change) (h : HeldIn T) : Type 0 where
     pub before : List Change
     pub earlier : IsPrefix before log
@@ -267,7 +267,7 @@ module _ {T : Type 0} where
       ⊎ (IsGone log h.number × (h.handle.cells ≡ no_cells) × HasLeft log h × LeavesGone log hs kept)
 
   -- Of these handles in generations, some are kept as they were, in their order. The generations of the others have
-  -- gone by this history, and they have left them, with the cells that they may have had there
+  -- gone by this history, and they have left them, even those that had cells there
   abbrev pub EndsGone : List Change → List (HeldIn T) → List (HeldIn T) → Type 0
   EndsGone log [] kept = kept ≡ []
   EndsGone log (h ∷ hs) kept = ((rest : List (HeldIn T)) × (kept ≡ h ∷ rest) × EndsGone log hs rest)
@@ -503,8 +503,9 @@ module _ {T : Type 0} where
   HaveSeen handles log = All (λ g. IsPrefix g.seen log) handles
 
   -- What a close has by its last handle: it learned what the others had seen, and then followed them to the generation
-  -- that was the newest of the queue at a look, so it was in each that has not gone. By this log, the beginning of the
-  -- history that it has then seen, it has left some that have gone. It is still in these, the oldest first
+  -- that was the newest of the queue at a look, so after that look it was in each that has not gone. By this log, the
+  -- beginning of the history that it has then seen, it has left some that have gone. It is still in these, the oldest
+  -- first
   abbrev pub Gathers : List (Generations T) → Generations T → List (HeldIn T) → List Change → Type 0
   Gathers others last all log = (told : Generations T) × (told ≡ with_seen last told.seen) × IsLater last told
       × HaveSeen others told.seen × (here : Generations T) × Follows told here × IsAtNewest told here × HasAll here

@@ -16,7 +16,7 @@ impl Model for Made {
     ghost also_owns = { λ m. ftrue };
 }
 
-/// What a pass had seen when its handle looked which generation is the newest, or as it left its generation.
+/// What a pass had seen when its handle looked for the newest generation, or as it left its generation.
 pub struct Sight {
     /// The thread of the pass.
     pub thread: u32,

@@ -92,8 +92,8 @@ pub(crate) struct Gathered<T: Drop> {
     pub(crate) history: History,
 }
 
-/// What is left of a closed queue, and what was seen of its history, which has no bytes: what is proved of a close
-/// speaks of that, so no made-up history meets it.
+/// What is left of a closed queue, and the history that its last handle had seen, which has no bytes. The clauses of a
+/// close speak of it, so a made-up history cannot meet them.
 #[derive(Drop)]
 pub struct Closed<L: Drop> {
     /// What is left, that of the oldest generation first.
@@ -139,7 +139,7 @@ fn take_apart<T: Drop, K: Kind<T>>(
     Ok(theirs)
 }
 
-/// This part, if its generation has not gone, or its pass cannot leave it. Else the pass leaves.
+/// Returns this part if its generation has not gone, or its pass cannot leave that. Otherwise the pass leaves it.
 fn stay<T: Drop>(
     places: &Places<T>,
     part: Leaving<Joined<T>>,
@@ -157,7 +157,7 @@ fn stay<T: Drop>(
     part.depart(false, history)
 }
 
-/// Of these parts, those whose generation has not gone, or that cannot leave it. The others leave theirs.
+/// Returns those of these parts whose generation has not gone, or that cannot leave it. The others leave theirs.
 fn leave_gone<T: Drop>(
     alloc: Global,
     places: &Places<T>,
@@ -203,7 +203,7 @@ pub(crate) fn gather<T: Drop, K: Kind<T>>(
     let mut seen = last.history().again();
     let theirs = take_apart(alloc, handles, &mut seen)?;
     last.learn(&seen);
-    // A generation that another handle has left cannot be closed any more, and has gone.
+    // A generation that another handle has left has gone, and cannot be closed any more: so leave it.
     if !last.catch_up() {
         return Err(CloseFault::Memory);
     }
@@ -212,7 +212,8 @@ pub(crate) fn gather<T: Drop, K: Kind<T>>(
         mut history,
         parts,
     } = last.into_joined()?;
-    // With a cell in hand a handle stays in a generation that has gone. If others have left it, it cannot be closed.
+    // With a cell in hand a handle stays in a generation that has gone. If others have left that generation, it cannot
+    // be closed, so the last handle leaves it now.
     let parts = leave_gone(alloc, shared.places(), parts, &mut history)?;
     let Some(shared) = Arc::into_inner(shared) else {
         return Err(CloseFault::MissingPass);
@@ -310,9 +311,9 @@ fn close_each<T: Drop>(alloc: Global, gathered: Gathered<T>) -> Result<Vec<T>, C
 /// Closes a queue by all its handles, and returns the payloads that are left, those of the oldest generation first, and
 /// what was seen of its history.
 ///
-/// The last handle first learns what the others have seen, follows them, and leaves what has gone. Of each of its
-/// generations they are what is left after the one schedule of all calls there, in the order of `PayQueue::close`. All
-/// that the handles that are given did there is in that schedule.
+/// The last handle first learns what the others have seen, follows them, and leaves what has gone. Of each generation
+/// that it is then in, these payloads are what is left after the one schedule of all calls there, in the order of
+/// `PayQueue::close`. All that the handles that are given did there is in that schedule.
 ///
 /// The handles are of one queue. MissingPass where one of its handles is still elsewhere, or none is given; Memory
 /// where an allocation failed. The payloads are then dropped.

@@ -30,10 +30,10 @@ impl<T: Drop> Fits for Departed<T> {
 }
 
 impl<T: Drop> Core<T> {
-    /// The pass of this part leaves the generation and joins these, which have left it. The first of them has to have
-    /// seen the generation sealed empty.
+    /// Tries to have the pass of this part leave the generation and join these, which have left it. The first of them
+    /// has to have seen the generation sealed empty.
     ///
-    /// Returns those that have then left, and the part where it does not leave.
+    /// Returns those that have then left, and the part if it stays.
     pub(crate) fn depart(
         &self,
         departed: Option<Departed<T>>,
@@ -60,7 +60,7 @@ impl<T: Drop> Core<T> {
         }
     }
 
-    /// The pass of this part, which has seen the generation sealed empty, leaves it as the first.
+    /// Tries to have the pass of this part leave the generation as the first. It has seen that sealed empty.
     fn begin(
         &self,
         part: Leaving<Joined<T>>,
@@ -84,7 +84,7 @@ impl<T: Drop> Core<T> {
         (Some(departed), None)
     }
 
-    /// The pass of this part leaves the generation as these have.
+    /// Tries to have the pass of this part leave the generation and join these.
     fn join(
         &self,
         departed: Departed<T>,

@@ -359,11 +359,10 @@ impl<T: Drop> Generation<T> {
         Ok((queue, others, memory))
     }
 
-    /// The pass of this part, which is in this generation, leaves it for good and joins those that have left. The first
-    /// of these has to have seen the generation sealed empty.
+    /// Tries to have the pass of this part leave the generation for good, and join those that have left it.
     ///
-    /// Returns the part where it does not leave: none has left that has seen the generation sealed, or another thread
-    /// is about to leave.
+    /// Returns the part if it stays: nobody has left yet and this pass has not seen the generation sealed, another
+    /// thread is leaving, or another pass was counted first.
     pub(crate) fn depart(
         &self,
         part: Leaving<Joined<T>>,

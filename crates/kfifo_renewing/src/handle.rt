@@ -343,8 +343,8 @@ impl<T: Drop, K: Kind<T>> RenewingHandle<T, K> {
         self.shared.numbers().newest(&mut self.history)
     }
 
-    /// Leaves the older generation at this index, if that has gone and the handle has no cell there. Returns whether it
-    /// did. The first pass to leave it has to have seen it sealed empty.
+    /// Tries to leave the older generation at this index, if that has gone and the handle has no cell there. Returns
+    /// whether it left. The first pass to leave it has to have seen it sealed empty.
     pub(crate) fn leave_if_gone(&mut self, index: usize, is_sealed: bool) -> bool
         requires index { index < length self.old.older }
         requires sealed { is_sealed ≡ true → HasSealedAt self.old.older index }
@@ -367,7 +367,8 @@ impl<T: Drop, K: Kind<T>> RenewingHandle<T, K> {
         has_left
     }
 
-    /// Leaves those of the older generations that have gone: they are sealed empty.
+    /// Leaves each older generation that has gone, that another pass has left, and in which the handle has no cell. It
+    /// stays where another thread is leaving.
     pub(crate) fn leave_gone(&mut self)
         ensures same { self.new ≡ with_older (with_seen self.old self.new.seen) self.new.older }
         ensures later { IsLater self.old self.new }
@@ -453,7 +454,7 @@ impl<T: Drop, K: Kind<T>> RenewingHandle<T, K> {
         true
     }
 
-    /// Leaves the generations that have gone, and then follows others, as `keep_up` does.
+    /// Leaves generations as `leave_gone` does, and then follows others as `keep_up` does.
     pub(crate) fn catch_up(&mut self) -> bool
         ensures follows { Follows self.old self.new }
         ensures newest { MatchBool result (IsAtNewest self.old self.new) (IsBehind self.old self.new) }

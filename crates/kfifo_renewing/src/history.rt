@@ -176,7 +176,7 @@ impl<T: Drop> Opening<PooledQueue<T>, Change> for Numbering {
     ghost log = { λ count queue. making_of queue.table ∷ [] };
 }
 
-/// What the word of a generation is more by for each pass that has left it.
+/// What each pass that leaves a generation adds to its word.
 const ONE_LEFT: u64 = 0x1_0000_0000;
 
 /// What a generation says of the next one, its number once there is one, and 0 before; and how many passes have left
@@ -296,8 +296,8 @@ impl Next {
         found == 0
     }
 
-    /// Counts the pass of this part among those that have left the generation, which is the newest no more, if so many
-    /// have left before. Returns whether it did.
+    /// Counts the pass of this part among those that have left the generation, if exactly `count` have left it before.
+    /// The generation is no longer the newest. Returns whether it counted the pass.
     pub(crate) fn depart<T: Drop>(
         &self,
         count: u64,
@@ -335,7 +335,7 @@ impl Next {
     }
 }
 
-/// The number of a later generation in the word of one.
+/// The lower half of the word of a generation: the number of a later one, or 0.
 #[inline(always)]
 fn next_in(word: u64) -> u64
     ensures { result ≡ next_of word }

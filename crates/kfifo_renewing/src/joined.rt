@@ -141,7 +141,8 @@ impl<T: Drop> Leaving<Joined<T>> {
         handle
     }
 
-    /// Leaves the generation, which has gone, as `Generation::depart` does.
+    /// Tries to leave the generation, which is no longer the newest, as `Generation::depart` does. Returns the part if
+    /// it stays.
     pub(crate) fn depart(self, is_sealed: bool, history: &mut History) -> Option<Leaving<Joined<T>>>
         requires { MayLeave history.old.book history.old.log is_sealed self }
         ensures later { (history.new.book ≡ history.old.book) × IsPrefix history.old.log history.new.log }

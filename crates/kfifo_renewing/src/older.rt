@@ -103,7 +103,8 @@ impl<T: Drop> Older<T> {
         let _ = self.parts.append(between);
     }
 
-    /// Leaves the generation at this index, which has gone. Returns whether it did. Else all is as before.
+    /// Tries to leave the generation at this index, which is no longer the newest. Returns whether it left. Else all is
+    /// as before.
     pub(crate) fn leave(&mut self, index: usize, is_sealed: bool, history: &mut History) -> bool
         requires { (p : PartView T) × (slice_get self.old.items index ≡ Some p)
             × MayLeave history.old.book history.old.log is_sealed p }
@@ -122,8 +123,8 @@ impl<T: Drop> Older<T> {
         false
     }
 
-    /// Takes from the first that is not found empty. Says whether it found one empty, and which one is sealed: such a
-    /// one goes from its place.
+    /// Takes from the first that is not found empty. Says whether it found one empty, and the index of the first that
+    /// it found sealed. Each sealed one goes from its place.
     #[inline(always)]
     pub(crate) fn take_first<K: Kind<T>>(
         &mut self,
@@ -245,8 +246,8 @@ fn retire_if<T: Drop>(
     }
 }
 
-/// Takes from the first of these generations that is not empty. Says whether it found one empty, and which one is
-/// sealed: such a one goes from its place.
+/// Takes from the first of these generations that is not empty. Says whether it found one empty, and the index of the
+/// first that it found sealed. Each sealed one goes from its place.
 fn take_first<T: Drop, K: Kind<T>>(
     generations: &mut [Leaving<Joined<T>>],
     places: &Places<T>,
@@ -281,7 +282,7 @@ fn take_first<T: Drop, K: Kind<T>>(
     }
 }
 
-/// The index of the first generation that is sealed, by whether the first one is, and that of the first one behind it.
+/// The index of the first sealed generation: 0 if the first one is sealed, else one more than that among the rest.
 fn first_sealed(is_sealed: bool, behind: Option<usize>) -> Option<usize>
     ensures { (index : ℕ) → result ≡ Some index
         → ((is_sealed ≡ true) × (index ≡ 0)) ⊎ ((next : ℕ) × (behind ≡ Some next) × (index ≡ next + 1)) }

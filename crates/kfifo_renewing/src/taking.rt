@@ -34,8 +34,8 @@ impl<T: Drop, K: Kind<T>> RenewingHandle<T, K> {
         taken
     }
 
-    /// Takes from the first of the older generations that is not found empty. Says whether it found one empty, and
-    /// which one is sealed.
+    /// Takes from the first of the older generations that is not found empty. Says whether it found one empty, and the
+    /// index of the first that it found sealed.
     #[inline(always)]
     fn take_first(
         &mut self,
@@ -52,8 +52,7 @@ impl<T: Drop, K: Kind<T>> RenewingHandle<T, K> {
             .take_first::<K>(places, &mut self.history, found_empty, sealed)
     }
 
-    /// Leaves the older generation at this index, which the handle has seen sealed empty. The first to leave one has to
-    /// have seen that.
+    /// Tries to leave the older generation at this index, which the handle has seen sealed empty.
     fn leave_sealed(&mut self, sealed: Option<usize>)
         requires { IfSome sealed (HasSealedAt self.old.older) }
         ensures same { self.new ≡ with_older (with_seen self.old self.new.seen) self.new.older }
