@@ -476,6 +476,20 @@ module _ {T : Type 0} where
   fewer-left true ps qs i is inside = ap (λ l. length l + 1) is ∙ less-length ps i inside
   fewer-left false ps qs i is inside = let same = ap length is in omega (arith, same)
 
+-- the element at an index of a list by another name
+pub get-there : {A : Type 0} (xs ys : List A) (i : ℕ) (x : A) → ys ≡ xs → i < length xs → x ≡ slice_index_or ys i x
+    → slice_get xs i ≡ Some x
+get-there xs ys i x same inside is =
+    subst (λ l. slice_get l i ≡ Some x) same
+    (get-at ys i x x (let long = ap length same in omega (arith, inside, long)) is)
+
+-- a look at a place that did not find the generation that was shown there
+pub gone-there : (old new : List Change) (n place m i : ℕ) → (IsPlaced old m i → IsGone new m) → m ≡ n → i ≡ place
+    → IsPlaced old n place → IsGone new n
+gone-there old new n place m i finds number at there =
+    subst (IsGone new) number
+    (finds (subst (λ k. IsPlaced old k i) (sym number) (subst (IsPlaced old n) (sym at) there)))
+
 pub get-of : {A : Type 0} (xs : List A) (i : ℕ) (x d : A) → slice_get xs i ≡ Some x → slice_index_or xs i d ≡ x
 get-of [] i x d at = absurd cc
 get-of (y ∷ xs) zero x d at = cc

@@ -8,7 +8,7 @@ use Rattle.kfifo_renewing.specs.Joining.{HasSealedAt, IsPartOf, PartView, held_b
 use Rattle.kfifo_renewing.specs.Renewing.{Generations, HeldIn, LeavesGone, opening_in}
 use Rattle.kfifo_renewing.proofs.Histories.{contains-later, gone-later, prefix-trans}
 use Rattle.kfifo_renewing.proofs.Keeping.{kept-below, kept-risen}
-use Rattle.kfifo_renewing.proofs.Joining.{at-all, fewer-left, get-at, held-left, joined-later, joined-left, part-at}
+use Rattle.kfifo_renewing.proofs.Joining.{at-all, fewer-left, get-there, gone-there, held-left, joined-later, joined-left, part-at}
 use Rattle.kfifo_renewing.proofs.Joining.{sealed-at}
 use Rattle.kfifo_renewing.proofs.Following.{later-by}
 use Rattle.kfifo_renewing.proofs.Departures.{leaves-refl, left-later}
@@ -51,20 +51,15 @@ leave-has_left-requires g c =
     let new = c.has.new.history.log in
     let o = opening_in s.shared.value in
     let p = c.index-parts-index.result in
-    let at : slice_get s.older.items c.args.index ≡ Some p =
-    subst (λ l. slice_get l c.args.index ≡ Some p) c.parts.ensures
-    (get-at c.parts.result.now c.args.index p p
-    (omega (
+    let at = get-there s.older.items c.parts.result.now c.args.index p c.parts.ensures (omega (
       arith,
       c.requires.index,
-      ap length c.parts.ensures,
       length-map s.older.items (λ (q : PartView T). held_in q),
       ap (λ (h : Generations T). length h.older) c.self.view_is,
-    )) c.index-parts-index.is) in
+    )) c.index-parts-index.is in
     let part = part-at s.history.log s.older.items c.args.index p j.older_parts at in
-    let gone : IsGone new p.number = subst (IsGone new) c.number-number.ensures
-    (c.if-has.ensures.finds (subst (λ k. IsPlaced s.history.log c.number-number.result k) (sym c.place-place.ensures)
-    (subst (λ n. IsPlaced s.history.log n p.place) (sym c.number-number.ensures) part.placed))) in (
+    let gone = gone-there s.history.log new p.number p.place c.number-number.result c.place-place.result
+    c.if-has.ensures.finds c.number-number.ensures c.place-place.ensures part.placed in (
       p,
       at,
       record {
@@ -90,21 +85,16 @@ invariant_of-self-2 g c = (
       let mid = c.leave-has_left.new.history.log in
       let log = c.learn.new.self.log in
       let p = c.index-parts-index.result in
-      let at : slice_get s.older.items c.args.index ≡ Some p =
-      subst (λ l. slice_get l c.args.index ≡ Some p) c.parts.ensures
-      (get-at c.parts.result.now c.args.index p p
-      (omega (
+      let at = get-there s.older.items c.parts.result.now c.args.index p c.parts.ensures (omega (
         arith,
         c.requires.index,
-        ap length c.parts.ensures,
         length-map s.older.items (λ (q : PartView T). held_in q),
         ap (λ (h : Generations T). length h.older) c.self.view_is,
-      )) c.index-parts-index.is) in
+      )) c.index-parts-index.is in
       let part = part-at s.history.log s.older.items c.args.index p j.older_parts at in
-      let gone : IsGone log p.number = gone-later new log p.number
-      (prefix-trans new mid log left.later.1 c.learn.ensures.2) (subst (IsGone new) c.number-number.ensures
-      (c.if-has.ensures.finds (subst (λ k. IsPlaced s.history.log c.number-number.result k) (sym c.place-place.ensures)
-      (subst (λ n. IsPlaced s.history.log n p.place) (sym c.number-number.ensures) part.placed)))) in
+      let gone = gone-later new log p.number (prefix-trans new mid log left.later.1 c.learn.ensures.2)
+      (gone-there s.history.log new p.number p.place c.number-number.result c.place-place.result
+      c.if-has.ensures.finds c.number-number.ensures c.place-place.ensures part.placed) in
       let o = opening_in s.shared.value in
       joined-left c.leave-has_left.result o s.shared.value.history.book c.learn.new.self.book log s.generation.value
       s.newest s.older.items c.leave-has_left.new.self.items c.args.index p
@@ -143,21 +133,16 @@ returns-clause-older g c =
     let mid = c.leave-has_left.new.history.log in
     let log = c.learn.new.self.log in
     let p = c.index-parts-index.result in
-    let at : slice_get s.older.items c.args.index ≡ Some p =
-    subst (λ l. slice_get l c.args.index ≡ Some p) c.parts.ensures
-    (get-at c.parts.result.now c.args.index p p
-    (omega (
+    let at = get-there s.older.items c.parts.result.now c.args.index p c.parts.ensures (omega (
       arith,
       c.requires.index,
-      ap length c.parts.ensures,
       length-map s.older.items (λ (q : PartView T). held_in q),
       ap (λ (h : Generations T). length h.older) c.self.view_is,
-    )) c.index-parts-index.is) in
+    )) c.index-parts-index.is in
     let part = part-at s.history.log s.older.items c.args.index p j.older_parts at in
-    let gone : IsGone log p.number = gone-later new log p.number
-    (prefix-trans new mid log left.later.1 c.learn.ensures.2) (subst (IsGone new) c.number-number.ensures
-    (c.if-has.ensures.finds (subst (λ k. IsPlaced s.history.log c.number-number.result k) (sym c.place-place.ensures)
-    (subst (λ n. IsPlaced s.history.log n p.place) (sym c.number-number.ensures) part.placed)))) in
+    let gone = gone-later new log p.number (prefix-trans new mid log left.later.1 c.learn.ensures.2)
+    (gone-there s.history.log new p.number p.place c.number-number.result c.place-place.result
+    c.if-has.ensures.finds c.number-number.ensures c.place-place.ensures part.placed) in
     subst (λ hs. LeavesGone log hs (held_by c.leave-has_left.new.self.items))
     (ap (λ (h : Generations T). h.older) c.self.view_is)
     (held-left c.leave-has_left.result log s.older.items c.leave-has_left.new.self.items c.args.index p left.items at
