@@ -1,5 +1,5 @@
 //! The passes that have left a generation.
-ghost use Rattle.std.specs.Prelude.{◌≡◌, IfSome, MatchOption, Some, None, false, true};
+ghost use Rattle.std.specs.Prelude.{◌≡◌, IfSome, MatchOption, false, true};
 ghost use mathlib.Core.List.{IsPrefix};
 ghost use Rattle.kfifo_renewing.specs.Departed.{HaveDeparted};
 ghost use Rattle.kfifo_renewing.specs.Joining.{IsPartIn, MayLeave, held_in};
@@ -17,9 +17,9 @@ use kfifo_live::TokenGroup;
 /// left.
 #[derive(Drop)]
 pub(crate) struct Departed<T: Drop> {
-    passes: Exclusive<TokenGroup<T>>,
-    count: u64,
-    history: History,
+    pub(crate) passes: Exclusive<TokenGroup<T>>,
+    pub(crate) count: u64,
+    pub(crate) history: History,
 }
 
 impl<T: Drop> Fits for Departed<T> {
@@ -30,38 +30,8 @@ impl<T: Drop> Fits for Departed<T> {
 }
 
 impl<T: Drop> Core<T> {
-    /// Tries to have the pass of this part leave the generation and join these, which have left it. The first of them
-    /// has to have seen the generation sealed empty.
-    ///
-    /// Returns those that have then left, and the part if it stays.
-    pub(crate) fn depart(
-        &self,
-        departed: Option<Departed<T>>,
-        part: Leaving<Joined<T>>,
-        is_sealed: bool,
-        history: &mut History,
-    ) -> (Option<Departed<T>>, Option<Leaving<Joined<T>>>)
-        requires departed { IfSome departed (λ d. HaveDeparted self.now d.history.book d.history.log d.count
-            d.passes.inner) }
-        requires part { IsPartIn self.now part }
-        requires may { MayLeave history.old.book history.old.log is_sealed part }
-        ensures departed { IfSome result.0 (λ d. HaveDeparted self.now d.history.book d.history.log d.count
-            d.passes.inner) }
-        ensures later { (history.new.book ≡ history.old.book) × IsPrefix history.old.log history.new.log }
-        ensures left { MatchOption result.1 (HasLeft history.new.log (held_in part)) (λ back. back ≡ part) }
-    {
-        match departed {
-            Some(departed) => {
-                let (departed, back) = self.join(departed, part, history);
-                (Some(departed), back)
-            }
-            None if is_sealed => self.begin(part, history),
-            None => (None, Some(part)),
-        }
-    }
-
     /// Tries to have the pass of this part leave the generation as the first. It has seen that sealed empty.
-    fn begin(
+    pub(crate) fn begin(
         &self,
         part: Leaving<Joined<T>>,
         history: &mut History,
@@ -85,7 +55,7 @@ impl<T: Drop> Core<T> {
     }
 
     /// Tries to have the pass of this part leave the generation and join these.
-    fn join(
+    pub(crate) fn join(
         &self,
         departed: Departed<T>,
         part: Leaving<Joined<T>>,

@@ -7,6 +7,7 @@ ghost use Rattle.std.specs.List.{Contains};
 ghost use Rattle.kfifo_pool.specs.Pooled.{Pooled};
 ghost use Rattle.kfifo_live.specs.Pass.{IsPassOf};
 ghost use mathlib.Core.List.{IsPrefix};
+ghost use Rattle.kfifo_renewing.specs.Departed.{HaveDeparted};
 ghost use Rattle.kfifo_renewing.specs.History.{IsMade};
 ghost use Rattle.kfifo_renewing.specs.Joining.{IsPartIn, MayLeave, held_in};
 ghost use Rattle.kfifo_renewing.specs.Renewing.{HasLeft, IsFresh, IsUntouched, Numbered, other_threads, without};
@@ -381,13 +382,28 @@ impl<T: Drop> Generation<T> {
         }
         // With `PRESENT` the place is this thread's alone: nobody reads there, and others leave it as it is.
         let before = claim.put(None, PRESENT);
-        let (after, back) = self.core.depart(before, part, is_sealed, history);
-        let (found, claim) = self.departed.turn(PRESENT, TAKEN);
-        if found == PRESENT {
-            let _ = claim.put(after, FREE);
-        } else {
-            claim.done();
-        }
+        let (after, back) = match before {
+            Some(departed) => {
+                let (departed, back) = self.core.join(departed, part, history);
+                (Some(departed), back)
+            }
+            None if is_sealed => self.core.begin(part, history),
+            // The first to leave has to have seen the generation sealed empty.
+            None => (None, Some(part)),
+        };
+        self.put_back(after);
         back
+    }
+
+    /// Gives back what this thread took out of the place of those that have left.
+    fn put_back(&self, departed: Option<Departed<T>>)
+        requires { IfSome departed (λ d. HaveDeparted self.now d.history.book d.history.log d.count d.passes.inner) }
+    {
+        let (found, claim) = self.departed.turn(PRESENT, TAKEN);
+        if found != PRESENT {
+            claim.done();
+            return;
+        }
+        let _ = claim.put(departed, FREE);
     }
 }

@@ -3,7 +3,7 @@ ghost use Rattle.std.specs.Prelude.{◌≡◌, ◌<◌, ◌≤◌, ◌+◌, ◌%
 ghost use mathlib.Core.List.{IsPrefix};
 ghost use Rattle.logbook.specs.Pages.{Cell, may_make_home, nib};
 ghost use Rattle.kfifo_renewing.specs.History.{AreLabels, FindsThere, IsGone, IsKept, IsPlaced, WasNewest, key_of};
-ghost use Rattle.kfifo_renewing.specs.History.{label_of, newest_of, place_count, shows};
+ghost use Rattle.kfifo_renewing.specs.History.{TellsPlace, label_of, newest_of, place_count, shows};
 ghost use Rattle.kfifo_renewing.specs.Joining.{IsPart, IsSealedPart};
 
 use crate::change::Change;
@@ -48,11 +48,11 @@ impl Label {
         Label { place, word }
     }
 
-    /// The number of the generation that is in the place, as one load finds it.
-    pub(crate) fn look(&self, history: &mut History) -> Option<u32>
+    /// The word of the place, as one load finds it.
+    fn read(&self, history: &mut History) -> u64
         requires { history.old.book ≡ self.now.book }
         ensures later { (history.new.book ≡ history.old.book) × IsPrefix history.old.log history.new.log }
-        ensures finds { FindsThere self.now.place result history.old.log history.new.log }
+        ensures tells { TellsPlace history.new.log self.now.place result }
         ensures kept { (cells : List Cell) × IsKept cells history.new.log }
     {
         let mut offer: Offer<Change, u64, HistoryRule, NoGain> = history.plain::<
@@ -60,8 +60,17 @@ impl Label {
             u32,
             Naming,
         >(&self.place);
-        let found = self.word.load::<LookingThere, NoGain>(history, &mut offer);
-        number_in(found)
+        self.word.load::<LookingThere, NoGain>(history, &mut offer)
+    }
+
+    /// The number of the generation that is in the place, as one load finds it.
+    pub(crate) fn look(&self, history: &mut History) -> Option<u32>
+        requires { history.old.book ≡ self.now.book }
+        ensures later { (history.new.book ≡ history.old.book) × IsPrefix history.old.log history.new.log }
+        ensures finds { FindsThere self.now.place result history.old.log history.new.log }
+        ensures kept { (cells : List Cell) × IsKept cells history.new.log }
+    {
+        number_in(self.read(history))
     }
 
     /// What the word of the place is, as one load finds it, if no generation is there, and the one with this number was
@@ -71,12 +80,7 @@ impl Label {
         ensures later { (history.new.book ≡ history.old.book) × IsPrefix history.old.log history.new.log }
         ensures none { IfSome result (λ word. word % 2 ≡ 0) }
     {
-        let mut offer: Offer<Change, u64, HistoryRule, NoGain> = history.plain::<
-            NoGain,
-            u32,
-            Naming,
-        >(&self.place);
-        let found = self.word.load::<LookingThere, NoGain>(history, &mut offer);
+        let found = self.read(history);
         // Numbers rise, so each generation that was there has a lower one, unless this one was and has gone.
         if found % 2 == 0 && found < showing(number) {
             Some(found)

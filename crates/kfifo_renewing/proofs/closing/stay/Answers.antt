@@ -1,6 +1,6 @@
 -- A generation that is no longer shown in its place has gone.
-use Rattle.std.proofs.Common.{◌≡◌, sym, ◌∙◌, subst}
-use Rattle.kfifo_renewing.specs.History.{IsGone, IsPlaced}
+use Rattle.std.proofs.Common.{◌≡◌, sym, ◌∙◌}
+use Rattle.kfifo_renewing.specs.History.{IsGone}
 use Rattle.kfifo_renewing.specs.declared.change.Change.TheVariants as C
 use Rattle.kfifo_renewing.specs.Joining.{PartView, held_in}
 use Rattle.kfifo_renewing.specs.Renewing.{HasLeft}

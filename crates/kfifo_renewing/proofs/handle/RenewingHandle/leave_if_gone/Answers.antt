@@ -1,8 +1,7 @@
 -- A generation that has gone is left, and the others stay.
-use Rattle.std.proofs.Common.{◌≡◌, ◌+◌, Some, length, slice_get, arith, sym, ap, ◌∙◌, subst}
+use Rattle.std.proofs.Common.{◌+◌, length, arith, sym, ap, ◌∙◌, subst}
 use Rattle.std.specs.Prelude.{if◌then◌else◌}
 use Rattle.std.proofs.lemmas.List.{length-map}
-use Rattle.kfifo_renewing.specs.History.{IsGone, IsPlaced}
 use Rattle.kfifo_renewing.specs.declared.change.Change.TheVariants as C
 use Rattle.kfifo_renewing.specs.Joining.{HasSealedAt, IsPartOf, PartView, held_by, held_in}
 use Rattle.kfifo_renewing.specs.Renewing.{Generations, HeldIn, LeavesGone, opening_in}
