@@ -314,7 +314,7 @@ know_along shape here there (e ∷ es) sound know is =
     know_along shape m.0 there es (step_sound shape here e m.0 m.1.0 sound m.1.1.0)
     (step_balance 0 shape here e m.0 m.1.0 sound know m.1.1.0).0 m.1.1.1
 
-get_or-replicate : {X : Type 0} (n i : ℕ) (d : X) → get_or (replicate n d) i d ≡ d
+pub get_or-replicate : {X : Type 0} (n i : ℕ) (d : X) → get_or (replicate n d) i d ≡ d
 get_or-replicate zero i d = refl
 get_or-replicate (suc n) zero d = refl
 get_or-replicate (suc n) (suc i) d = get_or-replicate n i d

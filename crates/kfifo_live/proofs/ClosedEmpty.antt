@@ -1,15 +1,16 @@
 -- A queue that a pass saw sealed empty has no items at the end.
 use Rattle.std.proofs.Common.{◌≡◌, ℕ, zero, suc, ◌+◌, ◌*◌, ◌<◌, ◌≤◌, List, [], ◌∷◌, ◌++◌, length, get_or, Some, None}
-use Rattle.std.proofs.Common.{true, refl, sym, ap, ◌∙◌, inl, inr, arith, cond, eqb-true, eq-eqb}
+use Rattle.std.proofs.Common.{true, refl, sym, ap, ◌∙◌, inl, inr, arith, cond, eqb-true, eq-eqb, map}
 use Rattle.std.specs.Prelude.{◌==◌}
 use Rattle.std.proofs.Math.Nat.{mul-le-mul_right}
-use Rattle.std.specs.List.{list_any}
+use Rattle.std.specs.List.{Contains, list_any}
 use Rattle.std.proofs.lemmas.Bool.{cases_Bool, cases_lt, false≢true}
 use Rattle.kfifo_live.proofs.Types.{Event, Opening, Shape}
 use Rattle.kfifo_words.specs.Words.{value_of, head_of}
 use Rattle.kfifo_words.specs.Ring.{next_segment, slot_at}
 use Rattle.kfifo_machine.specs.Machine.{World, opening, place_of, run, word_at}
 use Rattle.kfifo_machine.specs.Places.{IsSlotIndex}
+use Rattle.kfifo_machine.specs.Runs.{Begins, own}
 use Rattle.kfifo_machine.proofs.Schedules.{run_before, same_place}
 use Rattle.kfifo_machine.proofs.Sound.{sound_ends, sound_threads}
 use Rattle.kfifo_machine.proofs.Versions.{next_segment-below}
@@ -18,6 +19,34 @@ use Rattle.kfifo_linear.proofs.Seals.{stays_empty}
 use Rattle.kfifo_live.specs.Schedule.{world_after}
 use Rattle.kfifo_live.specs.Left.{item_in, slots_left, segments_left, items_left}
 use Rattle.kfifo_live.specs.Pass.{PassView, AllSeen, AllIdle, HaveAllThreads, OneSealedEmpty}
+use Rattle.kfifo_live.proofs.Balance.{get_or-replicate}
+
+-- the thread of a pass is idle after the whole schedule
+still_idle : (o : Opening) (p : PassView) (all : List Event) (world : World) → world_after o all ≡ Some world
+    → Begins p.thread p.seen all → ((here : World) → world_after o p.seen ≡ Some here → place_of here p.thread ≡ None)
+    → place_of world p.thread ≡ None
+still_idle o p all world reached b idle =
+    let k = run_before o.shape (Some (opening o.shape o.threads)) world p.seen b.rest
+    (ap (world_after o) (sym b.goes_on) ∙ reached) in
+    same_place o.shape k.0 world b.rest p.thread b.no_own k.2 ∙ idle k.0 k.1
+
+-- and so is each whose pass is among these
+pub idle_in : (o : Opening) (ps : List PassView) (all : List Event) (world : World) (thread : ℕ)
+    → world_after o all ≡ Some world
+    → AllSeen ps all → AllIdle o ps → Contains (map (λ p. p.thread) ps) thread → place_of world thread ≡ None
+idle_in o [] all world thread reached seen idle (k, inside, is) = absurd (omega (arith, inside))
+idle_in o (p ∷ ps) all world thread reached seen idle (zero, inside, is) =
+    ap (place_of world) (sym is) ∙ still_idle o p all world reached seen.0 idle.0
+idle_in o (p ∷ ps) all world thread reached seen idle (suc k, inside, is) =
+    idle_in o ps all world thread reached seen.1 idle.1 (k, omega (arith, inside), is)
+
+-- a thread without an event is idle
+pub idle_without : (o : Opening) (all : List Event) (world : World) (thread : ℕ) → world_after o all ≡ Some world
+    → own thread all ≡ [] → place_of world thread ≡ None
+unfolding opening place_of
+idle_without o all world thread reached none =
+    same_place o.shape (opening o.shape o.threads) world all thread none reached
+    ∙ get_or-replicate o.threads thread None
 
 -- where the pass of a thread is among these, its thread is idle after the whole schedule
 idle_of : (o : Opening) (ps : List PassView) (all : List Event) (world : World) (thread : ℕ)
@@ -26,12 +55,8 @@ idle_of : (o : Opening) (ps : List PassView) (all : List Event) (world : World) 
 idle_of o [] all world thread reached seen idle any = absurd (false≢true any)
 idle_of o (p ∷ ps) all world thread reached seen idle any =
     elim (cases_Bool (p.thread == thread)) [
-      | inl mine ↦
-          let b = seen.0 in
-          let k = run_before o.shape (Some (opening o.shape o.threads)) world p.seen b.rest
-          (ap (world_after o) (sym b.goes_on) ∙ reached) in
-          let same : p.thread ≡ thread = eqb-true p.thread thread mine in
-          ap (place_of world) (sym same) ∙ same_place o.shape k.0 world b.rest p.thread b.no_own k.2 ∙ idle.0 k.0 k.1
+      | inl mine ↦ ap (place_of world) (sym (eqb-true p.thread thread mine))
+          ∙ still_idle o p all world reached seen.0 idle.0
       | inr other ↦ idle_of o ps all world thread reached seen.1 idle.1 (rw other at any)
     ]
 
@@ -54,11 +79,11 @@ all_idle o ps all world reached seen idle complete thread =
     ]
 
 -- one of them saw a beginning of the schedule that leaves the queue sealed empty
-record Saw (o : Opening) (all : List Event) : Type 0 where
-  events : List Event
-  more : List Event
-  split : all ≡ events ++ more
-  sealed : SealedEmpty o.shape o.threads events
+pub record Saw (o : Opening) (all : List Event) : Type 0 where
+  pub events : List Event
+  pub more : List Event
+  pub split : all ≡ events ++ more
+  pub sealed : SealedEmpty o.shape o.threads events
 
 saw : (o : Opening) (ps : List PassView) (all : List Event) → AllSeen ps all → OneSealedEmpty o ps → Saw o all
 saw o [] all seen one = absurd one
@@ -101,13 +126,17 @@ none_left shape threads all world reached none =
     segments_none shape world.words (head_of (get_or world.words 0 0)) shape.n none
     (sound_ends shape threads all world reached).head
 
--- so a queue that one of its passes saw sealed empty has no items when it is closed
+-- so a queue that was sealed empty has no items where all its threads are idle
+pub sealed_left : (o : Opening) (all : List Event) (world : World) → o.threads ≤ 64 → world_after o all ≡ Some world
+    → Saw o all → ((thread : ℕ) → place_of world thread ≡ None) → items_left o.shape world.words ≡ []
+sealed_left o all world few reached s idle =
+    none_left o.shape o.threads all world reached
+    (stays_empty o.shape o.threads few s.events s.more world s.sealed (ap (world_after o) (sym s.split) ∙ reached) idle)
+
+-- and so it is with one that one of its passes saw sealed empty, when it is closed
 pub sealed_closes : (o : Opening) (ps : List PassView) (all : List Event) (world : World) → o.threads ≤ 64
     → world_after o all ≡ Some world
     → AllSeen ps all → AllIdle o ps → HaveAllThreads o.threads ps → OneSealedEmpty o ps
     → items_left o.shape world.words ≡ []
 sealed_closes o ps all world few reached seen idle complete one =
-    let s = saw o ps all seen one in
-    none_left o.shape o.threads all world reached
-    (stays_empty o.shape o.threads few s.events s.more world s.sealed (ap (world_after o) (sym s.split) ∙ reached)
-    (all_idle o ps all world reached seen idle complete))
+    sealed_left o all world few reached (saw o ps all seen one) (all_idle o ps all world reached seen idle complete)

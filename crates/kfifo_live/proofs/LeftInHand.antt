@@ -1,8 +1,7 @@
 -- Where a step leaves its thread's token.
-use Rattle.std.proofs.Common.{◌≡◌, ℕ, ◌-◌, ◌<◌, Option, Bool}
+use Rattle.std.proofs.Common.{◌≡◌, ℕ, ◌<◌, Option, Bool}
 use Rattle.std.proofs.Common.{refl, sym, ap, ◌∙◌, subst, arith}
 use Rattle.std.proofs.lemmas.Bool.Decides.{nat_tests}
-use mathlib.Core.Option.{some}
 use Rattle.kfifo_live.proofs.Types.{EnqueuePhase, Hand, Next, Running, Shape}
 use Rattle.kfifo_machine.specs.declared.place.DequeuePhase.{DequeuePhase}
 use Rattle.kfifo_machine.specs.declared.place.Running.TheVariants as R

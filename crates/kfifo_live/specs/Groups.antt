@@ -1,13 +1,14 @@
 -- A group: passes of a queue of tokens that make no call any more, and the one schedule that has what all of them did.
-use Rattle.std.specs.Prelude.{◌≡◌, ◌++◌, ℕ, List, [], ◌∷◌, None, Option, map}
-use Rattle.std.specs.List.{AllByRecursion}
+use Rattle.std.specs.Prelude.{◌≡◌, ◌≢◌, ℕ, List, [], ◌∷◌, None, Option, map}
+use Rattle.std.specs.List.{Contains}
 use Rattle.atomic_table.specs.Seated.{TableId}
 use Rattle.atomic_table.specs.Table.{Me}
+use Rattle.kfifo_machine.specs.Runs.{own}
 use Rattle.kfifo_live.specs.declared.view.Opening.{Opening}
 use Rattle.kfifo_live.specs.declared.view.Part.{Part}
 use Rattle.kfifo_live.specs.declared.view.View.{View}
-use Rattle.kfifo_live.specs.Pass.{AllIdle}
-use Rattle.kfifo_live.specs.Payloads.{EndsIn, PayPassView, passes_of, pay_pass_view}
+use Rattle.kfifo_live.specs.Pass.{AllIdle, EachCameOut, WasSealedEmpty}
+use Rattle.kfifo_live.specs.Payloads.{PayPassView, passes_of, pay_pass_view}
 use Rattle.kfifo_live.specs.Schedule.{AllBegin, AllGiven, GiftsFit, IsSmall, gifts_of, hand_of, more_in, part, seen_of}
 use Rattle.kfifo_live.specs.Step.{IsAt}
 
@@ -17,6 +18,16 @@ pub record GroupView (T : Type 0) : Type 0 where
   pub others : List (PayPassView T)
 
 module _ {T : Type 0} where
+  -- each thread with an event in the schedule of a group has its pass there
+  abbrev pub HasEachThread : GroupView T → Type 0
+  HasEachThread g = (thread : ℕ) → own thread g.first.pass.seen ≢ []
+      → Contains (map (λ p. p.pass.thread) (g.first ∷ g.others)) thread
+
+  -- Nothing is left in a queue that was sealed empty, where the group has each thread that made a call there: each
+  -- token that was put was undone or taken, as often as it was put
+  abbrev pub LeavesNothing : GroupView T → Type 0
+  LeavesNothing g = WasSealedEmpty g.first.pass → HasEachThread g → EachCameOut g.first.pass
+
   -- the pass of a part, as its seat has it
   abbrev pub member : TableId → Opening → Part T → PayPassView T
   member table o p = record {
@@ -31,8 +42,8 @@ module _ {T : Type 0} where
     others = map (member table v.opened) (more_in v.parts);
   }
 
-  -- What is always so of a group: its first pass is in no call and holds no slot, and what that has seen begins with
-  -- what each other has seen and has no further event of it
+  -- What is always so of a group: its first pass is in no call and holds no slot. Its schedule begins with what each
+  -- other pass has seen, and has no further event of that one, which is in no call either
   pub record IsGroup (thread : ℕ) (table : TableId) (me : Me (Option T) (View T)) : Type 0 where
     pub parts : me.0.parts ≡ part thread (seen_of me.0) (gifts_of me.0) (hand_of me.0) ∷ more_in me.0.parts
     pub held : me.1 ≡ []

@@ -106,6 +106,16 @@ abbrev pub OneSealedEmpty : Opening → List PassView → Type 0
 OneSealedEmpty o [] = ⊥
 OneSealedEmpty o (p ∷ ps) = SealedEmpty o.shape o.threads p.seen ⊎ OneSealedEmpty o ps
 
+-- after a beginning of what a pass has seen its queue was sealed empty
+pub record WasSealedEmpty (p : PassView) : Type 0 where
+  pub first : List Event
+  pub begins : StartsWith p.seen first
+  pub empty : SealedEmpty p.opened.shape p.opened.threads first
+
+-- in what a pass has seen, each item that was put was undone or taken, as often as it was put
+abbrev pub EachCameOut : PassView → Type 0
+EachCameOut p = (item : ℕ) → puts item p.opened p.seen ≡ undos item p.opened p.seen + takes item p.opened p.seen
+
 -- the view w has the parts of v and what these passes saw: whatever schedule all parts of w agree with, the parts of v
 -- and each of these passes agree with it too
 pub record IsJoined {T : Type 0} (v : View T) (ps : List PassView) (w : View T) : Type 0 where

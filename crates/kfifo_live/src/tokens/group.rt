@@ -1,7 +1,7 @@
 //! A group of passes that make no call any more.
 ghost use Rattle.std.specs.Prelude.{◌≡◌, ◌++◌, [], ◌∷◌};
 ghost use Rattle.std.specs.List.{AllByRecursion};
-ghost use Rattle.kfifo_live.specs.Groups.{GroupView, IsGroup, group_view};
+ghost use Rattle.kfifo_live.specs.Groups.{GroupView, IsGroup, LeavesNothing, group_view};
 ghost use Rattle.kfifo_live.specs.Pass.{IsPassOf, IsSamePass, PassKeepsPromise};
 ghost use Rattle.kfifo_live.specs.Payloads.{EndsIn};
 
@@ -32,6 +32,7 @@ impl<T: Drop> TokenPass<T> {
     pub fn into_group(self) -> TokenGroup<T>
         ensures first { result.first ≡ self }
         ensures alone { result.others ≡ [] }
+        ensures nothing { LeavesNothing result }
     {
         let TokenPass { thread, seat } = self;
         TokenGroup { thread, seat }
@@ -40,7 +41,8 @@ impl<T: Drop> TokenPass<T> {
 
 impl<T: Drop> TokenQueue<T> {
     /// Adds a pass to a group of its queue, by one load of the ends word, which is no event. The schedule of the group
-    /// then begins with what each of its passes has seen, and has no further event of theirs.
+    /// then begins with what each of its passes has seen, and has no further event of theirs. If the queue was sealed
+    /// empty, each token came out of it by the calls of that schedule, once each thread that made one is in the group.
     pub fn join(&self, group: &mut TokenGroup<T>, pass: TokenPass<T>)
         requires group { IsPassOf self.now group.old.first.pass }
         requires pass { IsPassOf self.now pass.pass }
@@ -49,6 +51,7 @@ impl<T: Drop> TokenQueue<T> {
         ensures later { EndsIn group.new.first.pass.seen group.new.first.gifts group.old.first }
         ensures ends { AllByRecursion (EndsIn group.new.first.pass.seen group.new.first.gifts) group.new.others }
         ensures promise { PassKeepsPromise group.new.first.pass }
+        ensures nothing { LeavesNothing group.new }
     {
         let TokenPass { thread: _, seat } = pass;
         join_seats::<_, Brand>(&self.table.shared, &mut group.seat, seat);

@@ -2,7 +2,7 @@
 use Rattle.std.proofs.Common.{ap, sym, ◌∙◌, subst}
 use Rattle.kfifo_live.specs.Groups.{GroupView, IsGroup}
 use Rattle.kfifo_live.specs.Payloads.{PayPassView}
-use Rattle.kfifo_live.proofs.Groups.{ends_all, joined}
+use Rattle.kfifo_live.proofs.Groups.{ends_all, joined, leaves_nothing}
 use Rattle.kfifo_live.proofs.Passes.{keeps_promise}
 use Rattle.kfifo_live.proofs.TokenMoves.{pass_of_hand}
 use Rattle.kfifo_live.proofs.tokens.TokenQueue.join.Goals as goal
@@ -29,3 +29,6 @@ pub returns-clause-promise : goal.returns-clause-promise
 returns-clause-promise g c =
     let now = invariant_of-group g c in
     keeps_promise c.observe.new.seat.me.0.opened _ now.idle.here now.few.0 now.idle.reached
+
+pub returns-clause-nothing : goal.returns-clause-nothing
+returns-clause-nothing g c = leaves_nothing _ _ _ (invariant_of-group g c)
