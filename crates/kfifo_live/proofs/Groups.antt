@@ -123,10 +123,9 @@ module _ {T : Type 0} where
       let v = group_view table thread me.0 in
       let first : thread_of me.0 ≡ thread = ap thread_in g.parts in
       let same : map (λ p. p.thread) (passes_of (v.first ∷ v.others))
-          ≡ map (λ p. p.pass.thread) (v.first ∷ v.others) = threads-of (v.first ∷ v.others) in
+      ≡ map (λ p. p.pass.thread) (v.first ∷ v.others) = threads-of (v.first ∷ v.others) in
       idle_in me.0.opened (passes_of (v.first ∷ v.others)) (seen_of me.0) g.idle.here t g.idle.reached
-      (begins-all thread (seen_of me.0), seen_all table me.0.opened (more_in me.0.parts) (seen_of me.0) g.begin)
-      (
+      (begins-all thread (seen_of me.0), seen_all table me.0.opened (more_in me.0.parts) (seen_of me.0) g.begin) (
         λ here reached. (λ k. place_of (Some-injective here g.idle.here (sym reached ∙ g.idle.reached) k)
             (sym first k)) ∙ g.idle.place_is,
         g.all_idle,
