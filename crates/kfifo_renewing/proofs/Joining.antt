@@ -6,6 +6,7 @@ use Rattle.std.specs.List.{Contains, insert, remove}
 use Rattle.std.specs.Prelude.{IfSome, if◌then◌else◌}
 use Rattle.std.specs.Result.{IsOk, is_ok}
 use Rattle.core.specs.declared.result.Result.{Result}
+use Rattle.std.proofs.lemmas.List.{length-map}
 use Rattle.std.proofs.lemmas.List.Elements.{All-append, All-cons, All-nil, All-push, Contains-append_left}
 use Rattle.std.proofs.lemmas.List.Elements.{Contains-append_right, Contains-push}
 use Rattle.std.proofs.Math.Nat.{eq-or-lt_of_le}
@@ -435,39 +436,38 @@ module _ {T : Type 0} where
       (let e : suc (length (take i ps ++ drop (i + 1) ps)) + 1 ≡ suc (length ps) = omega (arith, rest) in e)
 
   less-at : (log : List Change) (ps : List (PartView T)) (i : ℕ) (p : PartView T) → slice_get ps i ≡ Some p
-      → IsGone log p.number → p.handle.cells ≡ no_cells → HasLeft log (held_in p)
+      → p.handle.cells ≡ no_cells → HasLeft log (held_in p)
       → LeavesGone log (held_by ps) (held_by (take i ps ++ drop (i + 1) ps))
-  less-at log [] i p at gone none left = absurd cc
-  less-at log (q ∷ ps) zero p at gone none left =
+  less-at log [] i p at none left = absurd cc
+  less-at log (q ∷ ps) zero p at none left =
       let same : q ≡ p = cc in
       inr (
-        subst (λ (x : PartView T). IsGone log x.number) (sym same) gone,
         ap (λ (x : PartView T). x.handle.cells) same ∙ none,
         subst (λ (x : PartView T). HasLeft log (held_in x)) (sym same) left,
         leaves-refl log (held_by ps),
       )
-  less-at log (q ∷ ps) (suc i) p at gone none left = inl (
+  less-at log (q ∷ ps) (suc i) p at none left = inl (
     held_by (take i ps ++ drop (i + 1) ps),
     ap (λ n. held_by (q ∷ (take i ps ++ drop n (q ∷ ps)))) (let e : suc i + 1 ≡ suc (i + 1) = omega arith in e),
-    less-at log ps i p at gone none left,
+    less-at log ps i p at none left,
   )
 
   -- the handles of parts, but the one at an index where its generation has gone and was left
   pub held-left : (b : Bool) (log : List Change) (ps qs : List (PartView T)) (i : ℕ) (p : PartView T)
-      → qs ≡ (if b then take i ps ++ drop (i + 1) ps else ps) → slice_get ps i ≡ Some p → IsGone log p.number
+      → qs ≡ (if b then take i ps ++ drop (i + 1) ps else ps) → slice_get ps i ≡ Some p
       → p.handle.cells ≡ no_cells → (b ≡ true → HasLeft log (held_in p)) → LeavesGone log (held_by ps) (held_by qs)
-  held-left true log ps qs i p is at gone none left =
-      subst (λ l. LeavesGone log (held_by ps) (held_by l)) (sym is) (less-at log ps i p at gone none (left refl))
-  held-left false log ps qs i p is at gone none left =
+  held-left true log ps qs i p is at none left =
+      subst (λ l. LeavesGone log (held_by ps) (held_by l)) (sym is) (less-at log ps i p at none (left refl))
+  held-left false log ps qs i p is at none left =
       subst (λ l. LeavesGone log (held_by ps) (held_by l)) (sym is) (leaves-refl log (held_by ps))
 
   pub joined-left : (b : Bool) (o : Opening) (shared book : Book) (log : List Change) (g : Numbered) (h : PartView T)
       (ps qs : List (PartView T)) (i : ℕ) (p : PartView T) → HasJoined o shared book log g h ps
-      → qs ≡ (if b then take i ps ++ drop (i + 1) ps else ps) → slice_get ps i ≡ Some p → IsGone log p.number
-      → HasJoined o shared book log g h qs
-  joined-left true o shared book log g h ps qs i p j is at gone =
-      joined-less o shared book log g h ps qs i p j is at gone
-  joined-left false o shared book log g h ps qs i p j is at gone =
+      → qs ≡ (if b then take i ps ++ drop (i + 1) ps else ps) → slice_get ps i ≡ Some p
+      → (b ≡ true → HasLeft log (held_in p)) → HasJoined o shared book log g h qs
+  joined-left true o shared book log g h ps qs i p j is at left =
+      joined-less o shared book log g h ps qs i p j is at (left refl).gone
+  joined-left false o shared book log g h ps qs i p j is at left =
       subst (HasJoined o shared book log g h) (sym is) j
 
   pub fewer-left : (b : Bool) (ps qs : List (PartView T)) (i : ℕ)
@@ -482,6 +482,14 @@ pub get-there : {A : Type 0} (xs ys : List A) (i : ℕ) (x : A) → ys ≡ xs �
 get-there xs ys i x same inside is =
     subst (λ l. slice_get l i ≡ Some x) same
     (get-at ys i x x (let long = ap length same in omega (arith, inside, long)) is)
+
+-- the part at an index of the parts of a handle by another name
+pub part-there : {T : Type 0} (ps qs : List (PartView T)) (hs : List (HeldIn T)) (i : ℕ) (p : PartView T) → qs ≡ ps
+    → held_by ps ≡ hs → i < length hs → p ≡ slice_index_or qs i p → slice_get ps i ≡ Some p
+part-there {T} ps qs hs i p same are inside is =
+    let long = length-map ps (λ (q : PartView T). held_in q) in
+    let all = ap length are in
+    get-there ps qs i p same (omega (arith, long, all, inside)) is
 
 -- a look at a place that did not find the generation that was shown there
 pub gone-there : (old new : List Change) (n place m i : ℕ) → (IsPlaced old m i → IsGone new m) → m ≡ n → i ≡ place

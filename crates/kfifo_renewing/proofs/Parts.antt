@@ -103,9 +103,3 @@ pub bare_rest : {T : Type 0} (bare : Bool) (parts rest : List (PartView T)) (fir
 bare_rest {T} bare parts rest first is all i d inside =
     subst (All (λ (p : PartView T). p.handle.held.pass.pass.opened.bare ≡ bare)) is all (suc i) d
     (omega (arith, inside))
-
--- where there is none, this holds too
-pub both-left : {X : Type 0} (A B : Type 0) (P : X → Type 0) (r : Option X) → B → MatchOption r A P
-    → MatchOption r (B × A) P
-both-left A B P None b a = (b, a)
-both-left A B P (Some x) b p = p

@@ -13,8 +13,8 @@ use Rattle.kfifo_renewing.specs.declared.cells.CellCall.TheVariants as C
 use Rattle.kfifo_renewing.specs.declared.change.Change.{Change}
 use Rattle.kfifo_renewing.specs.declared.memory.CellAt.{CellAt}
 use Rattle.kfifo_renewing.specs.Memory.{ReceivesAt, ReceivesAtOrSeals, cells_in}
-use Rattle.kfifo_renewing.specs.Renewing.{IsClosedBy, Follows, Gathers, Generations, HeldIn, IsAtNewest, IsBehind}
-use Rattle.kfifo_renewing.specs.Renewing.{TakesBy, with_newest}
+use Rattle.kfifo_renewing.specs.Renewing.{Follows, Gathers, Generations, HaveEnded, HeldIn, IsAtNewest, IsBehind}
+use Rattle.kfifo_renewing.specs.Renewing.{IsClosedBy, TakesBy, with_newest}
 
 module _ {T : Type 0} where
   -- What a call with the cell of a handle in one generation did. NoToken: there is no such cell, and nothing is done
@@ -85,22 +85,23 @@ module _ {T : Type 0} where
       × CallsOnce C.Release released old mid × TakesBy ReceivesAt ReceivesAtOrSeals answer mid new
 
   -- What a close of a generation of cells returned: by this handle, and the handles of all other threads
-  pub record CellsWereLeft (handles : List (Generations T)) (h : HeldIn T) (cells : List ℕ) : Type 0 where
-    pub queue : OpenQueue
-    pub others : List (Pooled T)
-    pub by : IsClosedBy handles queue h others
-    pub tokens : List ℕ
-    pub closes : Closes queue (passes_in (others ++ h.handle ∷ [])) tokens
-    pub cells_are : cells ≡ cells_in tokens
+  pub record CellsWereLeft (log : List Change) (handles : List (Generations T)) (h : HeldIn T) (cells : List ℕ) : Type 0
+    where
+      pub queue : OpenQueue
+      pub others : List (Pooled T)
+      pub by : IsClosedBy log handles queue h others
+      pub tokens : List ℕ
+      pub closes : Closes queue (passes_in (others ++ h.handle ∷ [])) tokens
+      pub cells_are : cells ≡ cells_in tokens
 
   -- what such closes returned, one after the other
-  abbrev pub LeavesCells : List (Generations T) → List (HeldIn T) → List (List ℕ) → Type 0
-  LeavesCells handles [] left = left ≡ []
-  LeavesCells handles (h ∷ hs) left = (first : List ℕ) × (rest : List (List ℕ)) × (left ≡ first ∷ rest)
-      × CellsWereLeft handles h first × LeavesCells handles hs rest
+  abbrev pub LeavesCells : List Change → List (Generations T) → List (HeldIn T) → List (List ℕ) → Type 0
+  LeavesCells log handles [] left = left ≡ []
+  LeavesCells log handles (h ∷ hs) left = (first : List ℕ) × (rest : List (List ℕ)) × (left ≡ first ∷ rest)
+      × CellsWereLeft log handles h first × LeavesCells log handles hs rest
 
   -- What a close by these handles returned, with this log of the history, as `ClosesAll` says of payloads
   abbrev pub ClosesAllCells : List (Generations T) → List (List ℕ) → List Change → Type 0
   ClosesAllCells handles left log = (last : Generations T) × (others : List (Generations T))
       × (handles ≡ others ++ last ∷ []) × (all : List (HeldIn T)) × Gathers others last all log
-      × LeavesCells others all left
+      × LeavesCells log others all left × HaveEnded log others all

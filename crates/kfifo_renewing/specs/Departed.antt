@@ -3,21 +3,23 @@ use Rattle.std.specs.Prelude.{◌≡◌, ℕ, List, ◌∷◌, length, map}
 use Rattle.std.specs.List.{AllByRecursion}
 use Rattle.logbook.specs.Pages.{Book}
 use Rattle.kfifo_machine.specs.Runs.{Begins}
-use Rattle.kfifo_live.specs.Groups.{GroupView}
-use Rattle.kfifo_live.specs.Pass.{IsPassOf, PassKeepsPromise}
+use Rattle.kfifo_live.specs.Groups.{GroupView, LeavesNothing}
+use Rattle.kfifo_live.specs.Pass.{IsPassOf, PassKeepsPromise, WasSealedEmpty}
 use Rattle.kfifo_live.specs.Payloads.{EndsIn}
-use Rattle.kfifo_renewing.specs.History.{left_of, sight_of}
-use Rattle.kfifo_renewing.specs.Renewing.{Numbered, WasSealedEmpty}
+use Rattle.kfifo_renewing.specs.History.{IsGone, left_of, sight_of}
+use Rattle.kfifo_renewing.specs.Renewing.{Numbered}
 use Rattle.kfifo_renewing.specs.declared.change.Change.{Change}
 use Rattle.kfifo_renewing.specs.declared.change.Sight.{Sight}
 
--- What holds of the group of passes that have left a generation, and of what was then seen of the history: as many have
--- left, by the history, as are in the group, and the schedule of the group has all that they did. After a beginning of
--- it the generation was sealed empty
+-- What holds of the group of passes that have left a generation, and of what was then seen of the history: the
+-- generation has gone, and as many have left it, by the history, as are in the group. The schedule of the group has all
+-- that they did. After a beginning of it the generation was sealed empty, and nothing is left there once the group has
+-- all threads
 pub record HaveDeparted {T : Type 0} (g : Numbered) (book : Book) (log : List Change) (count : ℕ) (v : GroupView T)
     : Type 0 where
   pub of : IsPassOf g.queue v.first.pass
   pub same_book : book ≡ g.book
+  pub gone : IsGone log g.number
   pub counted : length (left_of g.number log) ≡ count
   pub first : Sight
   pub left : left_of g.number log ≡ first ∷ map (λ p. sight_of p.pass) v.others
@@ -26,3 +28,4 @@ pub record HaveDeparted {T : Type 0} (g : Numbered) (book : Book) (log : List Ch
   pub ends : AllByRecursion (EndsIn v.first.pass.seen v.first.gifts) v.others
   pub sealed : WasSealedEmpty v.first.pass
   pub promise : PassKeepsPromise v.first.pass
+  pub nothing : LeavesNothing v

@@ -6,7 +6,7 @@ use Rattle.kfifo_pool.specs.Pooled.{Pooled, no_cells}
 use Rattle.kfifo_live.specs.Pass.{IsPassOf, IsSamePass, IsSealedEmpty, PassKeepsPromise, PassView}
 use Rattle.kfifo_live.specs.declared.view.Opening.{Opening}
 use Rattle.kfifo_renewing.specs.History.{HasRisen, IsGone, IsMade, IsPlaced, WasNewest, newest_of, place_count}
-use Rattle.kfifo_renewing.specs.Renewing.{Generations, HeldIn, IsFresh, IsOpenedAs, Numbered, all_of}
+use Rattle.kfifo_renewing.specs.Renewing.{Generations, HasLeft, HeldIn, IsFresh, IsOpenedAs, Numbered, all_of}
 use Rattle.kfifo_renewing.specs.declared.change.Change.{Change}
 
 -- a pass has seen its queue sealed empty, in a schedule that keeps the promise
@@ -48,7 +48,7 @@ module _ {T : Type 0} where
   -- Where `is_sealed` is true, the part has seen it sealed empty, as the first to leave has to
   pub record MayLeave (book : Book) (log : List Change) (is_sealed : Bool) (p : PartView T) : Type 0 where
     pub same_book : p.book ≡ book
-    pub was : WasNewest log p.number
+    pub part : IsPart log p
     pub over : p.number < newest_of log
     pub sealed : is_sealed ≡ true → IsSealedPart p
 
@@ -95,10 +95,10 @@ module _ {T : Type 0} where
   abbrev pub IsBeside : Pooled T → Pooled T → Type 0
   IsBeside h k = (k.held.pass.pass.table ≡ h.held.pass.pass.table) × (k.held.pass.pass.opened ≡ h.held.pass.pass.opened)
 
-  -- each part of these handles is among these parts
-  abbrev pub HaveParts : List (Generations T) → List (PartView T) → Type 0
-  HaveParts handles parts = (g : Generations T) (h : HeldIn T) → Contains handles g → Contains (all_of g) h
-      → Contains (held_by parts) h
+  -- each of these handles has left each of its generations, or its part there is among these
+  abbrev pub HaveParts : List Change → List (Generations T) → List (PartView T) → Type 0
+  HaveParts log handles parts = (g : Generations T) (h : HeldIn T) → Contains handles g → Contains (all_of g) h
+      → HasLeft log h ⊎ Contains (held_by parts) h
 
   -- each generation that was the newest before this one has gone, or one of these parts is in it
   abbrev pub HasOlder : List Change → List (PartView T) → ℕ → Type 0

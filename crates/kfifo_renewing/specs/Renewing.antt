@@ -16,11 +16,9 @@ use Rattle.kfifo_model.specs.declared.calls.TheConstants.{MAX_THREADS}
 use Rattle.kfifo_live.specs.Calls.{IsDisturbed}
 use Rattle.kfifo_live.specs.Capacities.{HasRoom, segments_for, sizes_fault, tokens_for}
 use Rattle.kfifo_live.specs.Handles.{further}
-use Rattle.kfifo_linear.specs.Seals.{SealedEmpty}
-use Rattle.kfifo_machine.specs.Runs.{Begins}
-use Rattle.kfifo_machine.specs.declared.event.Event.{Event}
-use Rattle.kfifo_live.specs.Pass.{HasNoEvent, IsPassOf, IsSamePass, IsSealedEmpty, OpenQueue, PassKeepsPromise}
-use Rattle.kfifo_live.specs.Pass.{PassView, StartsWith}
+use Rattle.kfifo_machine.specs.Runs.{Begins, own}
+use Rattle.kfifo_live.specs.Pass.{EachCameOut, HasNoEvent, IsPassOf, IsSamePass, IsSealedEmpty, OpenQueue}
+use Rattle.kfifo_live.specs.Pass.{PassKeepsPromise, PassView, WasSealedEmpty}
 use Rattle.kfifo_live.specs.Payloads.{PayCloses}
 use Rattle.kfifo_live.specs.Refusals.{IsOutOf}
 use Rattle.kfifo_live.specs.Schedule.{count_up}
@@ -140,11 +138,9 @@ pub record HeldIn (T : Type 0) : Type 0 where
   pub handle : Pooled T
   pub number : ℕ
 
--- after a beginning of what a pass has seen its queue was sealed empty
-pub record WasSealedEmpty (p : PassView) : Type 0 where
-  pub first : List Event
-  pub begins : StartsWith p.seen first
-  pub empty : SealedEmpty p.opened.shape p.opened.threads first
+-- each thread with an event in what a pass has seen is that of one of these sights
+abbrev pub HaveEachThread : List Sight → PassView → Type 0
+HaveEachThread sights p = (thread : ℕ) → own thread p.seen ≢ [] → Contains (map (λ s. s.thread) sights) thread
 
 -- The generations that the handle of a thread has joined: its handle in each. It gives to the newest, which has this
 -- number. The older ones, the oldest first, may still have payloads. Of the history of the queue, which is that of this
@@ -246,9 +242,12 @@ module _ {T : Type 0} where
   IsBehind old new = (number : ℕ) × NewestWas (sight new) number old.seen new.seen × (number ≢ new.number)
       × IsNumbered new
 
-  -- A handle has left its generation, as the history tells. One schedule of that generation has all that the passes
-  -- that had left by then did there, this handle's among them. After a beginning of it the generation was sealed empty
+  -- A handle has left its generation, which has gone, as the history tells. One schedule of that generation has all
+  -- that the passes that had left by then did there, this handle's among them. After a beginning of it the generation
+  -- was sealed empty. Nothing is left there once each thread that made a call has left: each token that was put was
+  -- undone or taken, as often as it was put
   pub record HasLeft (log : List Change) (h : HeldIn T) : Type 0 where
+    pub gone : IsGone log h.number
     pub before : List Change
     pub earlier : IsPrefix before log
     pub all : PassView
@@ -258,20 +257,21 @@ module _ {T : Type 0} where
     pub ends : All (λ s. Begins s.thread s.seen all.seen) (left_of h.number before)
     pub sealed : WasSealedEmpty all
     pub promise : PassKeepsPromise all
+    pub nothing : HaveEachThread (left_of h.number before) all → EachCameOut all
 
-  -- Of these handles in generations, some are kept as they were, in their order. The others have no cell, their
-  -- generations have gone by this history, and they have left them
+  -- Of these handles in generations, some are kept as they were, in their order. The others have no cell, and have left
+  -- their generations, which have gone
   abbrev pub LeavesGone : List Change → List (HeldIn T) → List (HeldIn T) → Type 0
   LeavesGone log [] kept = kept ≡ []
   LeavesGone log (h ∷ hs) kept = ((rest : List (HeldIn T)) × (kept ≡ h ∷ rest) × LeavesGone log hs rest)
-      ⊎ (IsGone log h.number × (h.handle.cells ≡ no_cells) × HasLeft log h × LeavesGone log hs kept)
+      ⊎ ((h.handle.cells ≡ no_cells) × HasLeft log h × LeavesGone log hs kept)
 
-  -- Of these handles in generations, some are kept as they were, in their order. The generations of the others have
-  -- gone by this history, and they have left them, even those that had cells there
+  -- Of these handles in generations, some are kept as they were, in their order. The others have left their
+  -- generations, which have gone, even those that had cells there
   abbrev pub EndsGone : List Change → List (HeldIn T) → List (HeldIn T) → Type 0
   EndsGone log [] kept = kept ≡ []
   EndsGone log (h ∷ hs) kept = ((rest : List (HeldIn T)) × (kept ≡ h ∷ rest) × EndsGone log hs rest)
-      ⊎ (IsGone log h.number × HasLeft log h × EndsGone log hs kept)
+      ⊎ (HasLeft log h × EndsGone log hs kept)
 
   -- a handle with the first starts, without free tokens or cells, whose thread has begun no call
   abbrev pub IsUntouched : Pooled T → Type 0
@@ -471,32 +471,38 @@ module _ {T : Type 0} where
   abbrev pub TakesFromOldest : Taken T → Generations T → Generations T → Type 0
   TakesFromOldest = TakesBy ReceivesOne ReceivesOneOrSeals
 
-  -- Each of these handles that is in the generation with this number has its own handle there among these
-  abbrev pub HaveOwnAmong : List (Generations T) → ℕ → List (Pooled T) → Type 0
-  HaveOwnAmong handles number all = (g : Generations T) (h : HeldIn T) → Contains handles g → Contains (all_of g) h
-      → h.number ≡ number → Contains all h.handle
+  -- Each of these handles that is in the generation with this number has left it, or its handle there is among these
+  abbrev pub HaveOwnAmong : List Change → List (Generations T) → ℕ → List (Pooled T) → Type 0
+  HaveOwnAmong log handles number all = (g : Generations T) (h : HeldIn T) → Contains handles g → Contains (all_of g) h
+      → h.number ≡ number → HasLeft log h ⊎ Contains all h.handle
 
   -- Who closes a generation, whose queue this is, with this handle: the handles there of all other threads, in their
-  -- order, the own ones of these handles of the renewing queue among them
-  pub record IsClosedBy (handles : List (Generations T)) (queue : OpenQueue) (h : HeldIn T) (others : List (Pooled T))
-      : Type 0 where
+  -- order. Among them are those of these handles of the renewing queue that have not left it
+  pub record IsClosedBy (log : List Change) (handles : List (Generations T)) (queue : OpenQueue) (h : HeldIn T)
+      (others : List (Pooled T)) : Type 0 where
     pub of : IsPassOf queue h.handle.held.pass.pass
     pub each_other : map (λ o. o.held.pass.pass.thread) others
         ≡ other_threads h.handle.held.pass.pass.thread queue.opened.threads
-    pub theirs : HaveOwnAmong handles h.number others
+    pub theirs : HaveOwnAmong log handles h.number others
 
   -- What a close of a generation returned: by this handle, and the handles of all other threads
-  pub record WereLeft (handles : List (Generations T)) (h : HeldIn T) (payloads : List T) : Type 0 where
-    pub queue : OpenQueue
-    pub others : List (Pooled T)
-    pub by : IsClosedBy handles queue h others
-    pub closes : PayCloses queue h.handle.held.pass (map (λ o. o.held.pass) others) payloads
+  pub record WereLeft (log : List Change) (handles : List (Generations T)) (h : HeldIn T) (payloads : List T) : Type 0
+    where
+      pub queue : OpenQueue
+      pub others : List (Pooled T)
+      pub by : IsClosedBy log handles queue h others
+      pub closes : PayCloses queue h.handle.held.pass (map (λ o. o.held.pass) others) payloads
 
   -- what such closes returned, one after the other
-  abbrev pub ClosesEach : List (Generations T) → List (HeldIn T) → List T → Type 0
-  ClosesEach handles [] payloads = payloads ≡ []
-  ClosesEach handles (h ∷ hs) payloads = (first : List T) × (rest : List T) × (payloads ≡ first ++ rest)
-      × WereLeft handles h first × ClosesEach handles hs rest
+  abbrev pub ClosesEach : List Change → List (Generations T) → List (HeldIn T) → List T → Type 0
+  ClosesEach log handles [] payloads = payloads ≡ []
+  ClosesEach log handles (h ∷ hs) payloads = (first : List T) × (rest : List T) × (payloads ≡ first ++ rest)
+      × WereLeft log handles h first × ClosesEach log handles hs rest
+
+  -- each of these handles has left each of its generations, or that is one of these, which were closed
+  abbrev pub HaveEnded : List Change → List (Generations T) → List (HeldIn T) → Type 0
+  HaveEnded log handles all = (g : Generations T) (h : HeldIn T) → Contains handles g → Contains (all_of g) h
+      → HasLeft log h ⊎ Contains (map (λ a. a.number) all) h.number
 
   -- this beginning of the history has all that each of these handles has seen
   abbrev pub HaveSeen : List (Generations T) → List Change → Type 0
@@ -512,9 +518,9 @@ module _ {T : Type 0} where
       × IsPrefix here.seen log × EndsGone log (all_of here) all
 
   -- What a close by these handles returned, with this log, the beginning of the history that the last of them had seen:
-  -- each of the generations that the last was then in was closed, the oldest first. All that a handle did in one of
-  -- these is in the one schedule by which that was closed
+  -- each of the generations that the last was then in was closed, the oldest first. Each other handle has left each of
+  -- its generations, or all that it did there is in the one schedule by which that was closed
   abbrev pub ClosesAll : List (Generations T) → List T → List Change → Type 0
   ClosesAll handles payloads log = (last : Generations T) × (others : List (Generations T))
       × (handles ≡ others ++ last ∷ []) × (all : List (HeldIn T)) × Gathers others last all log
-      × ClosesEach others all payloads
+      × ClosesEach log others all payloads × HaveEnded log others all

@@ -6,11 +6,10 @@ ghost use mathlib.Core.List.{IsPrefix};
 ghost use Rattle.kfifo_live.specs.Pass.{IsPassOf};
 ghost use Rattle.kfifo_pool.specs.Pooled.{Pooled};
 ghost use Rattle.kfifo_live.specs.declared.view.Opening.{Opening};
-ghost use Rattle.kfifo_renewing.specs.History.{IsGone};
 ghost use Rattle.kfifo_renewing.specs.Joining.{HaveParts, IsBeside, IsPart, PartView, held_by, held_in};
 ghost use Rattle.kfifo_renewing.specs.declared.change.Change.{Change};
-ghost use Rattle.kfifo_renewing.specs.Renewing.{AreOfOneQueue, ClosesAll, ClosesEach, EndsGone, HasLeft};
-ghost use Rattle.kfifo_renewing.specs.Renewing.{Gathers, Generations, HaveOwnAmong, HaveSeen, IsOpenedAs, WereLeft};
+ghost use Rattle.kfifo_renewing.specs.Renewing.{AreOfOneQueue, ClosesAll, ClosesEach, EndsGone, Gathers, Generations};
+ghost use Rattle.kfifo_renewing.specs.Renewing.{HasLeft, HaveEnded, HaveOwnAmong, HaveSeen, IsOpenedAs, WereLeft};
 ghost use Rattle.kfifo_renewing.specs.Renewing.{opening_with, other_threads};
 
 use crate::handle::{JoinedAll, RenewingHandle};
@@ -56,6 +55,17 @@ impl<T: Drop> Theirs<T> {
         self.least = u64::from(number) + 1;
         let here = take_numbered(alloc, &mut self.parts, number)?;
         Ok(here)
+    }
+
+    /// MissingPass where a part is left, in a generation that was not closed.
+    pub(crate) fn end(self) -> Result<(), CloseFault>
+        ensures { IfOk result (λ _. self.parts.items ≡ []) }
+    {
+        if self.parts.is_empty() {
+            Ok(())
+        } else {
+            Err(CloseFault::MissingPass)
+        }
     }
 }
 
@@ -112,29 +122,32 @@ pub(crate) struct Ended<T: Drop> {
     pub(crate) memory: CellMemory,
 }
 
-/// The parts of these handles, and what they have seen of the history.
+/// The parts of these handles, but for those that leave their generations, and what they have seen of the history.
 fn take_apart<T: Drop, K: Kind<T>>(
     alloc: Global,
+    places: &Places<T>,
     handles: Vec<RenewingHandle<T, K>>,
     history: &mut History,
 ) -> Result<Vec<Leaving<Joined<T>>>, AllocError>
-    requires { All (λ g. g.book ≡ history.old.book) handles.items }
+    requires book { history.old.book ≡ places.now.history.book }
+    requires of { All (λ g. g.book ≡ history.old.book) handles.items }
     ensures later { (history.new.book ≡ history.old.book) × IsPrefix history.old.log history.new.log }
     ensures seen { IfOk result (λ _. HaveSeen handles.items history.new.log) }
     ensures parts { IfOk result (λ parts. All (IsPart history.new.log) parts.items) }
     ensures opened { IfOk result (λ parts. (o : Opening) → All (λ g. g.opened ≡ o) handles.items
         → All (λ p. IsOpenedAs o p.handle) parts.items) }
-    ensures all { IfOk result (λ parts. HaveParts handles.items parts.items) }
+    ensures all { IfOk result (λ parts. HaveParts history.new.log handles.items parts.items) }
 {
     let mut theirs = Vec::new(alloc);
     for handle in handles {
         let JoinedAll {
             history: seen,
-            mut parts,
+            parts,
             ..
         } = handle.into_joined()?;
         history.learn(&seen);
-        theirs.append(&mut parts)?;
+        let mut kept = leave_gone(alloc, places, parts, history)?;
+        theirs.append(&mut kept)?;
     }
     Ok(theirs)
 }
@@ -148,13 +161,12 @@ fn stay<T: Drop>(
     requires book { history.old.book ≡ places.now.history.book }
     requires part { IsPart history.old.log part × (part.book ≡ history.old.book) }
     ensures later { (history.new.book ≡ history.old.book) × IsPrefix history.old.log history.new.log }
-    ensures left { MatchOption result (IsGone history.new.log part.number × HasLeft history.new.log (held_in part))
-        (λ back. back ≡ part) }
+    ensures left { MatchOption result (HasLeft history.new.log (held_in part)) (λ back. back ≡ part) }
 {
     if places.has(part.place(), part.number(), history) {
         return Some(part);
     }
-    part.depart(false, history)
+    part.depart(places, false, history)
 }
 
 /// Returns those of these parts whose generation has not gone, or that cannot leave it. The others leave theirs.
@@ -189,7 +201,7 @@ pub(crate) fn gather<T: Drop, K: Kind<T>>(
     requires { AreOfOneQueue handles.items }
     ensures all { IfOk result (λ r. (last : Generations T) × (others : List (Generations T))
         × (handles.items ≡ others ++ last ∷ []) × Gathers others last (held_by r.all.items) r.history.log
-        × HaveParts others r.theirs.parts.items) }
+        × HaveParts r.history.log others r.theirs.parts.items) }
     ensures book { IfOk result (λ r. All (λ g. g.book ≡ r.history.book) handles.items) }
     ensures parts { IfOk result (λ r. (log : List Change) × All (IsPart log) r.all.items
         × All (IsPart log) r.theirs.parts.items) }
@@ -201,9 +213,9 @@ pub(crate) fn gather<T: Drop, K: Kind<T>>(
     };
     // Were the look older than what the others have seen, it could miss a generation that one of them has joined.
     let mut seen = last.history().again();
-    let theirs = take_apart(alloc, handles, &mut seen)?;
+    // A generation that one handle has left has gone, and cannot be closed any more: so each handle leaves it.
+    let theirs = take_apart(alloc, last.places(), handles, &mut seen)?;
     last.learn(&seen);
-    // A generation that another handle has left has gone, and cannot be closed any more: so leave it.
     if !last.catch_up() {
         return Err(CloseFault::Memory);
     }
@@ -271,8 +283,8 @@ fn close_one<T: Drop>(
 ) -> Result<Vec<T>, CloseFault>
     requires opened { IsOpenedAs (opening_with false sizes.now) joined.handle }
     requires theirs { All (λ h. IsBeside joined.handle h) theirs.items }
-    ensures { IfOk result (λ left. (handles : List (Generations T))
-        → HaveOwnAmong handles joined.number theirs.items → WereLeft handles (held_in joined) left.items) }
+    ensures { IfOk result (λ left. (log : List Change) (handles : List (Generations T))
+        → HaveOwnAmong log handles joined.number theirs.items → WereLeft log handles (held_in joined) left.items) }
 {
     let Ended {
         queue,
@@ -290,8 +302,10 @@ fn close_each<T: Drop>(alloc: Global, gathered: Gathered<T>) -> Result<Vec<T>, C
         × All (λ p. IsOpenedAs (opening_with false gathered.sizes) p.handle) gathered.theirs.parts.items }
     requires parts { (log : List Change) × All (IsPart log) gathered.all.items
         × All (IsPart log) gathered.theirs.parts.items }
-    ensures { IfOk result (λ left. (handles : List (Generations T)) → HaveParts handles gathered.theirs.parts.items
-        → ClosesEach handles (held_by gathered.all.items) left.items) }
+    ensures { IfOk result (λ left. (log : List Change) (handles : List (Generations T))
+        → HaveParts log handles gathered.theirs.parts.items
+        → ClosesEach log handles (held_by gathered.all.items) left.items
+        × HaveEnded log handles (held_by gathered.all.items)) }
 {
     let Gathered {
         all,
@@ -305,15 +319,17 @@ fn close_each<T: Drop>(alloc: Global, gathered: Gathered<T>) -> Result<Vec<T>, C
         let mut values = close_one(alloc, joined, here, &sizes)?;
         left.append(&mut values)?;
     }
+    theirs.end()?;
     Ok(left)
 }
 
 /// Closes a queue by all its handles, and returns the payloads that are left, those of the oldest generation first, and
 /// what was seen of its history.
 ///
-/// The last handle first learns what the others have seen, follows them, and leaves what has gone. Of each generation
-/// that it is then in, these payloads are what is left after the one schedule of all calls there, in the order of
-/// `PayQueue::close`. All that the handles that are given did there is in that schedule.
+/// Each handle first leaves what has gone. The last one learns what the others have seen, and follows them. Of each
+/// generation that it is then in, these payloads are what is left after the one schedule of all calls there, in the
+/// order of `PayQueue::close`. All that the handles that are given did there is in that schedule. Each of them has left
+/// each other generation that it had joined, and nothing is left there.
 ///
 /// The handles are of one queue. MissingPass where one of its handles is still elsewhere, or none is given; Memory
 /// where an allocation failed. The payloads are then dropped.

@@ -2,6 +2,7 @@
 ghost use Rattle.std.specs.Prelude.{◌≡◌, IfSome, MatchOption, false, true};
 ghost use mathlib.Core.List.{IsPrefix};
 ghost use Rattle.kfifo_renewing.specs.Departed.{HaveDeparted};
+ghost use Rattle.kfifo_renewing.specs.History.{IsGone};
 ghost use Rattle.kfifo_renewing.specs.Joining.{IsPartIn, MayLeave, held_in};
 ghost use Rattle.kfifo_renewing.specs.Renewing.{HasLeft};
 
@@ -30,7 +31,8 @@ impl<T: Drop> Fits for Departed<T> {
 }
 
 impl<T: Drop> Core<T> {
-    /// Tries to have the pass of this part leave the generation as the first. It has seen that sealed empty.
+    /// Tries to have the pass of this part leave the generation as the first. It has seen that sealed empty, and that
+    /// has gone.
     pub(crate) fn begin(
         &self,
         part: Leaving<Joined<T>>,
@@ -38,11 +40,14 @@ impl<T: Drop> Core<T> {
     ) -> (Option<Departed<T>>, Option<Leaving<Joined<T>>>)
         requires part { IsPartIn self.now part }
         requires may { MayLeave history.old.book history.old.log true part }
+        requires gone { IsGone history.old.log part.number }
         ensures departed { IfSome result.0 (λ d. HaveDeparted self.now d.history.book d.history.log d.count
             d.passes.inner) }
         ensures later { (history.new.book ≡ history.old.book) × IsPrefix history.old.log history.new.log }
         ensures left { MatchOption result.1 (HasLeft history.new.log (held_in part)) (λ back. back ≡ part) }
     {
+        let seen = history.again();
+        history.learn(&seen);
         if !self.next.depart(0, &part, history) {
             return (None, Some(part));
         }

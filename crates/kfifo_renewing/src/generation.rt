@@ -17,6 +17,7 @@ use crate::history::{History, Next};
 use crate::joined::Joined;
 use crate::leaving::Leaving;
 use crate::memory::CellMemory;
+use crate::places::Places;
 use counted_slot::{Counted, FREE, Fits, PRESENT, TAKEN};
 use kfifo_exclusive::Exclusive;
 use kfifo_live::CloseFault;
@@ -366,10 +367,12 @@ impl<T: Drop> Generation<T> {
     /// thread is leaving, or another pass was counted first.
     pub(crate) fn depart(
         &self,
+        places: &Places<T>,
         part: Leaving<Joined<T>>,
         is_sealed: bool,
         history: &mut History,
     ) -> Option<Leaving<Joined<T>>>
+        requires book { history.old.book ≡ places.now.history.book }
         requires part { IsPartIn self.now part }
         requires may { MayLeave history.old.book history.old.log is_sealed part }
         ensures later { (history.new.book ≡ history.old.book) × IsPrefix history.old.log history.new.log }
@@ -387,7 +390,12 @@ impl<T: Drop> Generation<T> {
                 let (departed, back) = self.core.join(departed, part, history);
                 (Some(departed), back)
             }
-            None if is_sealed => self.core.begin(part, history),
+            None if is_sealed => {
+                // Others try to leave once the label is cleared. Were it cleared before this thread had the place of
+                // those that have left, one of the others could hold that place just then: so nobody would begin.
+                places.retire(&part, history);
+                self.core.begin(part, history)
+            }
             // The first to leave has to have seen the generation sealed empty.
             None => (None, Some(part)),
         };

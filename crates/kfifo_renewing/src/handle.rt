@@ -19,6 +19,7 @@ use crate::kind::{Kind, Payloads};
 use crate::label::PLACES;
 use crate::leaving::Leaving;
 use crate::older::Older;
+use crate::places::Places;
 use crate::queue::Shared;
 use std::alloc::{AllocError, Global};
 use std::marker::{Model, PhantomData};
@@ -140,6 +141,13 @@ impl<T: Drop, K: Kind<T>> RenewingHandle<T, K> {
         ensures { (result.now.book ≡ self.now.book) × (result.now.log ≡ self.now.seen) }
     {
         &self.history
+    }
+
+    /// The places of the queue's generations.
+    pub(crate) fn places(&self) -> &Places<T>
+        ensures { result.now.history.book ≡ self.now.book }
+    {
+        self.shared.places()
     }
 
     /// Learns what another handle of the queue has seen of the history.
@@ -343,9 +351,20 @@ impl<T: Drop, K: Kind<T>> RenewingHandle<T, K> {
         self.shared.numbers().newest(&mut self.history)
     }
 
-    /// Tries to leave the older generation at this index, if that has gone and the handle has no cell there. Returns
-    /// whether it left. The first pass to leave it has to have seen it sealed empty.
-    pub(crate) fn leave_if_gone(&mut self, index: usize, is_sealed: bool) -> bool
+    /// Whether the older generation at this index is still shown in its place.
+    fn is_shown(&mut self, index: usize) -> bool
+        requires { index < length self.old.older }
+        ensures same { self.new ≡ with_seen self.old self.new.seen }
+        ensures later { IsLater self.old self.new }
+    {
+        let joined = &self.older.parts()[index];
+        let (place, number) = (joined.place(), joined.number());
+        self.shared.places().has(place, number, &mut self.history)
+    }
+
+    /// Tries to leave the older generation at this index, if the handle has no cell there. Returns whether it left. The
+    /// first pass to leave it has to have seen it sealed empty.
+    pub(crate) fn leave(&mut self, index: usize, is_sealed: bool) -> bool
         requires index { index < length self.old.older }
         requires sealed { is_sealed ≡ true → HasSealedAt self.old.older index }
         ensures same { self.new ≡ with_older (with_seen self.old self.new.seen) self.new.older }
@@ -353,18 +372,32 @@ impl<T: Drop, K: Kind<T>> RenewingHandle<T, K> {
         ensures older { LeavesGone self.new.seen self.old.older self.new.older }
         ensures fewer { length self.new.older + (if result then 1 else 0) ≡ length self.old.older }
     {
-        let joined = &self.older.parts()[index];
-        if joined.has_cell() {
+        if self.older.parts()[index].has_cell() {
             return false;
         }
-        let (place, number) = (joined.place(), joined.number());
-        if self.shared.places().has(place, number, &mut self.history) {
-            return false;
-        }
-        let has_left = self.older.leave(index, is_sealed, &mut self.history);
+        let places = self.shared.places();
+        let has_left = self
+            .older
+            .leave(places, index, is_sealed, &mut self.history);
         let seen = self.history.again();
         self.history.learn(&seen);
         has_left
+    }
+
+    /// Tries to leave the older generation at this index, if that is no longer shown in its place. Returns whether it
+    /// left.
+    fn leave_if_gone(&mut self, index: usize) -> bool
+        requires { index < length self.old.older }
+        ensures same { self.new ≡ with_older (with_seen self.old self.new.seen) self.new.older }
+        ensures later { IsLater self.old self.new }
+        ensures older { LeavesGone self.new.seen self.old.older self.new.older }
+        ensures fewer { length self.new.older + (if result then 1 else 0) ≡ length self.old.older }
+    {
+        // While it is shown nobody has left it, and a look costs less than a try.
+        if self.is_shown(index) {
+            return false;
+        }
+        self.leave(index, false)
     }
 
     /// Leaves each older generation that has gone, that another pass has left, and in which the handle has no cell. It
@@ -376,7 +409,7 @@ impl<T: Drop, K: Kind<T>> RenewingHandle<T, K> {
     {
         let mut index = 0;
         while index < self.older.len() {
-            if !self.leave_if_gone(index, false) {
+            if !self.leave_if_gone(index) {
                 index += 1;
             }
         }

@@ -12,6 +12,7 @@ use crate::generation::Generation;
 use crate::history::History;
 use crate::kind::Kind;
 use crate::leaving::{Leave, Leaving};
+use crate::places::Places;
 use kfifo_live::{Given, Taken, TakenOrSealed};
 use kfifo_pool::{PooledHandle, PooledQueue};
 use std::alloc::Global;
@@ -143,15 +144,21 @@ impl<T: Drop> Leaving<Joined<T>> {
 
     /// Tries to leave the generation, which is no longer the newest, as `Generation::depart` does. Returns the part if
     /// it stays.
-    pub(crate) fn depart(self, is_sealed: bool, history: &mut History) -> Option<Leaving<Joined<T>>>
-        requires { MayLeave history.old.book history.old.log is_sealed self }
+    pub(crate) fn depart(
+        self,
+        places: &Places<T>,
+        is_sealed: bool,
+        history: &mut History,
+    ) -> Option<Leaving<Joined<T>>>
+        requires book { history.old.book ≡ places.now.history.book }
+        requires may { MayLeave history.old.book history.old.log is_sealed self }
         ensures later { (history.new.book ≡ history.old.book) × IsPrefix history.old.log history.new.log }
         ensures left { MatchOption result (HasLeft history.new.log (held_in self)) (λ back. back ≡ self) }
     {
         let Ok(generation) = Arc::try_clone(&self.part.generation) else {
             return Some(self);
         };
-        generation.depart(self, is_sealed, history)
+        generation.depart(places, self, is_sealed, history)
     }
 
     /// Whether the handle has a cell of the generation.

@@ -3,7 +3,8 @@ ghost use Rattle.std.specs.Prelude.{◌≡◌, All, IfOk, List, map, true, ℕ};
 ghost use Rattle.kfifo_renewing.specs.Cells.{CellsWereLeft, ClosesAllCells, LeavesCells};
 ghost use Rattle.kfifo_renewing.specs.Joining.{HaveParts, IsBeside, IsPart, held_by, held_in};
 ghost use Rattle.kfifo_renewing.specs.Memory.{cells_in};
-ghost use Rattle.kfifo_renewing.specs.Renewing.{AreOfOneQueue, Generations, HaveOwnAmong, IsOpenedAs, opening_with};
+ghost use Rattle.kfifo_renewing.specs.Renewing.{AreOfOneQueue, Generations, HaveEnded, HaveOwnAmong, IsOpenedAs};
+ghost use Rattle.kfifo_renewing.specs.Renewing.{opening_with};
 ghost use Rattle.kfifo_renewing.specs.declared.change.Change.{Change};
 
 use crate::closing::{Closed, Ended, Gathered, end, gather};
@@ -61,8 +62,8 @@ fn close_one(
 ) -> Result<LeftCells, CloseFault>
     requires opened { IsOpenedAs (opening_with true sizes.now) joined.handle }
     requires theirs { All (λ h. IsBeside joined.handle h) theirs.items }
-    ensures { IfOk result (λ left. (handles : List (Generations (Unit {0})))
-        → HaveOwnAmong handles joined.number theirs.items → CellsWereLeft handles (held_in joined) left) }
+    ensures { IfOk result (λ left. (log : List Change) (handles : List (Generations (Unit {0})))
+        → HaveOwnAmong log handles joined.number theirs.items → CellsWereLeft log handles (held_in joined) left) }
 {
     let Ended {
         queue,
@@ -84,9 +85,10 @@ fn close_each(alloc: Global, gathered: Gathered<()>) -> Result<Vec<LeftCells>, C
         × All (λ p. IsOpenedAs (opening_with true gathered.sizes) p.handle) gathered.theirs.parts.items }
     requires parts { (log : List Change) × All (IsPart log) gathered.all.items
         × All (IsPart log) gathered.theirs.parts.items }
-    ensures { IfOk result (λ left. (handles : List (Generations (Unit {0})))
-        → HaveParts handles gathered.theirs.parts.items
-        → LeavesCells handles (held_by gathered.all.items) left.items) }
+    ensures { IfOk result (λ left. (log : List Change) (handles : List (Generations (Unit {0})))
+        → HaveParts log handles gathered.theirs.parts.items
+        → LeavesCells log handles (held_by gathered.all.items) left.items
+        × HaveEnded log handles (held_by gathered.all.items)) }
 {
     let Gathered {
         all,
@@ -102,15 +104,16 @@ fn close_each(alloc: Global, gathered: Gathered<()>) -> Result<Vec<LeftCells>, C
             return Err(CloseFault::Memory);
         };
     }
+    theirs.end()?;
     Ok(left)
 }
 
 /// Closes a queue of cells by all its handles, and returns the cells that are left in each of its generations, the
 /// oldest first, with their memory, and what was seen of its history.
 ///
-/// The last handle first follows the others. In each generation they are what is left after the one schedule of all
-/// calls there, in the order of `PooledQueue::close`. All that a handle of the queue did there is in that schedule. A
-/// cell that a handle had reserved or received is not among them.
+/// As in `close`, each handle first leaves what has gone, and the last one follows the others. In each generation that
+/// it is then in, they are what is left after the one schedule of all calls there, in the order of `PooledQueue::close`.
+/// A cell that a handle had reserved or received is not among them.
 ///
 /// The handles are of one queue. MissingPass where one of its handles is still elsewhere, or none is given; Memory
 /// where an allocation failed. The cells are then gone with their memory, and nobody reads what was in them.

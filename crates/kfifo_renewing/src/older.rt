@@ -6,9 +6,8 @@ ghost use Rattle.std.specs.Prelude.{vec_capacity};
 ghost use mathlib.Core.List.{IsPrefix};
 ghost use Rattle.kfifo_live.specs.declared.view.Opening.{Opening};
 ghost use Rattle.kfifo_renewing.specs.Cells.{CallsFirst, reserved_in};
-ghost use Rattle.kfifo_renewing.specs.History.{HasRisen, newest_of};
-ghost use Rattle.kfifo_renewing.specs.Joining.{AreSameParts, HasNoCell, HasSealedAt, IsPart, IsSealedPart, MayLeave};
-ghost use Rattle.kfifo_renewing.specs.Joining.{OlderView, PartView, held_by, held_in};
+ghost use Rattle.kfifo_renewing.specs.Joining.{AreSameParts, HasNoCell, HasSealedAt, MayLeave, OlderView, PartView};
+ghost use Rattle.kfifo_renewing.specs.Joining.{held_by, held_in};
 ghost use Rattle.kfifo_renewing.specs.Memory.{cell_reserved};
 ghost use Rattle.kfifo_renewing.specs.Renewing.{HasLeft, IsOpenedAs, TakesFirst, slots_of};
 
@@ -105,8 +104,15 @@ impl<T: Drop> Older<T> {
 
     /// Tries to leave the generation at this index, which is no longer the newest. Returns whether it left. Else all is
     /// as before.
-    pub(crate) fn leave(&mut self, index: usize, is_sealed: bool, history: &mut History) -> bool
-        requires { (p : PartView T) × (slice_get self.old.items index ≡ Some p)
+    pub(crate) fn leave(
+        &mut self,
+        places: &Places<T>,
+        index: usize,
+        is_sealed: bool,
+        history: &mut History,
+    ) -> bool
+        requires book { history.old.book ≡ places.now.history.book }
+        requires may { (p : PartView T) × (slice_get self.old.items index ≡ Some p)
             × MayLeave history.old.book history.old.log is_sealed p }
         ensures later { (history.new.book ≡ history.old.book) × IsPrefix history.old.log history.new.log }
         ensures left { result ≡ true → (p : PartView T) → slice_get self.old.items index ≡ Some p
@@ -115,7 +121,7 @@ impl<T: Drop> Older<T> {
             else self.old.items) }
     {
         let part = self.parts.remove(index);
-        let Some(back) = part.depart(is_sealed, history) else {
+        let Some(back) = part.depart(places, is_sealed, history) else {
             return true;
         };
         // There is room, as it was there before.
@@ -124,28 +130,20 @@ impl<T: Drop> Older<T> {
     }
 
     /// Takes from the first that is not found empty. Says whether it found one empty, and the index of the first that
-    /// it found sealed. Each sealed one goes from its place.
+    /// it found sealed.
     #[inline(always)]
     pub(crate) fn take_first<K: Kind<T>>(
         &mut self,
-        places: &Places<T>,
-        history: &mut History,
         found_empty: &mut bool,
         sealed: &mut Option<usize>,
     ) -> Option<Taken<K::Got>>
-        requires bare { All (λ p. p.handle.held.pass.pass.opened.bare ≡ K.bare) self.old.items }
-        requires book { history.old.book ≡ places.now.history.book }
-        requires parts { All (IsPart history.old.log) self.old.items }
-        requires below { All (λ p. p.number < newest_of history.old.log) self.old.items }
-        requires risen { HasRisen history.old.log }
+        requires { All (λ p. p.handle.held.pass.pass.opened.bare ≡ K.bare) self.old.items }
         ensures same { AreSameParts self.old.items self.new.items }
         ensures takes { TakesFirst K.takes K.seals result (held_by self.old.items) (held_by self.new.items) }
         ensures sealed { IfSome sealed.new (HasSealedAt (held_by self.new.items)) }
-        ensures later { (history.new.book ≡ history.old.book) × IsPrefix history.old.log history.new.log }
-        ensures risen { HasRisen history.new.log }
     {
         let parts = self.parts.as_mut_slice();
-        let taken = take_first::<T, K>(parts, places, history, found_empty, sealed);
+        let taken = take_first::<T, K>(parts, found_empty, sealed);
         if *found_empty {
             self.with_cells = self.parts.len();
         } else if self.with_cells == 0 {
@@ -225,47 +223,18 @@ fn count_in<T: Drop>(parts: &[Leaving<Joined<T>>]) -> usize
     count_in(rest).saturating_add(first.generation().queue().len())
 }
 
-/// Takes the generation of this part out of its place, if that has seen it sealed empty.
-#[inline(always)]
-fn retire_if<T: Drop>(
-    is_sealed: bool,
-    places: &Places<T>,
-    part: &Leaving<Joined<T>>,
-    history: &mut History,
-)
-    requires book { history.old.book ≡ places.now.history.book }
-    requires part { IsPart history.old.log part.now }
-    requires over { part.now.number < newest_of history.old.log }
-    requires empty { is_sealed ≡ true → IsSealedPart part.now }
-    requires risen { HasRisen history.old.log }
-    ensures later { (history.new.book ≡ history.old.book) × IsPrefix history.old.log history.new.log }
-    ensures risen { HasRisen history.new.log }
-{
-    if is_sealed {
-        places.retire(part, history);
-    }
-}
-
 /// Takes from the first of these generations that is not empty. Says whether it found one empty, and the index of the
-/// first that it found sealed. Each sealed one goes from its place.
+/// first that it found sealed.
 fn take_first<T: Drop, K: Kind<T>>(
     generations: &mut [Leaving<Joined<T>>],
-    places: &Places<T>,
-    history: &mut History,
     found_empty: &mut bool,
     sealed: &mut Option<usize>,
 ) -> Option<Taken<K::Got>>
-    requires bare { All (λ p. p.handle.held.pass.pass.opened.bare ≡ K.bare) generations.old }
-    requires book { history.old.book ≡ places.now.history.book }
-    requires parts { All (IsPart history.old.log) generations.old }
-    requires below { All (λ p. p.number < newest_of history.old.log) generations.old }
-    requires risen { HasRisen history.old.log }
+    requires { All (λ p. p.handle.held.pass.pass.opened.bare ≡ K.bare) generations.old }
     ensures same { AreSameParts generations.old generations.new }
     ensures takes { TakesFirst K.takes K.seals result (held_by generations.old) (held_by generations.new) }
     ensures others { found_empty.new ≡ false → drop 1 generations.new ≡ drop 1 generations.old }
     ensures sealed { IfSome sealed.new (HasSealedAt (held_by generations.new)) }
-    ensures later { (history.new.book ≡ history.old.book) × IsPrefix history.old.log history.new.log }
-    ensures risen { HasRisen history.new.log }
 {
     *sealed = None;
     let (first, rest) = generations.split_first_mut()?;
@@ -273,8 +242,7 @@ fn take_first<T: Drop, K: Kind<T>>(
     match first.take_older::<K>(&mut is_sealed) {
         Some(taken) => Some(taken),
         None => {
-            retire_if(is_sealed, places, first, history);
-            let taken = take_first::<T, K>(rest, places, history, found_empty, sealed);
+            let taken = take_first::<T, K>(rest, found_empty, sealed);
             *sealed = first_sealed(is_sealed, *sealed);
             *found_empty = true;
             taken

@@ -42,14 +42,11 @@ impl<T: Drop, K: Kind<T>> RenewingHandle<T, K> {
         found_empty: &mut bool,
         sealed: &mut Option<usize>,
     ) -> Option<Taken<K::Got>>
-        ensures same { self.new ≡ with_older (with_seen self.old self.new.seen) self.new.older }
-        ensures later { IsLater self.old self.new }
+        ensures same { self.new ≡ with_older self.old self.new.older }
         ensures takes { TakesFirst K.takes K.seals result self.old.older self.new.older }
         ensures sealed { IfSome sealed.new (HasSealedAt self.new.older) }
     {
-        let places = self.shared.places();
-        self.older
-            .take_first::<K>(places, &mut self.history, found_empty, sealed)
+        self.older.take_first::<K>(found_empty, sealed)
     }
 
     /// Tries to leave the older generation at this index, which the handle has seen sealed empty.
@@ -60,7 +57,7 @@ impl<T: Drop, K: Kind<T>> RenewingHandle<T, K> {
         ensures older { LeavesGone self.new.seen self.old.older self.new.older }
     {
         if let Some(index) = sealed {
-            self.leave_if_gone(index, true);
+            self.leave(index, true);
         }
     }
 

@@ -6,14 +6,14 @@ use Rattle.kfifo_live.specs.declared.view.Opening.{Opening}
 use Rattle.kfifo_renewing.specs.Joining.{IsPart, PartView, held_by}
 use Rattle.kfifo_renewing.specs.Renewing.{EndsGone, IsOpenedAs, opening_in, opening_with}
 use Rattle.kfifo_renewing.specs.declared.places.Lineage.{Lineage}
-use Rattle.kfifo_renewing.proofs.Endings.{one-queue, seen-later}
+use Rattle.kfifo_renewing.proofs.Endings.{have-later, one-queue, seen-later}
 use Rattle.kfifo_renewing.proofs.Histories.{prefix-trans}
 use Rattle.kfifo_renewing.proofs.Joining.{parts-later}
 use Rattle.kfifo_renewing.proofs.Parts.{all-from-contains}
 use Rattle.kfifo_renewing.proofs.closing.gather.Goals as goal
 
-pub take_apart-requires : goal.take_apart-requires
-take_apart-requires g c k d inside =
+pub take_apart-requires-clause-of : goal.take_apart-requires-clause-of
+take_apart-requires-clause-of g c k d inside =
     let one = one-queue c.args.handles.items c.pop.new.self.items c.in-Some.last c.in-Some.ensures.items c.requires in
     one.3 k d inside ∙ sym (ap (λ h. h.book) c.again-seen.ensures ∙ c.history.ensures.0 ∙ one.5)
 
@@ -43,7 +43,12 @@ returns-clause-all g c =
         subst (λ hs. EndsGone c.leave_gone.new.history.log hs (held_by c.in_ok-parts.parts.items))
             c.in_ok-shared.ensures.joined c.in_ok-parts.ensures.left,
       ),
-      c.in_ok-theirs.ensures.all,
+      have-later log c.leave_gone.new.history.log c.pop.new.self.items c.in_ok-theirs.theirs.items
+          (prefix-trans log told.seen c.leave_gone.new.history.log c.learn.ensures.seen
+          (prefix-trans told.seen c.catch_up.new.self.seen c.leave_gone.new.history.log
+          c.catch_up.ensures.follows.later.seen
+          (subst (λ l. IsPrefix l c.leave_gone.new.history.log) c.in_ok-shared.ensures.history.1
+          c.leave_gone.ensures.later.1))) c.in_ok-theirs.ensures.all,
     )
 
 pub returns-clause-book : goal.returns-clause-book

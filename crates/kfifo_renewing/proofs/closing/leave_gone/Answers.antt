@@ -73,7 +73,7 @@ loop-part-preserved-in_default g c =
         subst (λ hs. EndsGone new hs (held_by kept))
             (sym (map-append (λ (p : PartView T). held_in p) done (part ∷ [])))
             (ends-left new (held_by done) (held_by kept) (held_in part)
-            (ends-later log new (held_by done) (held_by kept) later.1 i.so_far.2) left.0 left.1),
+            (ends-later log new (held_by done) (held_by kept) later.1 i.so_far.2) left),
         λ p of. Contains-append_left done (part ∷ []) p (i.so_far.3 p of),
       );
     }

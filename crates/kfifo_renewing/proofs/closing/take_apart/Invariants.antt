@@ -13,6 +13,6 @@ invariant-loop-handle g l = record {
   later : IsPrefix l.fn.history.log l.history.log;
   parts : All (IsPart l.history.log) l.theirs.items;
   so_far : (done : List (Generations g.row.T.Denot)) × (l.fn.handles.items ≡ done ++ l.handle-iterator.rest.items)
-      × HaveParts done l.theirs.items × HaveSeen done l.history.log
+      × HaveParts l.history.log done l.theirs.items × HaveSeen done l.history.log
       × ((o : Opening) → All (λ g. g.opened ≡ o) done → All (λ p. IsOpenedAs o p.handle) l.theirs.items);
 }

@@ -2,6 +2,7 @@ use Rattle.std.proofs.Common.{true, ◌≡◌, ◌++◌, List}
 use Rattle.kfifo_renewing.specs.Cells.{LeavesCells}
 use Rattle.kfifo_renewing.specs.Joining.{HaveParts, PartView, held_by}
 use Rattle.kfifo_renewing.specs.Renewing.{Generations, opening_with}
+use Rattle.kfifo_renewing.specs.declared.change.Change.{Change}
 use Rattle.kfifo_renewing.proofs.Endings.{AreLeft}
 use Rattle.kfifo_renewing.proofs.left.close_each.Given as goal
 
@@ -9,9 +10,10 @@ use Rattle.kfifo_renewing.proofs.left.close_each.Given as goal
 abbrev pub invariant-loop-joined : goal.invariant-loop-joined
 invariant-loop-joined l = record {
   same : l.sizes ≡ l.fn.gathered.sizes;
-  rest : AreLeft (opening_with true l.fn.gathered.sizes) l.fn.gathered.theirs.parts.items l.theirs.least
+  done : List (PartView (Unit {0}));
+  rest : AreLeft (opening_with true l.fn.gathered.sizes) l.fn.gathered.theirs.parts.items l.theirs.least done
       l.joined-iterator.rest.items l.theirs.parts.items;
-  left : (done : List (PartView (Unit {0}))) × (l.fn.gathered.all.items ≡ done ++ l.joined-iterator.rest.items)
-      × ((handles : List (Generations (Unit {0}))) → HaveParts handles l.fn.gathered.theirs.parts.items
-      → LeavesCells handles (held_by done) l.left.items);
+  left : (l.fn.gathered.all.items ≡ done ++ l.joined-iterator.rest.items)
+      × ((log : List Change) (handles : List (Generations (Unit {0}))) → HaveParts log handles l.fn.gathered.theirs.parts.items
+      → LeavesCells log handles (held_by done) l.left.items);
 }

@@ -19,13 +19,13 @@ close-requires c =
     (All-push (λ (h : Pooled T). IsPassOf e.queue h.held.pass.pass) e.others.items e.handle of.1 of.0)))
 
 pub returns : goal.returns
-returns c handles own =
+returns c log handles own =
     let T = Unit {0} in
     let e = c.in_ok-queue.field-0 in
     let are = c.in_ok-queue.ensures in record {
       queue = e.queue;
       others = e.others.items;
-      by = closed-by handles e.queue c.args.joined e.handle e.others.items c.args.theirs.items c.args.sizes.now.threads
+      by = closed-by log handles e.queue c.args.joined e.handle e.others.items c.args.theirs.items c.args.sizes.now.threads
           are.handle are.of.0 are.others (ap (λ (o : Opening). o.threads) c.requires.opened) are.theirs own;
       tokens = c.in_ok-tokens.tokens.items;
       closes = subst (λ hs. Closes e.queue (passes_in {T = T} hs) c.in_ok-tokens.tokens.items)

@@ -1,8 +1,9 @@
 -- The pass is then among those that have left.
-use Rattle.std.proofs.Common.{◌≡◌, ◌+◌, ◌++◌, [], ◌∷◌, arith, length, refl, sym, ap, ◌∙◌, subst}
+use Rattle.std.proofs.Common.{◌≡◌, ◌+◌, ◌++◌, [], ◌∷◌, length, refl, sym, ap, ◌∙◌, subst}
 use Rattle.std.specs.List.{Contains}
 use Rattle.std.proofs.lemmas.List.{append-nil}
 use Rattle.std.proofs.lemmas.List.Elements.{Contains-push}
+use mathlib.Core.List.{IsPrefix}
 use Rattle.kfifo_live.specs.Groups.{GroupView}
 use Rattle.kfifo_live.specs.Pass.{IsSamePass}
 use Rattle.kfifo_live.specs.Payloads.{EndsIn}
@@ -10,20 +11,23 @@ use Rattle.kfifo_pool.specs.Pooled.{Pooled}
 use Rattle.kfifo_renewing.specs.Departed.{HaveDeparted}
 use Rattle.kfifo_renewing.specs.History.{left_of, sight_of}
 use Rattle.kfifo_renewing.specs.Renewing.{Numbered}
-use Rattle.kfifo_renewing.proofs.Histories.{risen-from}
-use Rattle.kfifo_renewing.proofs.Keeping.{kept-risen}
-use Rattle.kfifo_renewing.proofs.Leavers.{has-left, left-more}
+use Rattle.kfifo_renewing.proofs.Histories.{prefix-trans}
+use Rattle.kfifo_renewing.proofs.Leavers.{has-left, left-more, over-of, was-of}
 use Rattle.kfifo_renewing.proofs.generation.Core.join.Goals as goal
+
+pub depart-requires-clause-newest : goal.depart-requires-clause-newest
+depart-requires-clause-newest g c =
+    let kept = c.learn.ensures.4 in
+    was-of kept.0 c.args.history.now.log c.learn.new.self.log c.args.part c.self.inside.next.number
+    (c.requires.part.0 ∙ sym (ap (λ (v : Numbered). v.number) c.self.view_is)) kept.1 c.learn.ensures.2
+    c.requires.may.part
 
 pub depart-requires-clause-over : goal.depart-requires-clause-over
 depart-requires-clause-over g c =
-    let log = c.learn.new.self.log in
-    let over = c.requires.may.over in
-    let rises = risen-from c.args.history.now.log log c.learn.ensures.2
-    (kept-risen c.learn.ensures.4.0 log c.learn.ensures.4.1) in
-    let same = c.requires.part.0 in
-    let number = ap (λ (v : Numbered). v.number) c.self.view_is in
-    omega (arith, over, rises, same, number)
+    let kept = c.learn.ensures.4 in
+    over-of kept.0 c.args.history.now.log c.learn.new.self.log c.args.part.number c.self.inside.next.number
+    (c.requires.part.0 ∙ sym (ap (λ (v : Numbered). v.number) c.self.view_is)) kept.1 c.learn.ensures.2
+    c.requires.may.over
 
 pub returns-clause-departed : goal.returns-clause-departed
 returns-clause-departed g c =
@@ -54,7 +58,9 @@ returns-clause-departed g c =
     (subst (λ (x : GroupView T). IsSamePass x.first.pass w.first.pass) before j.same)
     (j.others ∙ (λ i. (before i).others ++ its i ∷ []))
     (subst (λ (x : GroupView T). EndsIn w.first.pass.seen w.first.gifts x.first) before j.later)
-    j.ends j.promise)
+    j.ends j.promise j.nothing
+    (subst (IsPrefix seen) (sym (ap (λ h. h.log) c.again.ensures))
+    (prefix-trans seen c.learn.new.self.log c.depart.new.history.log c.learn.ensures.3 c.depart.ensures.later.1)))
 
 pub returns-clause-left : goal.returns-clause-left
 returns-clause-left g c =

@@ -1,16 +1,10 @@
 -- The handle may have a cell in those into which it has looked. The others are as before.
 use Rattle.std.proofs.Common.{◌≡◌, All, List, ap, arith, drop, length, subst, sym, ◌∙◌}
 use Rattle.std.proofs.lemmas.List.Elements.{All-drop}
-use Rattle.kfifo_renewing.specs.Joining.{HasNoCell, IsPart, OlderView, PartView}
+use Rattle.kfifo_renewing.specs.Joining.{HasNoCell, PartView}
 use Rattle.kfifo_renewing.proofs.NoCells.{same-from}
 use Rattle.kfifo_renewing.proofs.Parts.{written}
 use Rattle.kfifo_renewing.proofs.older.Older.take_first.Goals as goal
-
-pub take_first-taken-requires-clause-parts : goal.take_first-taken-requires-clause-parts
-take_first-taken-requires-clause-parts g c =
-    subst (All (IsPart c.args.history.now.log)) (sym c.as_mut_slice-parts.ensures.value)
-    (subst (λ (o : OlderView g.row.T.Denot). All (IsPart c.args.history.now.log) o.items) (sym c.self.view_is)
-    c.requires.parts)
 
 pub invariant_of-self-then-self-eq0 : goal.invariant_of-self-then-self-eq0
 invariant_of-self-then-self-eq0 g c =
