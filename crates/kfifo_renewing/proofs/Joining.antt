@@ -1,12 +1,12 @@
 -- What a handle has joined stays so as it sees more of the history, makes calls, leaves generations and joins others.
 use Rattle.std.proofs.Common.{◌≡◌, ◌<◌, ◌≤◌, ◌+◌, ◌⊎◌, ⊎_elim, ℕ, zero, suc, List, [], ◌∷◌, ◌++◌, All, take, drop}
 use Rattle.std.proofs.Common.{length, slice_get, slice_index_or, ◌≢◌, ◌==◌, Bool, true, false, MatchBool, None, Option}
-use Rattle.std.proofs.Common.{Some, arith, inl, inr, refl, sym, ap, ◌∙◌, subst}
+use Rattle.std.proofs.Common.{Some, arith, inl, inr, length-append, refl, slice_set, sym, ap, ◌∙◌, subst}
 use Rattle.std.specs.List.{Contains, insert, remove}
-use Rattle.std.specs.Prelude.{IfSome, if◌then◌else◌}
+use Rattle.std.specs.Prelude.{if◌then◌else◌}
 use Rattle.std.specs.Result.{IsOk, is_ok}
 use Rattle.core.specs.declared.result.Result.{Result}
-use Rattle.std.proofs.lemmas.List.{length-map}
+use Rattle.std.proofs.lemmas.List.{length-map, map-append}
 use Rattle.std.proofs.lemmas.List.Elements.{All-append, All-cons, All-nil, All-push, Contains-append_left}
 use Rattle.std.proofs.lemmas.List.Elements.{Contains-append_right, Contains-push}
 use Rattle.std.proofs.Math.Nat.{eq-or-lt_of_le}
@@ -22,14 +22,14 @@ use Rattle.kfifo_renewing.specs.declared.change.Change.TheVariants as C
 use Rattle.kfifo_renewing.specs.History.{FindsThere, HasRisen, IsGone, IsKept, IsMade, IsPlaced, WasNewest}
 use Rattle.kfifo_renewing.specs.History.{place_count}
 use Rattle.kfifo_renewing.specs.Joining.{AreAmong, AreSameParts, HasJoined, HasNumber, HasOlder, HasSealedAt}
-use Rattle.kfifo_renewing.specs.Joining.{HasSeenSealed, IsPart, IsPartOf, IsSamePart, IsSealedPart}
+use Rattle.kfifo_renewing.specs.Joining.{HasSeenSealed, IsPart, IsPartOf, IsSamePart, IsSealedPart, LeavesAt}
 use Rattle.kfifo_renewing.specs.Joining.{PartView, held_by, held_in}
 use Rattle.kfifo_renewing.specs.Renewing.{Generations, HasAll, HasLeft, HeldIn, LeavesGone, Numbered}
 use Rattle.kfifo_renewing.proofs.Histories.{contains-later, gone-later, made-later, was-below, was-later}
 use Rattle.kfifo_renewing.proofs.Histories.{risen-was, was_first}
 use Rattle.kfifo_renewing.proofs.Keeping.{kept-placed}
-use Rattle.kfifo_renewing.proofs.Departures.{leaves-refl}
-use Rattle.kfifo_renewing.proofs.Parts.{all-next, all-without, contains-cons, contains-head, contains-map}
+use Rattle.kfifo_renewing.proofs.Departures.{leaves-append, leaves-refl}
+use Rattle.kfifo_renewing.proofs.Parts.{all-next, all-without, contains-cons, contains-head, contains-map, split-get}
 use Rattle.kfifo_renewing.proofs.Parts.{contains-without}
 
 -- the element at an index
@@ -426,40 +426,64 @@ module _ {T : Type 0} where
       let same : h ≡ held_in p = cc in
       subst (λ (x : HeldIn T). HasSeenSealed x.handle.held.pass.pass) same seen
 
-  less-length : (ps : List (PartView T)) (i : ℕ) → i < length ps → length (take i ps ++ drop (i + 1) ps) + 1 ≡ length ps
-  less-length [] i inside = absurd (omega (arith, inside))
-  less-length (q ∷ ps) zero inside = let e : length ps + 1 ≡ suc (length ps) = omega arith in e
-  less-length (q ∷ ps) (suc i) inside =
-      let rest = less-length ps i (omega (arith, inside)) in
-      subst (λ n. length (q ∷ (take i ps ++ drop n (q ∷ ps))) + 1 ≡ suc (length ps))
-      (let e : suc (i + 1) ≡ suc i + 1 = omega arith in e)
-      (let e : suc (length (take i ps ++ drop (i + 1) ps)) + 1 ≡ suc (length ps) = omega (arith, rest) in e)
-
-  less-at : (log : List Change) (ps : List (PartView T)) (i : ℕ) (p : PartView T) → slice_get ps i ≡ Some p
+  -- the handles of parts, but the one at an index where its generation has gone and was left
+  leaves-at : (log : List Change) (ps : List (PartView T)) (i : ℕ) (p : PartView T) → slice_get ps i ≡ Some p
       → p.handle.cells ≡ no_cells → HasLeft log (held_in p)
-      → LeavesGone log (held_by ps) (held_by (take i ps ++ drop (i + 1) ps))
-  less-at log [] i p at none left = absurd cc
-  less-at log (q ∷ ps) zero p at none left =
-      let same : q ≡ p = cc in
-      inr (
-        ap (λ (x : PartView T). x.handle.cells) same ∙ none,
-        subst (λ (x : PartView T). HasLeft log (held_in x)) (sym same) left,
-        leaves-refl log (held_by ps),
-      )
-  less-at log (q ∷ ps) (suc i) p at none left = inl (
-    held_by (take i ps ++ drop (i + 1) ps),
-    ap (λ n. held_by (q ∷ (take i ps ++ drop n (q ∷ ps)))) (let e : suc i + 1 ≡ suc (i + 1) = omega arith in e),
-    less-at log ps i p at none left,
+      → LeavesAt log i (held_by ps) (held_by (take i ps ++ drop (i + 1) ps))
+  leaves-at log ps i p at none left =
+      let f : PartView T → HeldIn T = λ q. held_in q in
+      let split = split-get ps i p at in
+      record {
+        before = held_by (take i ps);
+        after = held_by (drop (i + 1) ps);
+        handle = held_in p;
+        was = ap held_by split.0 ∙ map-append f (take i ps) (p ∷ drop (i + 1) ps);
+        now = map-append f (take i ps) (drop (i + 1) ps);
+        at = length-map (take i ps) f ∙ split.1;
+        no_cell = none;
+        left = left;
+      }
+
+  pub held-left : (b : Bool) (log : List Change) (ps qs : List (PartView T)) (i : ℕ) (p : PartView T)
+      → qs ≡ (if b then take i ps ++ drop (i + 1) ps else ps) → slice_get ps i ≡ Some p → p.handle.cells ≡ no_cells
+      → (b ≡ true → HasLeft log (held_in p))
+      → MatchBool b (LeavesAt log i (held_by ps) (held_by qs)) (held_by qs ≡ held_by ps)
+  held-left true log ps qs i p is at none left =
+      subst (λ l. LeavesAt log i (held_by ps) (held_by l)) (sym is) (leaves-at log ps i p at none (left refl))
+  held-left false log ps qs i p is at none left = ap held_by is
+
+  -- where one was left, it has gone, and there are fewer
+  pub left-at : (log : List Change) (i : ℕ) (hs ks : List (HeldIn T)) → LeavesAt log i hs ks
+      → LeavesGone log hs ks × (length ks + 1 ≡ length hs)
+  left-at log i hs ks l = (
+    subst (λ xs. LeavesGone log xs ks) (sym l.was) (subst (LeavesGone log (l.before ++ l.handle ∷ l.after)) (sym l.now)
+        (leaves-append log l.before l.before (l.handle ∷ l.after) l.after (leaves-refl log l.before)
+        (inr (l.no_cell, l.left, leaves-refl log l.after)))),
+    let old = ap length l.was in
+        let new = ap length l.now in
+        let some = length-append l.before (l.handle ∷ l.after) in
+        let rest = length-append l.before l.after in
+        omega (arith, old, new, some, rest),
   )
 
-  -- the handles of parts, but the one at an index where its generation has gone and was left
-  pub held-left : (b : Bool) (log : List Change) (ps qs : List (PartView T)) (i : ℕ) (p : PartView T)
-      → qs ≡ (if b then take i ps ++ drop (i + 1) ps else ps) → slice_get ps i ≡ Some p
-      → p.handle.cells ≡ no_cells → (b ≡ true → HasLeft log (held_in p)) → LeavesGone log (held_by ps) (held_by qs)
-  held-left true log ps qs i p is at none left =
-      subst (λ l. LeavesGone log (held_by ps) (held_by l)) (sym is) (less-at log ps i p at none (left refl))
-  held-left false log ps qs i p is at none left =
-      subst (λ l. LeavesGone log (held_by ps) (held_by l)) (sym is) (leaves-refl log (held_by ps))
+  pub gone-if : (b : Bool) (log : List Change) (i : ℕ) (hs ks : List (HeldIn T))
+      → MatchBool b (LeavesAt log i hs ks) (ks ≡ hs)
+      → LeavesGone log hs ks × (length ks + (if b then 1 else 0) ≡ length hs)
+  gone-if true log i hs ks l = left-at log i hs ks l
+  gone-if false log i hs ks same = (
+    subst (LeavesGone log hs) (sym same) (leaves-refl log hs),
+    let long = ap length same in omega (arith, long),
+  )
+
+  -- a part is the same after a call, and so are the others
+  pub same-set : (ps : List (PartView T)) (i : ℕ) (p q : PartView T) → slice_get ps i ≡ Some p → IsSamePart p q
+      → AreSameParts ps (slice_set ps i q)
+  same-set [] i p q at same = absurd cc
+  same-set (x ∷ ps) zero p q at same =
+      let is : x ≡ p = cc in
+      (q, ps, refl, subst (λ (y : PartView T). IsSamePart y q) (sym is) same, same-refl ps)
+  same-set (x ∷ ps) (suc i) p q at same =
+      (x, slice_set ps i q, refl, (refl, refl, (refl, refl, refl), refl), same-set ps i p q at same)
 
   pub joined-left : (b : Bool) (o : Opening) (shared book : Book) (log : List Change) (g : Numbered) (h : PartView T)
       (ps qs : List (PartView T)) (i : ℕ) (p : PartView T) → HasJoined o shared book log g h ps
@@ -469,12 +493,6 @@ module _ {T : Type 0} where
       joined-less o shared book log g h ps qs i p j is at (left refl).gone
   joined-left false o shared book log g h ps qs i p j is at left =
       subst (HasJoined o shared book log g h) (sym is) j
-
-  pub fewer-left : (b : Bool) (ps qs : List (PartView T)) (i : ℕ)
-      → qs ≡ (if b then take i ps ++ drop (i + 1) ps else ps) → i < length ps
-      → length qs + (if b then 1 else 0) ≡ length ps
-  fewer-left true ps qs i is inside = ap (λ l. length l + 1) is ∙ less-length ps i inside
-  fewer-left false ps qs i is inside = let same = ap length is in omega (arith, same)
 
 -- the element at an index of a list by another name
 pub get-there : {A : Type 0} (xs ys : List A) (i : ℕ) (x : A) → ys ≡ xs → i < length xs → x ≡ slice_index_or ys i x
@@ -508,17 +526,3 @@ pub insert-back : {A : Type 0} (xs : List A) (i : ℕ) (x : A) → slice_get xs 
 insert-back [] i x at = absurd cc
 insert-back (y ∷ xs) zero x at = let same : y ≡ x = cc in ap (λ z. z ∷ xs) (sym same)
 insert-back (y ∷ xs) (suc i) x at = ap (λ l. y ∷ l) (insert-back xs i x at)
-
--- the first of some handles that has seen its generation sealed empty
-pub sealed-first : {T : Type 0} (r behind : Option ℕ) (b : Bool) (h : HeldIn T) (hs : List (HeldIn T))
-    → ((i : ℕ) → r ≡ Some i → ((b ≡ true) × (i ≡ 0)) ⊎ ((n : ℕ) × (behind ≡ Some n) × (i ≡ n + 1)))
-    → IfSome behind (HasSealedAt hs) → (b ≡ true → HasSeenSealed h.handle.held.pass.pass)
-    → IfSome r (HasSealedAt (h ∷ hs))
-sealed-first None behind b h hs is rest first = tt
-sealed-first (Some i) behind b h hs is rest first = ⊎_elim
-    (λ here. subst (HasSealedAt (h ∷ hs)) (sym here.1) (h, refl, first here.0))
-    (λ next.
-    let there : HasSealedAt hs next.0 = subst (λ o. IfSome o (HasSealedAt hs)) next.1 rest in
-    subst (HasSealedAt (h ∷ hs)) (let is' = next.2 in let e : suc next.0 ≡ i = omega (arith, is') in e)
-    (there.0, there.1, there.2))
-    (is i refl)

@@ -1,4 +1,5 @@
 pub mod Shapes
+pub mod Drained
 pub mod Histories
 pub mod Keeping
 pub mod Emptying

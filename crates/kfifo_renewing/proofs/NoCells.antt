@@ -1,6 +1,6 @@
 -- Generations in which a handle has no cell: what a call with one finds there, and which are so after a change.
-use Rattle.std.proofs.Common.{◌≡◌, ◌<◌, ◌+◌, ◌-◌, ℕ, zero, suc, None, List, [], ◌∷◌, ◌++◌, All, take, drop, length}
-use Rattle.std.proofs.Common.{refl, sym, ap, ◌∙◌, subst, arith, inl, inr, slice_index_or}
+use Rattle.std.proofs.Common.{◌≡◌, ◌<◌, ◌≤◌, ◌+◌, ◌-◌, ℕ, zero, suc, None, List, [], ◌∷◌, ◌++◌, All, take, drop, length}
+use Rattle.std.proofs.Common.{refl, sym, ap, ◌∙◌, subst, arith, inl, inr, slice_index_or, slice_set}
 use Rattle.std.proofs.lemmas.List.Elements.{All-append, All-cons, All-drop, All-nil}
 use Rattle.std.specs.Option.{option_or}
 use Rattle.kfifo_live.specs.declared.payload.Given.TheVariants as G
@@ -50,13 +50,19 @@ module _ {A : Type 0} where
   all-from-append P (x ∷ xs) ys zero each all = All-append P (x ∷ xs) ys each all
   all-from-append P (x ∷ xs) ys (suc n) each all = all-from-append P xs ys n each all
 
-  -- lists that differ in the first alone
-  pub same-from : (xs ys : List A) (n : ℕ) → (n ≡ 0 → ⊥) → drop 1 ys ≡ drop 1 xs → drop n ys ≡ drop n xs
-  same-from xs ys zero some same = absurd (some refl)
-  same-from [] [] (suc n) some same = refl
-  same-from [] (y ∷ ys) (suc n) some same = ap (drop n) same ∙ drop-nothing n
-  same-from (x ∷ xs) [] (suc n) some same = sym (drop-nothing n) ∙ ap (drop n) same
-  same-from (x ∷ xs) (y ∷ ys) (suc n) some same = ap (drop n) same
+  -- and of those from a later one on
+  pub all-from-later : (P : A → Type 0) (xs : List A) (n m : ℕ) → n ≤ m → All P (drop n xs) → All P (drop m xs)
+  all-from-later P [] n m up all = subst (All P) (sym (drop-nothing m)) (All-nil P)
+  all-from-later P (x ∷ xs) zero m up all = All-drop P m (x ∷ xs) all
+  all-from-later P (x ∷ xs) (suc n) zero up all = absurd (omega (arith, up))
+  all-from-later P (x ∷ xs) (suc n) (suc m) up all = all-from-later P xs n m (omega (arith, up)) all
+
+  -- those behind an index are the same, whatever is there
+  pub drop-set : (xs : List A) (i n : ℕ) (x : A) → i < n → drop n (slice_set xs i x) ≡ drop n xs
+  drop-set [] i n x below = refl
+  drop-set (y ∷ xs) i zero x below = absurd (omega (arith, below))
+  drop-set (y ∷ xs) zero (suc n) x below = refl
+  drop-set (y ∷ xs) (suc i) (suc n) x below = drop-set xs i n x (omega (arith, below))
 
   -- the same index among those behind the first, and one more with another one before these
   pub all-from-behind : (P : A → Type 0) (x : A) (xs ys : List A) (n : ℕ) → ys ≡ x ∷ xs → (n ≡ 0 → ⊥)

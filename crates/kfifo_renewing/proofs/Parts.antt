@@ -1,6 +1,6 @@
 -- Lists: what holds of all their elements, and lists of threads.
 use Rattle.std.proofs.Common.{◌≡◌, ◌==◌, ◌+◌, ◌⊎◌, ⊎_elim, ℕ, zero, suc, not, List, [], ◌∷◌, ◌++◌, All, take, drop}
-use Rattle.std.proofs.Common.{Bool, true, false, MatchOption, None, Option, Some, arith, cond, filter, inl, inr, length, map, refl, slice_get}
+use Rattle.std.proofs.Common.{Bool, true, false, Some, arith, cond, filter, inl, inr, length, map, refl, slice_get, slice_set}
 use Rattle.std.proofs.Common.{slice_index_or, sym, ap, ◌∙◌, subst}
 use Rattle.std.specs.List.{Contains}
 use Rattle.kfifo_renewing.specs.Joining.{PartView}
@@ -103,3 +103,39 @@ pub bare_rest : {T : Type 0} (bare : Bool) (parts rest : List (PartView T)) (fir
 bare_rest {T} bare parts rest first is all i d inside =
     subst (All (λ (p : PartView T). p.handle.held.pass.pass.opened.bare ≡ bare)) is all (suc i) d
     (omega (arith, inside))
+
+-- a list, by the element at an index
+pub split-get : {A : Type 0} (xs : List A) (i : ℕ) (x : A) → slice_get xs i ≡ Some x
+    → (xs ≡ take i xs ++ x ∷ drop (i + 1) xs) × (length (take i xs) ≡ i)
+split-get [] i x at = absurd cc
+split-get (y ∷ xs) zero x at = let same : y ≡ x = cc in (ap (λ z. z ∷ xs) same, refl)
+split-get (y ∷ xs) (suc i) x at =
+    let rest = split-get xs i x at in
+    let next : suc (i + 1) ≡ suc i + 1 = omega arith in
+    (ap (λ l. y ∷ l) rest.0 ∙ ap (λ n. y ∷ (take i xs ++ x ∷ drop n (y ∷ xs))) next, ap suc rest.1)
+
+-- with another one there
+pub split-set : {A : Type 0} (xs : List A) (i : ℕ) (x y : A) → slice_get xs i ≡ Some x
+    → slice_set xs i y ≡ take i xs ++ y ∷ drop (i + 1) xs
+split-set [] i x y at = absurd cc
+split-set (z ∷ xs) zero x y at = refl
+split-set (z ∷ xs) (suc i) x y at =
+    let next : suc (i + 1) ≡ suc i + 1 = omega arith in
+    ap (λ l. z ∷ l) (split-set xs i x y at) ∙ ap (λ n. z ∷ (take i xs ++ y ∷ drop n (z ∷ xs))) next
+
+pub get-split : {A : Type 0} (xs ys : List A) (x : A) → slice_get (xs ++ x ∷ ys) (length xs) ≡ Some x
+get-split [] ys x = refl
+get-split (y ∷ xs) ys x = get-split xs ys x
+
+-- lists that are alike begin alike, and go on alike
+pub split-same : {A : Type 0} (xs us ys vs : List A) → length xs ≡ length ys → xs ++ us ≡ ys ++ vs
+    → (xs ≡ ys) × (us ≡ vs)
+split-same [] us [] vs long is = (refl, is)
+split-same [] us (y ∷ ys) vs long is = absurd cc
+split-same (x ∷ xs) us [] vs long is = absurd cc
+split-same (x ∷ xs) us (y ∷ ys) vs long is =
+    let less : length xs ≡ length ys = omega (arith, long) in
+    let more : xs ++ us ≡ ys ++ vs = cc in
+    let rest = split-same xs us ys vs less more in
+    let same : x ≡ y = cc in
+    ((λ k. same k ∷ rest.0 k), rest.1)

@@ -1,12 +1,14 @@
 -- What a handle of a renewing queue has joined: parts in generations.
-use Rattle.std.specs.Prelude.{◌≡◌, ◌⊎◌, ◌<◌, ℕ, Bool, true, List, [], ◌∷◌, All, Some, map, slice_get}
+use Rattle.std.specs.Prelude.{◌≡◌, ◌⊎◌, ◌<◌, ◌++◌, ℕ, Bool, true, List, [], ◌∷◌, All, Option, Some, length, map, slice_get}
 use Rattle.std.specs.List.{Contains}
 use Rattle.logbook.specs.Pages.{Book}
 use Rattle.kfifo_pool.specs.Pooled.{Pooled, no_cells}
 use Rattle.kfifo_live.specs.Pass.{IsPassOf, IsSamePass, IsSealedEmpty, PassKeepsPromise, PassView}
+use Rattle.kfifo_live.specs.declared.payload.Taken.{Taken}
+use Rattle.kfifo_live.specs.declared.payload.sealing.TakenOrSealed.{TakenOrSealed}
 use Rattle.kfifo_live.specs.declared.view.Opening.{Opening}
 use Rattle.kfifo_renewing.specs.History.{HasRisen, IsGone, IsMade, IsPlaced, WasNewest, newest_of, place_count}
-use Rattle.kfifo_renewing.specs.Renewing.{Generations, HasLeft, HeldIn, IsFresh, IsOpenedAs, Numbered, all_of}
+use Rattle.kfifo_renewing.specs.Renewing.{Generations, HasLeft, HeldIn, IsFresh, IsOpenedAs, Numbered, TakesOlder, all_of}
 use Rattle.kfifo_renewing.specs.declared.change.Change.{Change}
 
 -- a pass has seen its queue sealed empty, in a schedule that keeps the promise
@@ -120,3 +122,30 @@ module _ {T : Type 0} where
     pub older_parts : All (IsPart log) older
     pub below : All (λ p. p.number < g.number) older
     pub all : HasOlder log older g.number
+
+  -- A handle has left its generation, that at this index of some, and had no cell there. These are the others
+  pub record LeavesAt (log : List Change) (index : ℕ) (old new : List (HeldIn T)) : Type 0 where
+    pub before : List (HeldIn T)
+    pub after : List (HeldIn T)
+    pub handle : HeldIn T
+    pub was : old ≡ before ++ handle ∷ after
+    pub now : new ≡ before ++ after
+    pub at : length before ≡ index
+    pub no_cell : handle.handle.cells ≡ no_cells
+    pub left : HasLeft log handle
+
+module _ {T G : Type 0} (takes : Taken G → Pooled T → Pooled T → Type 0)
+    (seals : TakenOrSealed G → Pooled T → Pooled T → Type 0) where
+  -- A take from the generation at this index of some came to this. Where `is_sealed` is true, the handle has then seen
+  -- it sealed empty. The others are as before
+  pub record TakesAt (index : ℕ) (answer : Option (Taken G)) (is_sealed : Bool) (old new : List (HeldIn T)) : Type 0 where
+    pub before : List (HeldIn T)
+    pub after : List (HeldIn T)
+    pub handle : HeldIn T
+    pub next : HeldIn T
+    pub was : old ≡ before ++ handle ∷ after
+    pub now : new ≡ before ++ next ∷ after
+    pub at : length before ≡ index
+    pub number : next.number ≡ handle.number
+    pub took : TakesOlder takes seals answer handle.handle next.handle
+    pub sealed : is_sealed ≡ true → HasSeenSealed next.handle.held.pass.pass

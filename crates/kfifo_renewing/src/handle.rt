@@ -5,7 +5,8 @@ ghost use Rattle.std.specs.Ptr.{as_ptr};
 ghost use mathlib.Core.List.{IsPrefix};
 ghost use Rattle.kfifo_live.specs.Pass.{IsPassOf};
 ghost use Rattle.kfifo_renewing.specs.History.{HasRisen, WasNewest, place_count};
-ghost use Rattle.kfifo_renewing.specs.Joining.{AreAmong, HasJoined, HasSealedAt, IsPart, IsPartOf, IsUnused, held_by};
+ghost use Rattle.kfifo_renewing.specs.Joining.{AreAmong, HasJoined, HasSealedAt, IsPart, IsPartOf, IsUnused, LeavesAt};
+ghost use Rattle.kfifo_renewing.specs.Joining.{held_by};
 ghost use Rattle.kfifo_renewing.specs.Renewing.{Counts, Follows, Generations, HasAll};
 ghost use Rattle.kfifo_renewing.specs.Renewing.{IsAtNewest, IsBehind, IsFresh, IsLater, IsOpenedAs, IsUntouched};
 ghost use Rattle.kfifo_renewing.specs.Renewing.{LeavesGone};
@@ -369,8 +370,8 @@ impl<T: Drop, K: Kind<T>> RenewingHandle<T, K> {
         requires sealed { is_sealed ≡ true → HasSealedAt self.old.older index }
         ensures same { self.new ≡ with_older (with_seen self.old self.new.seen) self.new.older }
         ensures later { IsLater self.old self.new }
-        ensures older { LeavesGone self.new.seen self.old.older self.new.older }
-        ensures fewer { length self.new.older + (if result then 1 else 0) ≡ length self.old.older }
+        ensures left { MatchBool result (LeavesAt self.new.seen index self.old.older self.new.older)
+            (self.new.older ≡ self.old.older) }
     {
         if self.older.parts()[index].has_cell() {
             return false;

@@ -6,10 +6,10 @@ ghost use Rattle.std.specs.Prelude.{vec_capacity};
 ghost use mathlib.Core.List.{IsPrefix};
 ghost use Rattle.kfifo_live.specs.declared.view.Opening.{Opening};
 ghost use Rattle.kfifo_renewing.specs.Cells.{CallsFirst, reserved_in};
-ghost use Rattle.kfifo_renewing.specs.Joining.{AreSameParts, HasNoCell, HasSealedAt, MayLeave, OlderView, PartView};
+ghost use Rattle.kfifo_renewing.specs.Joining.{AreSameParts, HasNoCell, MayLeave, OlderView, PartView, TakesAt};
 ghost use Rattle.kfifo_renewing.specs.Joining.{held_by, held_in};
 ghost use Rattle.kfifo_renewing.specs.Memory.{cell_reserved};
-ghost use Rattle.kfifo_renewing.specs.Renewing.{HasLeft, IsOpenedAs, TakesFirst, slots_of};
+ghost use Rattle.kfifo_renewing.specs.Renewing.{HasLeft, IsOpenedAs, slots_of};
 
 use crate::cells::CellCall;
 use crate::history::History;
@@ -129,27 +129,21 @@ impl<T: Drop> Older<T> {
         false
     }
 
-    /// Takes from the first that is not found empty. Says whether it found one empty, and the index of the first that
-    /// it found sealed.
+    /// Takes from the one at this index. Returns None where that was found empty, and says whether it is sealed.
     #[inline(always)]
-    pub(crate) fn take_first<K: Kind<T>>(
+    pub(crate) fn take_at<K: Kind<T>>(
         &mut self,
-        found_empty: &mut bool,
-        sealed: &mut Option<usize>,
+        index: usize,
+        is_sealed: &mut bool,
     ) -> Option<Taken<K::Got>>
-        requires { All (λ p. p.handle.held.pass.pass.opened.bare ≡ K.bare) self.old.items }
+        requires index { index < length self.old.items }
+        requires bare { All (λ p. p.handle.held.pass.pass.opened.bare ≡ K.bare) self.old.items }
         ensures same { AreSameParts self.old.items self.new.items }
-        ensures takes { TakesFirst K.takes K.seals result (held_by self.old.items) (held_by self.new.items) }
-        ensures sealed { IfSome sealed.new (HasSealedAt (held_by self.new.items)) }
+        ensures takes { TakesAt K.takes K.seals index result is_sealed.new (held_by self.old.items)
+            (held_by self.new.items) }
     {
-        let parts = self.parts.as_mut_slice();
-        let taken = take_first::<T, K>(parts, found_empty, sealed);
-        if *found_empty {
-            self.with_cells = self.parts.len();
-        } else if self.with_cells == 0 {
-            self.with_cells = 1;
-        }
-        taken
+        self.with_cells = self.with_cells.max(index + 1);
+        self.parts[index].take_older::<K>(is_sealed)
     }
 
     /// Lowers the index past parts in which the handle has no cell.
@@ -221,44 +215,6 @@ fn count_in<T: Drop>(parts: &[Leaving<Joined<T>>]) -> usize
         return 0;
     };
     count_in(rest).saturating_add(first.generation().queue().len())
-}
-
-/// Takes from the first of these generations that is not empty. Says whether it found one empty, and the index of the
-/// first that it found sealed.
-fn take_first<T: Drop, K: Kind<T>>(
-    generations: &mut [Leaving<Joined<T>>],
-    found_empty: &mut bool,
-    sealed: &mut Option<usize>,
-) -> Option<Taken<K::Got>>
-    requires { All (λ p. p.handle.held.pass.pass.opened.bare ≡ K.bare) generations.old }
-    ensures same { AreSameParts generations.old generations.new }
-    ensures takes { TakesFirst K.takes K.seals result (held_by generations.old) (held_by generations.new) }
-    ensures others { found_empty.new ≡ false → drop 1 generations.new ≡ drop 1 generations.old }
-    ensures sealed { IfSome sealed.new (HasSealedAt (held_by generations.new)) }
-{
-    *sealed = None;
-    let (first, rest) = generations.split_first_mut()?;
-    let mut is_sealed = false;
-    match first.take_older::<K>(&mut is_sealed) {
-        Some(taken) => Some(taken),
-        None => {
-            let taken = take_first::<T, K>(rest, found_empty, sealed);
-            *sealed = first_sealed(is_sealed, *sealed);
-            *found_empty = true;
-            taken
-        }
-    }
-}
-
-/// The index of the first sealed generation: 0 if the first one is sealed, else one more than that among the rest.
-fn first_sealed(is_sealed: bool, behind: Option<usize>) -> Option<usize>
-    ensures { (index : ℕ) → result ≡ Some index
-        → ((is_sealed ≡ true) × (index ≡ 0)) ⊎ ((next : ℕ) × (behind ≡ Some next) × (index ≡ next + 1)) }
-{
-    if is_sealed {
-        return Some(0);
-    }
-    behind?.checked_add(1)
 }
 
 /// Makes this call in the first of these generations in which the handle has such a cell. It has none in those from

@@ -1,6 +1,6 @@
 //! How a handle takes: from the oldest of its generations that is not empty.
-ghost use Rattle.std.specs.Prelude.{◌≡◌, ◌<◌, ◌+◌, IfSome, List};
-ghost use Rattle.kfifo_renewing.specs.Joining.{HasSealedAt};
+ghost use Rattle.std.specs.Prelude.{◌≡◌, ◌<◌, ◌+◌, List, MatchBool, length, true};
+ghost use Rattle.kfifo_renewing.specs.Joining.{HasSealedAt, LeavesAt, TakesAt};
 ghost use Rattle.kfifo_renewing.specs.Renewing.{HeldIn};
 ghost use Rattle.kfifo_renewing.specs.Renewing.{IsLater};
 ghost use Rattle.kfifo_renewing.specs.Renewing.{LeavesGone, LooksAgain};
@@ -14,8 +14,59 @@ use crate::kind::Kind;
 use kfifo_live::Taken;
 
 impl<T: Drop, K: Kind<T>> RenewingHandle<T, K> {
-    /// Takes from the first of the older generations that is not found empty. Returns None where each was. The handle
-    /// leaves those that are over.
+    /// Takes from the older generation at this index. Returns None where that was found empty, and says whether it is
+    /// sealed.
+    #[inline(always)]
+    fn take_at(&mut self, index: usize, is_sealed: &mut bool) -> Option<Taken<K::Got>>
+        requires { index < length self.old.older }
+        ensures same { self.new ≡ with_older self.old self.new.older }
+        ensures takes { TakesAt K.takes K.seals index result is_sealed.new self.old.older self.new.older }
+    {
+        self.older.take_at::<K>(index, is_sealed)
+    }
+
+    /// Tries to leave the older generation at this index, if the handle has seen it sealed empty. Returns whether it
+    /// left.
+    fn leave_sealed(&mut self, index: usize, is_sealed: bool) -> bool
+        requires index { index < length self.old.older }
+        requires sealed { is_sealed ≡ true → HasSealedAt self.old.older index }
+        ensures same { self.new ≡ with_older (with_seen self.old self.new.seen) self.new.older }
+        ensures later { IsLater self.old self.new }
+        ensures left { MatchBool result (LeavesAt self.new.seen index self.old.older self.new.older)
+            (self.new.older ≡ self.old.older) }
+    {
+        if !is_sealed {
+            return false;
+        }
+        self.leave(index, is_sealed)
+    }
+
+    /// Takes from the first of the older generations that is not found empty. Returns None where each was, and says
+    /// whether one was. The handle leaves those that it found sealed.
+    fn take_first(&mut self, found_empty: &mut bool) -> Option<Taken<K::Got>>
+        ensures same { self.new ≡ with_older (with_seen self.old self.new.seen) self.new.older }
+        ensures later { IsLater self.old self.new }
+        ensures takes { (looked : List (HeldIn T)) × TakesFirst K.takes K.seals result self.old.older looked
+            × LeavesGone self.new.seen looked self.new.older }
+    {
+        *found_empty = false;
+        let mut index = 0;
+        while index < self.older.len() {
+            let mut is_sealed = false;
+            let taken = self.take_at(index, &mut is_sealed);
+            if let Some(taken) = taken {
+                return Some(taken);
+            }
+            *found_empty = true;
+            // Each sealed one is left at once. Its place is then free for the next generation.
+            if !self.leave_sealed(index, is_sealed) {
+                index += 1;
+            }
+        }
+        None
+    }
+
+    /// Takes as `take_first` does. The handle leaves those that are over.
     fn take_older(&mut self) -> Option<Taken<K::Got>>
         ensures same { self.new ≡ with_older (with_seen self.old self.new.seen) self.new.older }
         ensures later { IsLater self.old self.new }
@@ -23,42 +74,13 @@ impl<T: Drop, K: Kind<T>> RenewingHandle<T, K> {
             × LeavesGone self.new.seen looked self.new.older }
     {
         let mut found_empty = false;
-        let mut sealed = None;
-        let taken = self.take_first(&mut found_empty, &mut sealed);
+        let taken = self.take_first(&mut found_empty);
         // Else none has gone, and in a queue that has grown a look at each place would cost more than the take.
         if !found_empty {
             return taken;
         }
-        self.leave_sealed(sealed);
         self.leave_gone();
         taken
-    }
-
-    /// Takes from the first of the older generations that is not found empty. Says whether it found one empty, and the
-    /// index of the first that it found sealed.
-    #[inline(always)]
-    fn take_first(
-        &mut self,
-        found_empty: &mut bool,
-        sealed: &mut Option<usize>,
-    ) -> Option<Taken<K::Got>>
-        ensures same { self.new ≡ with_older self.old self.new.older }
-        ensures takes { TakesFirst K.takes K.seals result self.old.older self.new.older }
-        ensures sealed { IfSome sealed.new (HasSealedAt self.new.older) }
-    {
-        self.older.take_first::<K>(found_empty, sealed)
-    }
-
-    /// Tries to leave the older generation at this index, which the handle has seen sealed empty.
-    fn leave_sealed(&mut self, sealed: Option<usize>)
-        requires { IfSome sealed (HasSealedAt self.old.older) }
-        ensures same { self.new ≡ with_older (with_seen self.old self.new.seen) self.new.older }
-        ensures later { IsLater self.old self.new }
-        ensures older { LeavesGone self.new.seen self.old.older self.new.older }
-    {
-        if let Some(index) = sealed {
-            self.leave(index, true);
-        }
     }
 
     /// What a take returns that came to this in the newest generation: Busy in place of Empty where another one is the

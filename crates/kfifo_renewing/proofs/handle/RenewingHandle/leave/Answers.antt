@@ -1,20 +1,15 @@
 -- A generation that has gone is left, and the others stay.
-use Rattle.std.proofs.Common.{◌+◌, ◌<◌, length, arith, sym, ap, ◌∙◌, subst}
-use Rattle.std.specs.Prelude.{if◌then◌else◌}
-use Rattle.std.proofs.lemmas.List.{length-map}
-use Rattle.kfifo_renewing.specs.Joining.{HasSealedAt, IsPartOf, PartView, held_by, held_in}
-use Rattle.kfifo_renewing.specs.Renewing.{Generations, HeldIn, LeavesGone, opening_in}
+use Rattle.std.proofs.Common.{◌≡◌, ◌<◌, MatchBool, sym, ap, ◌∙◌, subst}
+use Rattle.kfifo_renewing.specs.Joining.{HasSealedAt, IsPartOf, LeavesAt, PartView, held_by, held_in}
+use Rattle.kfifo_renewing.specs.Renewing.{Generations, opening_in}
 use Rattle.kfifo_renewing.specs.History.{newest_of}
 use Rattle.kfifo_renewing.proofs.Histories.{prefix-trans, risen-was}
 use Rattle.kfifo_renewing.proofs.Keeping.{kept-risen}
-use Rattle.kfifo_renewing.proofs.Joining.{at-all, below-newest, fewer-left, held-left, joined-later, joined-left}
+use Rattle.kfifo_renewing.proofs.Joining.{at-all, below-newest, held-left, joined-later, joined-left}
 use Rattle.kfifo_renewing.proofs.Joining.{part-at, part-there, sealed-at}
 use Rattle.kfifo_renewing.proofs.Following.{later-by}
-use Rattle.kfifo_renewing.proofs.Departures.{leaves-refl, left-later}
+use Rattle.kfifo_renewing.proofs.Departures.{left-later}
 use Rattle.kfifo_renewing.proofs.handle.RenewingHandle.leave.Goals as goal
-
-pub returns-then-has_cell-clause-older : goal.returns-then-has_cell-clause-older
-returns-then-has_cell-clause-older g c = leaves-refl c.args.self.now.seen c.args.self.now.older
 
 pub leave-has_left-requires-clause-may : goal.leave-has_left-requires-clause-may
 leave-has_left-requires-clause-may g c =
@@ -73,30 +68,19 @@ returns-clause-later g c =
     (prefix-trans c.self.inside.history.log mid log left.later.1 c.learn.ensures.2)
     (kept-risen c.learn.ensures.4.0 log c.learn.ensures.4.1)
 
-pub returns-clause-older : goal.returns-clause-older
-returns-clause-older g c =
+pub returns-clause-left : goal.returns-clause-left
+returns-clause-left g c =
     let T = g.row.T.Denot in
     let items = c.self.inside.older.items in
+    let new = held_by c.leave-has_left.new.self.items in
     let left = c.leave-has_left.ensures in
     let mid = c.leave-has_left.new.history.log in
     let log = c.learn.new.self.log in
     let p : PartView T = c.index-parts-index.result in
     let at = part-there items c.parts.result.now c.args.self.now.older c.args.index p c.parts.ensures
     (ap (λ (h : Generations T). h.older) c.self.view_is) c.requires.index c.index-parts-index.is in
-    subst (λ hs. LeavesGone log hs (held_by c.leave-has_left.new.self.items))
+    subst (λ hs. MatchBool c.leave-has_left.result (LeavesAt log c.args.index hs new) (new ≡ hs))
     (ap (λ (h : Generations T). h.older) c.self.view_is)
     (held-left c.leave-has_left.result log items c.leave-has_left.new.self.items c.args.index p left.items at
     (c.has_cell.ensures.0 c.if-has_cell.false)
     (λ won. left-later mid log (held_in p) c.learn.ensures.2 (left.left won p at)))
-
-pub returns-clause-fewer : goal.returns-clause-fewer
-returns-clause-fewer g c =
-    let T = g.row.T.Denot in
-    let before = c.self.inside.older.items in
-    let after = c.leave-has_left.new.self.items in
-    let f : PartView T → HeldIn T = λ (q : PartView T). held_in q in
-    let long = length-map before f in
-    let is = ap (λ (h : Generations T). length h.older) c.self.view_is in
-    ap (λ n. n + (if c.leave-has_left.result then 1 else 0)) (length-map after f)
-    ∙ fewer-left c.leave-has_left.result before after c.args.index c.leave-has_left.ensures.items
-    (omega (arith, c.requires.index, long, is)) ∙ sym long ∙ is
