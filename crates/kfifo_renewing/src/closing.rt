@@ -57,7 +57,7 @@ impl<T: Drop> Theirs<T> {
         Ok(here)
     }
 
-    /// MissingPass where a part is left, in a generation that was not closed.
+    /// MissingPass where one is left: its generation was neither left nor closed.
     pub(crate) fn end(self) -> Result<(), CloseFault>
         ensures { IfOk result (λ _. self.parts.items ≡ []) }
     {
@@ -329,7 +329,7 @@ fn close_each<T: Drop>(alloc: Global, gathered: Gathered<T>) -> Result<Vec<T>, C
 /// Each handle first leaves what has gone. The last one learns what the others have seen, and follows them. Of each
 /// generation that it is then in, these payloads are what is left after the one schedule of all calls there, in the
 /// order of `PayQueue::close`. All that the handles that are given did there is in that schedule. Each of them has left
-/// each other generation that it had joined, and nothing is left there.
+/// each of its other generations, which have gone.
 ///
 /// The handles are of one queue. MissingPass where one of its handles is still elsewhere, or none is given; Memory
 /// where an allocation failed. The payloads are then dropped.
