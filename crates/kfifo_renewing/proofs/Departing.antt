@@ -14,7 +14,7 @@ use Rattle.kfifo_renewing.specs.declared.change.Sight.{Sight}
 use Rattle.kfifo_renewing.specs.History.{Holds, IsKept, Leaves, TellsNext, WasNewest, key_of, left_in, left_of, made}
 use Rattle.kfifo_renewing.specs.History.{newest_of, next_in, place_count}
 use Rattle.kfifo_renewing.proofs.Histories.{contains-later, left-append, left-as-many, made-append, newest-append}
-use Rattle.kfifo_renewing.proofs.Histories.{prefix-trans, risen-from, risen-more, was-later, was-less}
+use Rattle.kfifo_renewing.proofs.Histories.{one-stays, prefix-trans, risen-from, risen-more, was-later, was-less}
 use Rattle.kfifo_renewing.proofs.Keeping.{goes-by, gone-same, kept-of, labelled-same, left-stays, load-same, moved}
 use Rattle.kfifo_renewing.proofs.Keeping.{next-at, next-within, set-next, shown, tells-same, there-same, within}
 use Rattle.kfifo_renewing.proofs.Keeping.{words-of}
@@ -103,6 +103,7 @@ left-holds g labels nexts log t n w h inside over at =
       stayed = λ x up.
           let apart : n ≢ x = λ at. omega (arith, at, up, over, same) in
           left-stays x log e (left-there n x t (n == x) refl apart) ∙ h.stayed x (subst (λ k. k ≤ x) same up);
+      one = one-stays g log e h.count same h.one;
     }
 
 left-number : (n m : ℕ) (s t : Sight) → C.Left n s ≡ C.Left m t → (n ≡ m) × (s ≡ t)

@@ -1,8 +1,9 @@
 -- Histories: what holds of one holds of each longer one.
-use Rattle.std.proofs.Common.{◌≡◌, ◌⊎◌, ◌<◌, ◌≤◌, ◌==◌, ⊎_elim, ℕ, zero, suc, Bool, true, false, List, [], ◌∷◌, ◌++◌}
+use Rattle.std.proofs.Common.{◌≡◌, ◌⊎◌, ◌+◌, ◌<◌, ◌≤◌, ◌==◌, ⊎_elim, ℕ, zero, suc, Bool, true, false, List, [], ◌∷◌, ◌++◌}
 use Rattle.std.proofs.Common.{length}
 use Rattle.std.proofs.Common.{Some, slice_get, refl, sym, ap, ◌∙◌, subst, arith, inl, inr, append_assoc, length-append}
 use Rattle.std.specs.Prelude.{if◌then◌else◌}
+use Rattle.std.proofs.lemmas.Bool.{false≢true}
 use Rattle.std.proofs.lemmas.List.{append-nil}
 use Rattle.std.proofs.lemmas.List.Elements.{Contains-append_cases, Contains-append_left}
 use Rattle.std.specs.List.{Contains}
@@ -12,7 +13,7 @@ use Rattle.kfifo_renewing.specs.declared.change.Change.{Change}
 use Rattle.kfifo_renewing.specs.declared.change.Change.TheVariants as C
 use Rattle.kfifo_renewing.specs.declared.change.Sight.{Sight}
 use Rattle.kfifo_renewing.specs.History.{HasRisen, IsGone, IsMade, WasNewest, left_of, made, making_of, newest_after}
-use Rattle.kfifo_renewing.specs.History.{newest_of}
+use Rattle.kfifo_renewing.specs.History.{newest_of, opens_more}
 
 pub prefix-trans : {A : Type 0} (xs ys zs : List A) → IsPrefix xs ys → IsPrefix ys zs → IsPrefix xs zs
 prefix-trans xs ys zs p q = (p.0 ++ q.0, sym (append_assoc xs p.0 q.0) ∙ (ap (λ w. w ++ q.0) p.1 ∙ q.1))
@@ -47,7 +48,7 @@ none-of (x ∷ xs) none = absurd (omega (arith, none))
 
 pub made-append : (xs ys : List Change) → made (xs ++ ys) ≡ made xs ++ made ys
 made-append [] ys = refl
-made-append (C.Made q ∷ xs) ys = ap (λ l. q.table ∷ l) (made-append xs ys)
+made-append (C.Made q more ∷ xs) ys = ap (λ l. q.table ∷ l) (made-append xs ys)
 made-append (C.Newest n ∷ xs) ys = made-append xs ys
 made-append (C.Look t ∷ xs) ys = made-append xs ys
 made-append (C.Placed n i ∷ xs) ys = made-append xs ys
@@ -56,7 +57,7 @@ made-append (C.Left n t ∷ xs) ys = made-append xs ys
 
 pub newest-append : (n : ℕ) (xs ys : List Change) → newest_after n (xs ++ ys) ≡ newest_after (newest_after n xs) ys
 newest-append n [] ys = refl
-newest-append n (C.Made q ∷ xs) ys = newest-append n xs ys
+newest-append n (C.Made q more ∷ xs) ys = newest-append n xs ys
 newest-append n (C.Newest m ∷ xs) ys = newest-append m xs ys
 newest-append n (C.Look t ∷ xs) ys = newest-append n xs ys
 newest-append n (C.Placed m i ∷ xs) ys = newest-append n xs ys
@@ -70,7 +71,7 @@ left-cond false t xs ys zs is = is
 
 pub left-append : (n : ℕ) (xs ys : List Change) → left_of n (xs ++ ys) ≡ left_of n xs ++ left_of n ys
 left-append n [] ys = refl
-left-append n (C.Made q ∷ xs) ys = left-append n xs ys
+left-append n (C.Made q more ∷ xs) ys = left-append n xs ys
 left-append n (C.Newest m ∷ xs) ys = left-append n xs ys
 left-append n (C.Look t ∷ xs) ys = left-append n xs ys
 left-append n (C.Placed m i ∷ xs) ys = left-append n xs ys
@@ -145,8 +146,39 @@ pub was-none : (n : ℕ) → WasNewest [] n → n ≡ 0
 was-none n ([], after, is, newest) = sym newest
 was-none n (e ∷ before, after, is, newest) = absurd cc
 
-pub was-made : (t : TableId) (n : ℕ) → WasNewest (making_of t ∷ []) n → n ≡ 0
-was-made t n was = ⊎_elim (λ before. was-none n before) (λ last. last) (was-more [] (making_of t) n was)
+pub was-made : (t : TableId) (b : Bool) (n : ℕ) → WasNewest (making_of t b ∷ []) n → n ≡ 0
+was-made t b n was = ⊎_elim (λ before. was-none n before) (λ last. last) (was-more [] (making_of t b) n was)
+
+pub made-some : (log : List Change) (n : ℕ) (t : TableId) → IsMade log n t → 0 < length (made log)
+made-some log n t is = some (made log) n is
+  where
+    some : (ts : List TableId) (k : ℕ) → slice_get ts k ≡ Some t → 0 < length ts
+    some [] k is = absurd cc
+    some (u ∷ ts) k is = omega arith
+
+-- whether a queue may open further generations is said by the first entry
+opens-head : (e : Change) (xs ys : List Change) → opens_more (e ∷ xs) ≡ opens_more (e ∷ ys)
+opens-head (C.Made q more) xs ys = refl
+opens-head (C.Newest n) xs ys = refl
+opens-head (C.Look s) xs ys = refl
+opens-head (C.Placed n i) xs ys = refl
+opens-head (C.Gone s) xs ys = refl
+opens-head (C.Left n s) xs ys = refl
+
+pub opens-more : (xs ys : List Change) → IsPrefix xs ys → opens_more xs ≡ true → opens_more ys ≡ true
+opens-more [] ys p more = absurd (false≢true more)
+opens-more (e ∷ xs) ys p more = sym (ap opens_more p.1) ∙ opens-head e (xs ++ p.0) xs ∙ more
+
+pub opens-same : (xs ys : List Change) → IsPrefix xs ys → 0 < length (made xs) → opens_more ys ≡ opens_more xs
+opens-same [] ys p some = absurd (omega (arith, some))
+opens-same (e ∷ xs) ys p some = sym (ap opens_more p.1) ∙ opens-head e (xs ++ p.0) xs
+
+-- a queue that may open none still has one generation after an entry by which none becomes the newest
+pub one-stays : (g : ℕ) (log : List Change) (e : Change) → length (made log) ≡ g + 1
+    → newest_of (log ++ e ∷ []) ≡ newest_of log → (opens_more log ≡ false → newest_of log ≡ 0)
+    → opens_more (log ++ e ∷ []) ≡ false → newest_of (log ++ e ∷ []) ≡ 0
+one-stays g log e count same one none =
+    same ∙ one (sym (opens-same log (log ++ e ∷ []) (e ∷ [], refl) (omega (arith, count))) ∙ none)
 
 pub risen-none : HasRisen []
 risen-none [] more after is = omega arith

@@ -3,6 +3,7 @@ use Rattle.std.proofs.Common.{◌≡◌, ◌≢◌, ◌+◌, ◌<◌, ◌≤◌,
 use Rattle.std.proofs.Common.{◌∷◌, ◌++◌}
 use Rattle.std.proofs.Common.{length, None, Some, slice_get, slice_set, refl, sym, ap, ◌∙◌, subst, arith, inl, inr}
 use Rattle.std.proofs.Common.{append_assoc, length-append}
+use Rattle.std.proofs.lemmas.Bool.{false≢true}
 use Rattle.std.proofs.lemmas.Bool.{cases_lt}
 use Rattle.std.proofs.lemmas.Bool.Decides.{nat_tests}
 use Rattle.std.proofs.Math.Nat.{div-eq_of_lt, mod-eq_of_lt}
@@ -14,9 +15,9 @@ use Rattle.logbook.specs.Pages.{Away, Cell, Goes, Moves, Nib, adds, cell, gives,
 use Rattle.kfifo_renewing.specs.declared.change.Change.{Change}
 use Rattle.kfifo_renewing.specs.declared.change.Change.TheVariants as C
 use Rattle.kfifo_renewing.specs.History.{GivesNumber, Holds, IsKept, IsPlaced}
-use Rattle.kfifo_renewing.specs.History.{Renews, TellsNext, WasNewest, key_of, made, making_of}
+use Rattle.kfifo_renewing.specs.History.{Renews, TellsNext, WasNewest, key_of, made, making_of, opens_more}
 use Rattle.kfifo_renewing.specs.History.{newest_of, next_in, place_count}
-use Rattle.kfifo_renewing.proofs.Histories.{contains-later, get-last, made-append, newest-append}
+use Rattle.kfifo_renewing.proofs.Histories.{contains-later, get-last, made-append, newest-append, one-stays, opens-more}
 use Rattle.kfifo_renewing.proofs.Histories.{risen-more, risen-was, was-later, was-less}
 use Rattle.kfifo_renewing.proofs.Histories.{was-more, was-now}
 use Rattle.kfifo_renewing.proofs.Keeping.{goes-by, gone-same, kept-of, labelled-same, left-stays, load-same, moved}
@@ -36,9 +37,9 @@ away-next g labels nexts n all away =
 -- a word more, of a generation that was never the newest
 holds-made : (g : ℕ) (labels nexts : List Cell) (log : List Change) (t : TableId) → g + 1 < 2 ^ 32
     → Holds log g labels nexts
-    → Holds (log ++ making_of t ∷ []) (g + 1) labels (nexts ++ (0, false) ∷ [])
+    → Holds (log ++ making_of t true ∷ []) (g + 1) labels (nexts ++ (0, false) ∷ [])
 holds-made g labels nexts log t room h =
-    let e = making_of t in
+    let e = making_of t true in
     let same : newest_of (log ++ e ∷ []) ≡ newest_of log = newest-append 0 log (e ∷ []) in
     let first : (n : ℕ) → n < length nexts → cell (nexts ++ (0, false) ∷ []) n ≡ cell nexts n =
     λ n inside. get_or_append_left nexts ((0, false) ∷ []) (0, false) n inside in
@@ -62,16 +63,17 @@ holds-made g labels nexts log t room h =
       labelled = labelled-same g labels nexts log e (λ n i is. absurd cc) h;
       gone = λ s is. subst (λ k. s.number < k) (sym same) (gone-same g labels nexts log e (λ t is. absurd cc) h s is);
       stayed = λ n up. left-stays n log e refl ∙ h.stayed n (subst (λ k. k ≤ n) same up);
+      one = one-stays g log e h.count same h.one;
     }
 
 numbers-goes : (v log : List Change) (p : Nib) (t : TableId) (old g : ℕ) (labels nexts : List Cell)
     → length labels ≡ place_count
     → Holds log g labels nexts → old + 1 < 2 ^ 32 → (b : Bool) → (g == old) ≡ b
     → Goes IsKept shown moved 0 (v, (p, None)) (λ n. either (n == old) (old + 1) n)
-    (GivesNumber (step 0 old (old + 1) (making_of t)) (v, (p, None))) (words-of g labels nexts) log
+    (GivesNumber (step 0 old (old + 1) (making_of t true)) (v, (p, None))) (words-of g labels nexts) log
 numbers-goes v log p t old g labels nexts all h room true found =
     let here : g ≡ old = grind (arith, nat_tests) in
-    let e = making_of t in
+    let e = making_of t true in
     let made-is : made (log ++ e ∷ []) ≡ made log ++ t ∷ [] = made-append log (e ∷ []) in
     let at : old + 1 ≡ length (made log) = let count = h.count in omega (arith, here, count) in
     let long = length-append labels nexts in
@@ -88,25 +90,25 @@ numbers-goes v log p t old g labels nexts all h room true found =
     (holds-made g labels nexts log t (omega (arith, room, here)) h)))
     (λ is. (
       ap (λ k. nib may_make k 0) key,
-      λ q asked. subst (λ l. slice_get l (old + 1) ≡ Some q.table) (sym made-is)
+      λ q m asked. subst (λ l. slice_get l (old + 1) ≡ Some q.table) (sym made-is)
           (subst (λ n. slice_get (made log ++ t ∷ []) n ≡ Some q.table) (sym at)
-          (get-last (made log) t ∙ ap Some (table-same t q asked))),
+          (get-last (made log) t ∙ ap Some (table-same t q true m asked))),
     ))
 numbers-goes v log p t old g labels nexts all h room false found =
     let none : log ++ [] ≡ log = append-nil log in
     let other : g ≡ old → ⊥ = λ is. grind (arith, nat_tests) in
-    goes-by 0 v p (λ n. either (n == old) (old + 1) n) (GivesNumber (step 0 old (old + 1) (making_of t)) (v, (p, None)))
+    goes-by 0 v p (λ n. either (n == old) (old + 1) n) (GivesNumber (step 0 old (old + 1) (making_of t true)) (v, (p, None)))
     (words-of g labels nexts) (words-of g labels nexts) log [] (g, true) keeps refl (rw found refl) tt
     (subst (IsKept (words-of g labels nexts)) (sym none) (kept-of g labels nexts log all h)) (λ is. absurd (other is))
 
 -- a generation is made, with the next number, or nothing happens
 pub numbers-moves : (v : List Change) (p : Nib) (t : TableId) (old : ℕ) → old + 1 < 2 ^ 32
     → Moves IsKept shown moved 0 (v, (p, None)) (λ n. either (n == old) (old + 1) n)
-    (GivesNumber (step 0 old (old + 1) (making_of t)) (v, (p, None)))
+    (GivesNumber (step 0 old (old + 1) (making_of t true)) (v, (p, None)))
 numbers-moves v p t old room cs log kept pre away =
     let P : List Cell → Type 0 = λ c. (0 < length c) × ((cell c 0).1 ≡ true)
     × Goes IsKept shown moved 0 (v, (p, None)) (λ n. either (n == old) (old + 1) n)
-    (GivesNumber (step 0 old (old + 1) (making_of t)) (v, (p, None))) c log in
+    (GivesNumber (step 0 old (old + 1) (making_of t true)) (v, (p, None))) c log in
     subst P (sym kept.words) (
       omega arith,
       refl,
@@ -208,9 +210,9 @@ placed-before g labels nexts log n m i x h is inside there some was (inr above) 
 -- the rule once generation m has become the newest after n, which is in a place
 renewed-holds : (g : ℕ) (labels nexts : List Cell) (log : List Change) (n m i : ℕ) → Holds log g labels nexts
     → newest_of log ≡ n → n < m
-    → m < length nexts → i < place_count → IsPlaced log n i
+    → m < length nexts → i < place_count → IsPlaced log n i → opens_more log ≡ true
     → Holds (log ++ C.Newest m ∷ []) g labels (renewed nexts n m)
-renewed-holds g labels nexts log n m i h is above made-it inside there =
+renewed-holds g labels nexts log n m i h is above made-it inside there opens =
     let e = C.Newest m in
     let more : IsPrefix log (log ++ e ∷ []) = (e ∷ [], refl) in
     let now : newest_of (log ++ e ∷ []) ≡ m = newest-append 0 log (e ∷ []) in
@@ -233,16 +235,17 @@ renewed-holds g labels nexts log n m i h is above made-it inside there =
           let below = gone-same g labels nexts log e (λ t is. absurd cc) h s gone in
           omega (arith, below, is, above, now);
       stayed = λ x up. left-stays x log e refl ∙ h.stayed x (omega (arith, up, now, is, above));
+      one = λ none. absurd (false≢true (sym none ∙ opens-more log (log ++ e ∷ []) more opens));
     }
 
 renews-goes : (v log : List Change) (n m i g : ℕ) (a : Change) (labels nexts : List Cell) → length labels ≡ place_count
     → WasNewest log n → n < m
-    → i < place_count → IsPlaced log n i → m < length nexts → Holds log g labels nexts
+    → i < place_count → IsPlaced log n i → m < length nexts → opens_more log ≡ true → Holds log g labels nexts
     → (b : Bool)
     → ((cell nexts n).0 == 0) ≡ b
     → Goes IsKept shown moved (key_of n) (v, (nib may_write (key_of m) 0, None)) (λ k. either (k == 0) m k)
     (Renews (step (key_of n) 0 m a) (v, (nib may_write (key_of m) 0, None))) (words-of g labels nexts) log
-renews-goes v log n m i g a labels nexts all was above inside there made-it h true found =
+renews-goes v log n m i g a labels nexts all was above inside there made-it opens h true found =
     let p = nib may_write (key_of m) 0 in
     let told = h.told n was in
     let none : (cell nexts n).0 ≡ 0 = grind (arith, nat_tests) in
@@ -255,12 +258,12 @@ renews-goes v log n m i g a labels nexts all was above inside there made-it h tr
     (rw found (set-next g labels nexts n (m, true) all)) refl
     (subst (λ l. IsKept l (log ++ e ∷ [])) (sym (set-next g labels (slice_set nexts n (m, true)) m (0, true) all))
     (kept-of g labels (renewed nexts n m) (log ++ e ∷ []) all
-    (renewed-holds g labels nexts log n m i h newest above made-it inside there))) (
+    (renewed-holds g labels nexts log n m i h newest above made-it inside there opens))) (
       λ same. subst (WasNewest (log ++ e ∷ [])) now (was-now (log ++ e ∷ [])),
       λ other.
           absurd (other (grind (arith, nat_tests))),
     )
-renews-goes v log n m i g a labels nexts all was above inside there made-it h false found =
+renews-goes v log n m i g a labels nexts all was above inside there made-it opens h false found =
     let p = nib may_write (key_of m) 0 in
     let none : log ++ [] ≡ log = append-nil log in
     let other : (cell nexts n).0 ≡ 0 → ⊥ = λ same. grind (arith, nat_tests) in
@@ -275,9 +278,10 @@ renews-goes v log n m i g a labels nexts all was above inside there made-it h fa
 
 -- a generation becomes the newest after n, which is in a place, or nothing happens
 pub renews-moves : (v : List Change) (n m i : ℕ) (a : Change) → WasNewest v n → n < m → i < place_count → IsPlaced v n i
+    → opens_more v ≡ true
     → Moves IsKept shown moved (key_of n) (v, (nib may_write (key_of m) 0, None)) (λ k. either (k == 0) m k)
     (Renews (step (key_of n) 0 m a) (v, (nib may_write (key_of m) 0, None)))
-renews-moves v n m i a was above inside there cs log kept pre away =
+renews-moves v n m i a was above inside there opens cs log kept pre away =
     let g = kept.greatest in
     let p = nib may_write (key_of m) 0 in
     let P : List Cell → Type 0 = λ c. (key_of n < length c) × ((cell c (key_of n)).1 ≡ true)
@@ -289,5 +293,6 @@ renews-moves v n m i a was above inside there cs log kept pre away =
       next-within g kept.labels kept.nexts n kept.all (within g kept.labels kept.nexts log n kept.holds then),
       ap (λ c. c.1) (next-at g kept.labels kept.nexts n kept.all) ∙ (kept.holds.told n then).0,
       renews-goes v log n m i g a kept.labels kept.nexts kept.all then above inside
-          (contains-later v log (C.Placed n i) pre there) out.0 kept.holds ((cell kept.nexts n).0 == 0) refl,
+          (contains-later v log (C.Placed n i) pre there) out.0 (opens-more v log pre opens) kept.holds
+          ((cell kept.nexts n).0 == 0) refl,
     )

@@ -1,6 +1,6 @@
 -- The history of a queue's generations: which were made, which became the newest, where they were, and when handles
 -- looked.
-use Rattle.std.specs.Prelude.{◌≡◌, ◌≢◌, ◌+◌, ◌<◌, ◌≤◌, ◌^◌, ◌%◌, ◌/◌, ◌==◌, ◌⊎◌, ℕ, suc, true, List, [], ◌∷◌, ◌++◌}
+use Rattle.std.specs.Prelude.{◌≡◌, ◌≢◌, ◌+◌, ◌<◌, ◌≤◌, ◌^◌, ◌%◌, ◌/◌, ◌==◌, ◌⊎◌, ℕ, suc, Bool, true, false, List, [], ◌∷◌, ◌++◌}
 use Rattle.std.specs.Prelude.{length}
 use Rattle.std.specs.Prelude.{if◌then◌else◌, Option, Some, slice_get}
 use Rattle.std.specs.List.{Contains}
@@ -15,14 +15,19 @@ use Rattle.kfifo_renewing.specs.declared.change.Sealed.{Sealed}
 use Rattle.kfifo_renewing.specs.declared.change.Sight.{Sight}
 use Rattle.kfifo_renewing.specs.declared.change.Change.TheVariants as C
 
--- the entry for a generation whose queue has this table
-abbrev pub making_of : TableId → Change
-making_of table = C.Made (record { table = table })
+-- the entry for a generation whose queue has this table, and whether the queue may open further ones
+abbrev pub making_of : TableId → Bool → Change
+making_of table more = C.Made (record { table = table }) more
+
+-- the queue may open further generations, as its first entry says
+abbrev pub opens_more : List Change → Bool
+opens_more (C.Made q more ∷ log) = more
+opens_more log = false
 
 -- the generations that were made, each by the table of its queue. The number of one is how many were made before it
 abbrev pub made : List Change → List TableId
 made [] = []
-made (C.Made q ∷ log) = q.table ∷ made log
+made (C.Made q more ∷ log) = q.table ∷ made log
 made (C.Newest n ∷ log) = made log
 made (C.Look sight ∷ log) = made log
 made (C.Placed n i ∷ log) = made log
@@ -32,7 +37,7 @@ made (C.Left n sight ∷ log) = made log
 -- the number of the newest generation, if that of before is this
 abbrev pub newest_after : ℕ → List Change → ℕ
 newest_after n [] = n
-newest_after n (C.Made q ∷ log) = newest_after n log
+newest_after n (C.Made q more ∷ log) = newest_after n log
 newest_after n (C.Newest m ∷ log) = newest_after m log
 newest_after n (C.Look sight ∷ log) = newest_after n log
 newest_after n (C.Placed m i ∷ log) = newest_after n log
@@ -72,7 +77,7 @@ pub record IsGone (log : List Change) (n : ℕ) : Type 0 where
 -- what each pass that left the generation with this number had seen, the first to leave first
 abbrev pub left_of : ℕ → List Change → List Sight
 left_of n [] = []
-left_of n (C.Made q ∷ log) = left_of n log
+left_of n (C.Made q more ∷ log) = left_of n log
 left_of n (C.Newest m ∷ log) = left_of n log
 left_of n (C.Look sight ∷ log) = left_of n log
 left_of n (C.Placed m i ∷ log) = left_of n log
@@ -121,6 +126,7 @@ pub record Holds (log : List Change) (greatest : ℕ) (labels nexts : List Cell)
   pub labelled : (i : ℕ) → i < place_count → ((cell labels i).1 ≡ true) × TellsPlace log i (cell labels i).0
   pub gone : (sealed : Sealed) → Contains log (C.Gone sealed) → sealed.number < newest_of log
   pub stayed : (n : ℕ) → newest_of log ≤ n → left_of n log ≡ []
+  pub one : opens_more log ≡ false → newest_of log ≡ 0
 
 -- The words of a book in their order: the greatest number, the words of the places, and those of the generations
 pub record IsKept (cells : List Cell) (log : List Change) : Type 0 where
@@ -211,7 +217,7 @@ Leaves s v found w = (sight : Sight) (n : ℕ) (before : List Change) → s.ask 
 -- of that generation
 abbrev pub GivesNumber : Step Change → View Change ℕ → ℕ → View Change ℕ → Type 0
 GivesNumber s v found w = found ≡ s.old → (w.1.0 ≡ nib may_make (key_of s.new) 0)
-    × ((q : Made) → s.ask ≡ C.Made q → IsMade w.0 s.new q.table)
+    × ((q : Made) (more : Bool) → s.ask ≡ C.Made q more → IsMade w.0 s.new q.table)
 
 -- What a step tells that makes a generation the newest: where it did, that was the newest. Else the pen is as before
 abbrev pub Renews : Step Change → View Change ℕ → ℕ → View Change ℕ → Type 0

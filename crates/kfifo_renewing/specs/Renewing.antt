@@ -1,5 +1,5 @@
 -- The generations of a renewing queue, as a handle has joined them, and what its calls do to each.
-use Rattle.std.specs.Prelude.{◌≡◌, ◌≢◌, ◌⊎◌, ◌<◌, ◌≤◌, ◌==◌, ◌+◌, ◌-◌, ◌*◌, ℕ, not, false, true, List, [], ◌∷◌, ◌++◌}
+use Rattle.std.specs.Prelude.{◌≡◌, ◌≢◌, ◌⊎◌, ◌<◌, ◌≤◌, ◌==◌, ◌&&◌, ◌+◌, ◌-◌, ◌*◌, ℕ, not, false, true, List, [], ◌∷◌, ◌++◌}
 use Rattle.std.specs.Prelude.{All, Bool, filter, length, map, MatchResult, Option, Result, Some, None, Vec}
 use Rattle.std.specs.List.{Contains}
 use mathlib.Core.List.{IsPrefix}
@@ -30,13 +30,14 @@ use Rattle.kfifo_live.specs.declared.tokens.sizes.TheConstants.{SPARE_TOKENS}
 use Rattle.kfifo_live.specs.declared.view.Opening.{Opening}
 use Rattle.kfifo_pool.specs.Pooled.{GivesOne, Pooled, ReceivesOne, ReceivesOneOrSeals, new_handle, no_cells}
 use Rattle.kfifo_renewing.specs.History.{IsGone, IsMade, NewestWas, WasNewest, left_of, newest_of, place_count}
-use Rattle.kfifo_renewing.specs.History.{sight_of}
+use Rattle.kfifo_renewing.specs.History.{opens_more, sight_of}
 use Rattle.kfifo_renewing.specs.declared.change.Change.{Change}
 use Rattle.kfifo_renewing.specs.declared.change.Sight.{Sight}
 use Rattle.kfifo_renewing.specs.declared.fault.CapacityFault.{CapacityFault}
 use Rattle.kfifo_renewing.specs.declared.fault.CapacityFault.TheVariants as F
 use Rattle.kfifo_renewing.specs.declared.places.Lineage.{Lineage}
 use Rattle.kfifo_renewing.specs.declared.queue.Renewals.{Renewals}
+use Rattle.kfifo_renewing.specs.declared.queue.TheConstants.{NO_RENEWAL}
 
 -- the shape of the same sizes whose enqueues hold again
 abbrev pub holding_again : Shape → Shape
@@ -137,6 +138,10 @@ IsOfLineage l g = (g.queue.opened ≡ opening_in l) × (g.book ≡ l.history.boo
 pub record HeldIn (T : Type 0) : Type 0 where
   pub handle : Pooled T
   pub number : ℕ
+
+-- whether a queue with these renewals may open further generations: for its versions, or because it grows
+abbrev pub may_open_more : Renewals → Bool
+may_open_more r = not ((r.reserve == NO_RENEWAL) && (r.generations == 1))
 
 -- each thread with an event in what a pass has seen is that of one of these sights
 abbrev pub HaveEachThread : List Sight → PassView → Type 0
@@ -311,6 +316,10 @@ module _ {T : Type 0} where
   abbrev pub HaveOne : Opening → List (Generations T) → Type 0
   HaveOne o handles = (q : OpenQueue) × (book : Book) × (q.opened ≡ o) × All (HasOne q book) handles
       × (map (λ g. g.thread) handles ≡ count_up 0 o.threads)
+
+  -- whether the queue of these handles may open further generations, as its history says
+  abbrev pub OpensMore : Bool → List (Generations T) → Type 0
+  OpensMore more handles = All (λ g. opens_more g.seen ≡ more) handles
 
   -- a queue was opened with room for so many values, bare or with payloads, with the sizes for that capacity and
   -- versions

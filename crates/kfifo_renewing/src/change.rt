@@ -40,8 +40,8 @@ pub struct Sealed {
 
 /// An entry of the history of a queue's generations.
 pub enum Change {
-    /// A generation was made.
-    Made(Made),
+    /// A generation was made. That of the first one says whether the queue may open further generations.
+    Made(Made, bool),
     /// The generation with this number became the newest.
     Newest(u32),
     /// A handle looked which generation is the newest. Its pass had seen this.

@@ -214,7 +214,8 @@ impl<T: Drop> Generation<T> {
     ) -> Result<Generation<T>, AllocError>
         requires handles { All (λ h. IsPassOf queue h.held.pass.pass × IsUntouched h) handles.items }
         requires number { IsMade history.log next.number queue.table × (next.book ≡ history.book) }
-        ensures { IfOk result (λ g. (g.queue ≡ queue) × (g.number ≡ next.number) × (g.book ≡ history.book)) }
+        ensures { IfOk result (λ g. (g.queue ≡ queue) × (g.number ≡ next.number) × (g.book ≡ history.book)
+            × (g.seen ≡ history.log)) }
     {
         let waiting = seat_all(alloc, &queue, handles)?;
         let core = Core {
@@ -263,7 +264,7 @@ impl<T: Drop> Generation<T> {
 
     /// What its maker had seen of the history.
     pub(crate) fn history(&self) -> &History
-        ensures book { result.now.book ≡ self.now.book }
+        ensures book { (result.now.book ≡ self.now.book) × (result.now.log ≡ self.now.seen) }
         ensures made { IsMade result.now.log self.now.number self.now.queue.table }
     {
         &self.core.history

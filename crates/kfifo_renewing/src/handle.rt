@@ -1,10 +1,10 @@
 //! The handle of a queue that does not wear out, and how it follows others.
-ghost use Rattle.std.specs.Prelude.{◌≡◌, ◌<◌, ◌+◌, ◌*◌, ◌↔◌, true, [], All, IfOk, IfSome, MatchBool};
+ghost use Rattle.std.specs.Prelude.{◌≡◌, ◌<◌, ◌+◌, ◌*◌, ◌↔◌, false, true, [], All, IfOk, IfSome, MatchBool};
 ghost use Rattle.std.specs.Prelude.{MatchOption, if◌then◌else◌, length};
 ghost use Rattle.std.specs.Ptr.{as_ptr};
 ghost use mathlib.Core.List.{IsPrefix};
 ghost use Rattle.kfifo_live.specs.Pass.{IsPassOf};
-ghost use Rattle.kfifo_renewing.specs.History.{HasRisen, WasNewest, place_count};
+ghost use Rattle.kfifo_renewing.specs.History.{HasRisen, WasNewest, opens_more, place_count};
 ghost use Rattle.kfifo_renewing.specs.Joining.{AreAmong, HasJoined, HasSealedAt, IsPart, IsPartOf, IsUnused, LeavesAt};
 ghost use Rattle.kfifo_renewing.specs.Joining.{held_by};
 ghost use Rattle.kfifo_renewing.specs.Renewing.{Counts, Follows, Generations, HasAll};
@@ -112,7 +112,7 @@ impl<T: Drop, K: Kind<T>> RenewingHandle<T, K> {
         requires fresh { IsFresh thread newest.handle }
         requires risen { HasRisen history.log }
         ensures same { IfOk result (λ h. (h.opened ≡ opening_in shared.value) × (h.thread ≡ thread)
-            × (h.book ≡ history.book)) }
+            × (h.book ≡ history.book) × (h.seen ≡ history.log)) }
         ensures one { IfOk result (λ h. (h.older ≡ []) × (h.newest ≡ newest.handle) × (h.number ≡ 0)) }
         ensures fresh { IfOk result (λ h. IsFresh h.thread h.newest) }
     {
@@ -541,6 +541,17 @@ impl<T: Drop, K: Kind<T>> RenewingHandle<T, K> {
         if self.shared.is_spent(&self.generation) {
             self.renew();
         }
+    }
+
+    /// Whether the queue may open further generations: because versions run out, or because it grows. If not, it has its
+    /// first generation alone.
+    pub fn may_open_more(&self) -> bool
+        ensures more { result ≡ opens_more self.now.seen }
+        ensures one { result ≡ false → self.now.number ≡ 0 }
+    {
+        let mut history = self.history.again();
+        history.learn(self.shared.places().history());
+        self.shared.opens_more()
     }
 
     /// Follows others that have opened a newer generation, and returns in how many generations the handle then is.

@@ -5,7 +5,8 @@ ghost use Rattle.std.specs.Prelude.{◌≡◌, ◌≢◌, ◌+◌, ◌++◌, ◌
 ghost use Rattle.logbook.specs.Pages.{may_make, may_write, nib};
 ghost use mathlib.Core.List.{IsPrefix};
 ghost use Rattle.kfifo_renewing.specs.History.{AreLabels, Finds, HasRisen, IsMade, IsPlaced, WasNewest, key_of};
-ghost use Rattle.kfifo_renewing.specs.History.{left_of, newest_of, next_in as next_of, place_count, sight_of};
+ghost use Rattle.kfifo_renewing.specs.History.{left_of, newest_of, next_in as next_of, opens_more, place_count};
+ghost use Rattle.kfifo_renewing.specs.History.{sight_of};
 ghost use Rattle.kfifo_renewing.specs.declared.change.Change.{Change as HasChanged};
 
 use crate::change::Change;
@@ -156,8 +157,9 @@ pub struct Numbering;
 impl<T: Drop> Plain<PooledQueue<T>, Change, u64> for Numbering {
     ghost use Rattle.std.specs.Prelude.{None};
     ghost use Rattle.kfifo_renewing.specs.History.{making_of};
+    ghost use Rattle.std.specs.Prelude.{true};
 
-    ghost ask = { λ queue. making_of queue.table };
+    ghost ask = { λ queue. making_of queue.table true };
 
     ghost state = { λ queue. None };
 }
@@ -168,12 +170,19 @@ impl Play<Change, u64> for Numbering {
     ghost then = { GivesNumber };
 }
 
+/// The queue of the first generation, and whether further ones may follow it.
+#[derive(Drop)]
+pub struct First<T: Drop> {
+    pub queue: PooledQueue<T>,
+    pub opens_more: bool,
+}
+
 /// A history begins with its first generation.
-impl<T: Drop> Opening<PooledQueue<T>, Change> for Numbering {
+impl<T: Drop> Opening<First<T>, Change> for Numbering {
     ghost use Rattle.std.specs.Prelude.{[], ◌∷◌};
     ghost use Rattle.kfifo_renewing.specs.History.{making_of};
 
-    ghost log = { λ count queue. making_of queue.table ∷ [] };
+    ghost log = { λ count first. making_of first.queue.table first.opens_more ∷ [] };
 }
 
 /// What each pass that leaves a generation adds to its word.
@@ -280,6 +289,7 @@ impl Next {
         requires newest { WasNewest history.old.log self.now.number }
         requires there { (place : ℕ) × (place < place_count) × IsPlaced history.old.log self.now.number place }
         requires later { self.now.number < number }
+        requires more { opens_more history.old.log ≡ true }
         requires pen { pen.old.nib ≡ nib may_write (key_of number) 0 }
         ensures books { (history.new.book ≡ history.old.book) × (pen.new.book ≡ pen.old.book) }
         ensures newest { result ≡ true → WasNewest history.new.log number }
@@ -348,13 +358,15 @@ impl Numbers {
     #[tactic(auto, using(crate::proofs::Histories::was_first))]
     pub(crate) fn open<T: Drop>(
         alloc: Global,
-        queue: &PooledQueue<T>,
+        first: &First<T>,
     ) -> Result<(Numbers, Vec<Label>, Next, History), AllocError>
         ensures books { IfOk result (λ r. (r.3.book ≡ r.0) × AreLabels r.0 r.1.items × (r.2.book ≡ r.0)) }
-        ensures first { IfOk result (λ r. (r.2.number ≡ 0) × IsMade r.3.log 0 queue.now.table × WasNewest r.3.log 0) }
+        ensures first { IfOk result (λ r. (r.2.number ≡ 0) × IsMade r.3.log 0 first.now.queue.table
+            × WasNewest r.3.log 0) }
+        ensures more { IfOk result (λ r. opens_more r.3.log ≡ first.now.opens_more) }
     {
-        let (history, mut pens) = History::open_row::<PooledQueue<T>, Numbering>(
-            queue,
+        let (history, mut pens) = History::open_row::<First<T>, Numbering>(
+            first,
             Start::alone(),
             PLACES as usize + 2,
         );

@@ -5,10 +5,10 @@ ghost use Rattle.kfifo_live.specs.Schedule.{count_up};
 ghost use Rattle.kfifo_live.specs.declared.fault.OpenFault.TheVariants.{ThreadsOutOfRange, TokensOutOfRange};
 ghost use Rattle.kfifo_live.specs.declared.payload.opening.TheConstants.{MOST_TOKENS};
 ghost use Rattle.kfifo_words.specs.declared.word.TheConstants.{MAX_VERSION};
-ghost use Rattle.kfifo_renewing.specs.History.{AreLabels, IsPlaced, place_count};
+ghost use Rattle.kfifo_renewing.specs.History.{AreLabels, IsPlaced, opens_more, place_count};
 ghost use Rattle.kfifo_renewing.specs.declared.fault.RenewFault.TheVariants.{GenerationsOutOfRange, Open};
 ghost use Rattle.kfifo_renewing.specs.declared.fault.RenewFault.TheVariants.{ReserveOutOfRange};
-ghost use Rattle.kfifo_renewing.specs.Renewing.{HasOne, HaveOne};
+ghost use Rattle.kfifo_renewing.specs.Renewing.{HasOne, HaveOne, OpensMore, may_open_more};
 ghost use Rattle.kfifo_renewing.specs.Renewing.{HasBadGenerations, HasBadReserve, HasBadThreads};
 ghost use Rattle.kfifo_renewing.specs.Renewing.{HasBadTokens, IsOfLineage, IsPlan, OpensOrRefuses};
 ghost use Rattle.kfifo_renewing.specs.Renewing.{generations_for};
@@ -19,7 +19,7 @@ ghost use Rattle.kfifo_renewing.specs.declared.queue.TheConstants.{DEFAULT_RESER
 use crate::fault::{CapacityFault, RenewFault};
 use crate::generation::Generation;
 use crate::handle::RenewingHandle;
-use crate::history::{History, Numbers};
+use crate::history::{First, History, Numbers};
 use crate::joined::Joined;
 use crate::kind::{Cells, Kind};
 use crate::label::{Label, PLACES};
@@ -57,6 +57,7 @@ fn join_first<T: Drop, K: Kind<T>>(
         × IsPlaced seen.now.log 0 place }
     ensures one { IfOk result (HasOne generation.now.value.queue generation.now.value.book) }
     ensures thread { IfOk result (λ h. h.thread ≡ thread) }
+    ensures more { IfOk result (λ h. opens_more h.seen ≡ opens_more generation.now.value.seen) }
 {
     let generation = Arc::try_clone(generation)?;
     let mut history = seen.again();
@@ -79,7 +80,9 @@ fn join_all<T: Drop, K: Kind<T>>(
     requires of { generation.queue.opened ≡ opening_with K.bare plan.sizes }
     requires numbers { (numbers ≡ generation.book) × AreLabels numbers labels.items }
     requires first { generation.number ≡ 0 }
+    requires more { opens_more generation.seen ≡ may_open_more plan.renewals }
     ensures each { IfOk result (λ handles. All (HasOne generation.queue generation.book) handles.items) }
+    ensures more { IfOk result (λ handles. OpensMore (may_open_more plan.renewals) handles.items) }
     ensures threads { IfOk result (λ handles. map (λ h. h.thread) handles.items ≡ count_up 0 plan.sizes.threads) }
     ensures count { IfOk result (λ handles. length handles.items ≡ plan.sizes.threads) }
 {
@@ -100,11 +103,17 @@ fn open_first<T: Drop, K: Kind<T>>(
     plan: Plan,
 ) -> Result<Vec<RenewingHandle<T, K>>, AllocError>
     requires plan { IsPlan plan.sizes plan.renewals }
-    ensures { IfOk result (λ handles. HaveOne (opening_with K.bare plan.sizes) handles.items
+    ensures one { IfOk result (λ handles. HaveOne (opening_with K.bare plan.sizes) handles.items
         × (length handles.items ≡ plan.sizes.threads)) }
+    ensures more { IfOk result (λ handles. OpensMore (may_open_more plan.renewals) handles.items) }
 {
     let (queue, waiting, memory) = open_parts::<T, K>(alloc, &plan.sizes, plan.layout)?;
-    let (numbers, labels, next, history) = Numbers::open(alloc, &queue)?;
+    let first = First {
+        queue,
+        opens_more: plan.renewals.opens_more(),
+    };
+    let (numbers, labels, next, history) = Numbers::open(alloc, &first)?;
+    let First { queue, .. } = first;
     let generation = Generation::new(alloc, queue, waiting, next, history, memory)?;
     let handles = join_all(alloc, generation, numbers, labels, plan)?;
     Ok(handles)
@@ -156,6 +165,7 @@ fn open_tested<T: Drop, K: Kind<T>>(
 ) -> Result<Vec<RenewingHandle<T, K>>, RenewFault>
     ensures ok { IfOk result (λ handles. HaveOne (opening_with K.bare (sizes_again sizes)) handles.items
         × (length handles.items ≡ sizes.threads)) }
+    ensures more { IfOk result (λ handles. OpensMore (may_open_more renewals) handles.items) }
     ensures reserve { IsErrOf result ReserveOutOfRange ↔ HasBadReserve sizes renewals }
     ensures threads { IsErrOf result (Open ThreadsOutOfRange) ↔ HasBadThreads sizes renewals }
     ensures tokens { IsErrOf result (Open TokensOutOfRange) ↔ HasBadTokens sizes renewals }
@@ -204,6 +214,7 @@ pub fn open_with<T: Drop>(
 ) -> Result<Vec<RenewingHandle<T>>, RenewFault>
     ensures ok { IfOk result (λ handles. HaveOne (opening_again sizes) handles.items
         × (length handles.items ≡ sizes.threads)) }
+    ensures more { IfOk result (λ handles. OpensMore (may_open_more renewals) handles.items) }
     ensures reserve { IsErrOf result ReserveOutOfRange ↔ HasBadReserve sizes renewals }
     ensures threads { IsErrOf result (Open ThreadsOutOfRange) ↔ HasBadThreads sizes renewals }
     ensures tokens { IsErrOf result (Open TokensOutOfRange) ↔ HasBadTokens sizes renewals }
@@ -225,6 +236,7 @@ pub fn open_cells_with(
 ) -> Result<Vec<RenewingHandle<(), Cells>>, RenewFault>
     ensures ok { IfOk result (λ handles. HaveOne (opening_with true (sizes_again sizes)) handles.items
         × (length handles.items ≡ sizes.threads)) }
+    ensures more { IfOk result (λ handles. OpensMore (may_open_more renewals) handles.items) }
     ensures reserve { IsErrOf result ReserveOutOfRange ↔ HasBadReserve sizes renewals }
     ensures threads { IsErrOf result (Open ThreadsOutOfRange) ↔ HasBadThreads sizes renewals }
     ensures tokens { IsErrOf result (Open TokensOutOfRange) ↔ HasBadTokens sizes renewals }
@@ -242,7 +254,8 @@ fn open_for<T: Drop, K: Kind<T>>(
     threads: u32,
     layout: CellLayout,
 ) -> Result<Vec<RenewingHandle<T, K>>, CapacityFault>
-    ensures { OpensOrRefuses K.bare k capacity threads result }
+    ensures opens { OpensOrRefuses K.bare k capacity threads result }
+    ensures more { IfOk result (λ handles. OpensMore true handles.items) }
 {
     let sizes = match Sizes::for_capacity(k, capacity, threads, MAX_VERSION) {
         Ok(sizes) => sizes,
@@ -278,7 +291,8 @@ pub fn open<T: Drop>(
     capacity: u32,
     threads: u32,
 ) -> Result<Vec<RenewingHandle<T>>, CapacityFault>
-    ensures { OpensOrRefuses false k capacity threads result }
+    ensures opens { OpensOrRefuses false k capacity threads result }
+    ensures more { IfOk result (λ handles. OpensMore true handles.items) }
 {
     open_for(alloc, k, capacity, threads, CellLayout::none())
 }
@@ -313,7 +327,8 @@ pub fn open_cells(
     threads: u32,
     layout: CellLayout,
 ) -> Result<Vec<RenewingHandle<(), Cells>>, CapacityFault>
-    ensures { OpensOrRefuses true k capacity threads result }
+    ensures opens { OpensOrRefuses true k capacity threads result }
+    ensures more { IfOk result (λ handles. OpensMore true handles.items) }
 {
     open_for(alloc, k, capacity, threads, layout)
 }

@@ -111,6 +111,13 @@ impl<T: Drop> Places<T> {
         })
     }
 
+    /// The history of the queue, as far as its opening had seen it.
+    pub(crate) fn history(&self) -> &History
+        ensures { result.now ≡ self.now.history }
+    {
+        &self.lineage.history
+    }
+
     /// How many places there are.
     pub(crate) fn count(&self) -> usize {
         self.places.len()

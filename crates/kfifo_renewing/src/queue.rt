@@ -1,13 +1,14 @@
 //! What the handles of a renewing queue share.
-ghost use Rattle.std.specs.Prelude.{◌≡◌, ◌<◌, ◌≤◌, ◌+◌, ◌*◌, All, IfOk, IfSome, false, true};
+ghost use Rattle.std.specs.Prelude.{◌≡◌, ◌<◌, ◌≤◌, ◌+◌, ◌*◌, ◌==◌, ◌&&◌, All, IfOk, IfSome, false, length, not, true};
 ghost use Rattle.kfifo_live.specs.Pass.{IsPassOf};
 ghost use Rattle.logbook.specs.Pages.{may_write, nib};
-ghost use Rattle.kfifo_renewing.specs.History.{AreLabels, IsPlaced, WasNewest, key_of, place_count};
+ghost use Rattle.kfifo_renewing.specs.History.{AreLabels, IsPlaced, WasNewest, key_of, made, opens_more};
+ghost use Rattle.kfifo_renewing.specs.History.{place_count};
 ghost use Rattle.kfifo_renewing.specs.Joining.{IsPart};
 ghost use Rattle.kfifo_renewing.specs.declared.places.Lineage.{Lineage};
 ghost use Rattle.kfifo_renewing.specs.Renewing.{AreInRange, IsOfLineage, IsPlan, IsUntouched, opening_in};
-ghost use Rattle.kfifo_renewing.specs.Renewing.{opening_with, room_of};
-ghost use Rattle.kfifo_renewing.specs.declared.queue.TheConstants.{DEFAULT_RESERVE};
+ghost use Rattle.kfifo_renewing.specs.Renewing.{may_open_more, opening_with, room_of};
+ghost use Rattle.kfifo_renewing.specs.declared.queue.TheConstants.{DEFAULT_RESERVE, NO_RENEWAL};
 
 use crate::generation::Generation;
 use crate::history::{History, Numbers};
@@ -51,7 +52,9 @@ impl<T: Drop> Model for Shared<T> {
 
     ghost view = { λ s. s.places };
 
-    ghost invariant = { λ s. (s.numbers ≡ s.places.history.book) × AreInRange s.places.sizes };
+    ghost invariant = { λ s. (s.numbers ≡ s.places.history.book) × AreInRange s.places.sizes
+        × (opens_more s.places.history.log ≡ not ((s.reserve == NO_RENEWAL) && (s.most_older == 0)))
+        × (0 < length (made s.places.history.log)) };
 }
 
 impl<T: Drop> Shared<T> {
@@ -88,6 +91,14 @@ impl<T: Drop> Shared<T> {
     /// Whether the queue opens a next generation where the newest one has too few versions left.
     fn renews(&self) -> bool {
         self.reserve != NO_RENEWAL
+    }
+
+    /// Whether the queue may open further generations: for its versions, or because it grows.
+    pub(crate) fn opens_more(&self) -> bool
+        ensures more { result ≡ opens_more self.now.history.log }
+        ensures some { 0 < length (made self.now.history.log) }
+    {
+        self.reserve != NO_RENEWAL || self.most_older != 0
     }
 
     /// Whether a generation has too few versions left.
@@ -144,7 +155,7 @@ impl<T: Drop> Shared<T> {
     {
         let seen = history.again();
         let is_newest = newest.next().look(part, &mut history) == 0;
-        if !(self.renews() || self.grows()) || !is_newest || !self.places.has_room() {
+        if !self.opens_more() || !is_newest || !self.places.has_room() {
             return true;
         }
         let Ok(made) = self.make::<K>(&mut history) else {
@@ -155,6 +166,7 @@ impl<T: Drop> Shared<T> {
         };
         history.learn(&seen);
         history.learn(generation.history());
+        history.learn(self.places.history());
         let number = generation.number();
         let Ok(generation) = Arc::new(self.alloc, generation) else {
             return false;
@@ -205,6 +217,13 @@ pub struct Renewals {
 }
 
 impl Renewals {
+    /// Whether a queue with them may open further generations.
+    pub(crate) fn opens_more(&self) -> bool
+        ensures { result ≡ may_open_more self.now }
+    {
+        self.reserve != NO_RENEWAL || self.generations != 1
+    }
+
     /// Those of a queue with `DEFAULT_RESERVE` that does not grow.
     pub fn none() -> Renewals
         ensures { (result.reserve ≡ DEFAULT_RESERVE) × (result.generations ≡ 1) }
@@ -254,6 +273,7 @@ pub(crate) fn share<T: Drop>(
     requires of { generation.now.value.queue.opened ≡ opening_with bare plan.sizes }
     requires numbers { (numbers ≡ generation.now.value.book) × AreLabels numbers labels.items }
     requires first { generation.now.value.number ≡ 0 }
+    requires more { opens_more generation.now.value.seen ≡ may_open_more plan.renewals }
     ensures shared { IfOk result (λ r. (r.0.value.sizes ≡ plan.sizes) × (r.0.value.bare ≡ bare)
         × (r.0.value.history.book ≡ generation.now.value.book)) }
     ensures there { IfOk result (λ r. (r.2.book ≡ generation.now.value.book) × (r.1 < place_count)

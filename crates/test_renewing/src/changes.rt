@@ -3,7 +3,7 @@ ghost use Rattle.std.specs.Prelude.{◌≡◌, All};
 
 use crate::plain::{Handles, give, open, open_with};
 use kfifo_live::{CloseFault, Given, OpenFault, Sizes, Taken};
-use kfifo_renewing::{RenewFault, Renewals, RenewingHandle};
+use kfifo_renewing::{NO_RENEWAL, RenewFault, Renewals, RenewingHandle};
 use kfifo_words::{MAX_VERSION, Shape};
 use std::process::Abort;
 use std::test::Fail;
@@ -69,6 +69,43 @@ fn begins_in_one_generation(rt: HostRuntime) -> Result<(), Fail> {
     };
     let handles = kfifo_renewing::open_with::<u64>(rt.alloc(), sizes, renewals)?;
     assert!(rt; are_both_beside(handles.as_slice()));
+    Ok(())
+}
+
+/// A queue without renewal wears out after 4 pairs of calls, as its one generation does.
+#[test]
+fn wears_out_without_renewal(rt: HostRuntime) -> Result<(), Fail> {
+    let sizes = Sizes::for_capacity(1, 1, 1, 8)?;
+    let renewals = Renewals {
+        reserve: NO_RENEWAL,
+        generations: 1,
+    };
+    let mut handles = kfifo_renewing::open_with::<u64>(rt.alloc(), sizes, renewals)?;
+    let Some(mut handle) = handles.pop() else {
+        panic!(rt; "the handle of the only thread");
+    };
+    assert!(rt; !handle.may_open_more());
+    for value in 0..4 {
+        assert_eq!(rt; handle.give(value), Given::Done, "give {value}");
+        assert_eq!(rt; handle.take(), Taken::Got(value), "take {value}");
+    }
+    assert_eq!(rt; handle.give(4), Given::Worn(4));
+    assert_eq!(rt; handle.generations(), Some(1));
+    Ok(())
+}
+
+/// A queue opens further generations if it renews itself or grows.
+#[test]
+fn may_open_more_to_renew_or_to_grow(rt: HostRuntime) -> Result<(), Fail> {
+    for (reserve, generations) in [(4, 1), (NO_RENEWAL, 2), (4, 2)] {
+        let sizes = Sizes::for_capacity(1, 1, 1, 8)?;
+        let renewals = Renewals {
+            reserve,
+            generations,
+        };
+        let handles = kfifo_renewing::open_with::<u64>(rt.alloc(), sizes, renewals)?;
+        assert!(rt; handles.iter().all(|handle| handle.may_open_more()));
+    }
     Ok(())
 }
 

@@ -3,7 +3,8 @@ use Rattle.std.proofs.Common.{◌≡◌, ◌+◌, ◌++◌, ◌∷◌, [], All, 
 use Rattle.std.proofs.lemmas.List.{map-append}
 use Rattle.std.proofs.lemmas.List.Elements.{All-push}
 use Rattle.kfifo_live.specs.Schedule.{count_up}
-use Rattle.kfifo_renewing.specs.Renewing.{Generations, HasOne, Numbered}
+use Rattle.kfifo_renewing.specs.Renewing.{Generations, HasOne, Numbered, OpensMore, may_open_more}
+use Rattle.kfifo_renewing.specs.History.{opens_more}
 use Rattle.kfifo_renewing.proofs.Parts.{count-more}
 use Rattle.kfifo_renewing.proofs.opening.join_all.Goals as goal
 
@@ -21,6 +22,10 @@ loop-thread-preserved g c =
       each = subst (All P) (sym items) (All-push P before handle i.each
           (subst (λ (v : Numbered). HasOne v.queue v.book handle) c.in_ok-generation.ensures.ok
           c.in_ok-handle.ensures.one));
+      more = subst (OpensMore (may_open_more c.args.plan.renewals)) (sym items)
+          (All-push (λ (h : Generations T). opens_more h.seen ≡ may_open_more c.args.plan.renewals) before handle i.more
+          (c.in_ok-handle.ensures.more ∙ ap (λ (v : Numbered). opens_more v.seen) c.in_ok-generation.ensures.ok
+          ∙ c.requires.more));
       threads = ap (map (λ (h : Generations T). h.thread)) items ∙ map-append (λ (h : Generations T). h.thread) before
           (handle ∷ [])
           ∙ ap (λ l. l ++ handle.thread ∷ []) i.threads ∙ ap (λ t. count_up 0 n ++ t ∷ []) at ∙ sym (count-more 0 n);

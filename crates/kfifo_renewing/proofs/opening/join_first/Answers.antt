@@ -1,9 +1,9 @@
 -- The first generation has the number 0, and is in its place.
 use Rattle.std.proofs.Common.{◌≡◌, ◌<◌, sym, ap, ◌∙◌, subst, rules}
 use Rattle.kfifo_renewing.specs.declared.change.Change.TheVariants as C
-use Rattle.kfifo_renewing.specs.History.{IsMade, IsPlaced, place_count}
+use Rattle.kfifo_renewing.specs.History.{IsMade, IsPlaced, opens_more, place_count}
 use Rattle.kfifo_renewing.specs.Renewing.{Numbered}
-use Rattle.kfifo_renewing.proofs.Histories.{contains-later, made-later}
+use Rattle.kfifo_renewing.proofs.Histories.{contains-later, made-later, made-some, opens-same}
 use Rattle.kfifo_renewing.proofs.opening.join_first.Goals as goal
 
 pub new-requires-clause-part : goal.new-requires-clause-part
@@ -26,3 +26,14 @@ new-requires-clause-part g c =
           (contains-later c.again-history.result.log log (C.Placed 0 c.args.place) c.learn.ensures.2
           (subst (λ l. IsPlaced l 0 c.args.place) (sym (ap (λ h. h.log) c.again-history.ensures)) c.requires.there.2)));
     }
+
+pub returns-clause-more : goal.returns-clause-more
+returns-clause-more g c =
+    let seen = c.history.result.now.log in
+    let log = c.learn.new.self.log in
+    let made = c.history.ensures.made in
+    let same : seen ≡ c.args.generation.now.value.seen = c.history.ensures.book.1 ∙ ap (λ (v : Numbered). v.seen)
+    (c.deref.ensures ∙ c.in_ok-generation.ensures) in
+    let more : opens_more log ≡ opens_more c.args.generation.now.value.seen =
+    opens-same seen log c.learn.ensures.3 (made-some seen _ _ made) ∙ ap opens_more same in
+    search (rules, more)

@@ -3,8 +3,8 @@ use Rattle.std.proofs.Common.{ap, ◌∙◌}
 use Rattle.kfifo_live.specs.Pass.{OpenQueue}
 use Rattle.kfifo_renewing.proofs.opening.open_first.Goals as goal
 
-pub returns : goal.returns
-returns g c =
+pub returns-clause-one : goal.returns-clause-one
+returns-clause-one g c =
     let first = c.in_ok-generation.generation in
     let made = c.in_ok-generation.ensures in
     let joined = c.in_ok-handles.ensures in (

@@ -18,4 +18,4 @@ pub returns-in-Ok-clause-ok : goal.returns-in-Ok-clause-ok
 returns-in-Ok-clause-ok g c =
     let handles = c.in-Ok.handles.items in
     subst (λ (s : Sizes). HaveOne (opening_with g.K.Kind.bare s) handles × (length handles ≡ s.threads))
-    c.hold_again.ensures c.in-Ok.ensures
+    c.hold_again.ensures c.in-Ok.ensures.one

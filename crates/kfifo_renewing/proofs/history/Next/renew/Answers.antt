@@ -20,5 +20,5 @@ compare_exchange-found-requires c =
           (renews-moves log c.self.inside.number c.args.number there.0 (C.Newest c.args.number)
           (subst (WasNewest log) (sym number) c.requires.newest)
           (subst (λ n. n < c.args.number) (sym number) c.requires.later) there.1
-          (subst (λ n. IsPlaced log n there.0) (sym number) there.2)),
+          (subst (λ n. IsPlaced log n there.0) (sym number) there.2) c.requires.more),
     )

@@ -3,4 +3,8 @@ use Rattle.kfifo_renewing.proofs.Keeping.{kept_first}
 use Rattle.kfifo_renewing.proofs.history.Numbers.open.Goals as goal
 
 pub open_row-history-requires : goal.open_row-history-requires
-open_row-history-requires g c = (kept_first c.args.queue.now.table, λ xs. tt, c.alone.ensures.1)
+open_row-history-requires g c = (
+  kept_first c.args.first.now.queue.table c.args.first.now.opens_more,
+  λ xs. tt,
+  c.alone.ensures.1,
+)
