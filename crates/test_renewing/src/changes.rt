@@ -75,7 +75,11 @@ fn begins_in_one_generation(rt: HostRuntime) -> Result<(), Fail> {
 /// A queue without renewal wears out after 4 pairs of calls, as its one generation does.
 #[test]
 fn wears_out_without_renewal(rt: HostRuntime) -> Result<(), Fail> {
-    let sizes = Sizes::for_capacity(1, 1, 1, 8)?;
+    let sizes = Sizes {
+        shape: Shape::new(1, 2, 8)?,
+        threads: 1,
+        tokens: 4,
+    };
     let renewals = Renewals {
         reserve: NO_RENEWAL,
         generations: 1,
@@ -89,7 +93,8 @@ fn wears_out_without_renewal(rt: HostRuntime) -> Result<(), Fail> {
         assert_eq!(rt; handle.give(value), Given::Done, "give {value}");
         assert_eq!(rt; handle.take(), Taken::Got(value), "take {value}");
     }
-    assert_eq!(rt; handle.give(4), Given::Worn(4));
+    assert_eq!(rt; handle.give(4), Given::Done);
+    assert_eq!(rt; handle.take(), Taken::Worn);
     assert_eq!(rt; handle.generations(), Some(1));
     Ok(())
 }
