@@ -3,7 +3,7 @@ use Rattle.std.proofs.Common.{◌≡◌, ◌-◌, ◌<◌, [], Some, ap, arith, 
 use Rattle.std.proofs.lemmas.List.{append-nil, length-map}
 use mathlib.Core.List.{IsPrefix}
 use Rattle.kfifo_renewing.specs.Joining.{PartView, held_in}
-use Rattle.kfifo_renewing.specs.Renewing.{Generations, TakesFirst, with_older, with_seen}
+use Rattle.kfifo_renewing.specs.Renewing.{Generations, IsLater, TakesFirst, with_older, with_seen}
 use Rattle.kfifo_renewing.proofs.Following.{later-older, later-refl, later-trans}
 use Rattle.kfifo_renewing.proofs.Joining.{left-at}
 use Rattle.kfifo_renewing.proofs.Drained.{all-empty, as-many, none-yet, one-kept, one-left, one-taken, sealed-there}
@@ -14,45 +14,50 @@ loop-index-init g c =
     let now = c.args.self.now in
     record { same = refl; later = later-refl now; empty = none-yet g.K.Kind.takes g.K.Kind.seals now.seen now.older }
 
+-- the handle after a take from one generation more, which it may then have left
+goes-on : {T : Type 0} (now was mid new : Generations T) → was ≡ with_older (with_seen now was.seen) was.older
+    → IsLater now was → mid ≡ with_older was mid.older → new ≡ with_older (with_seen mid new.seen) new.older
+    → IsLater mid new
+    → (new ≡ with_older (with_seen now new.seen) new.older) × IsLater now new × IsPrefix was.seen new.seen
+goes-on {T} now was mid new same later took left more = (
+  left ∙ ap (λ (v : Generations T). with_older (with_seen v new.seen) new.older)
+      (took ∙ ap (λ (v : Generations T). with_older v mid.older) same),
+  later-trans now was new later (later-trans was mid new (later-older was mid mid.older took) more),
+  subst (λ l. IsPrefix l new.seen) (ap (λ (v : Generations T). v.seen) took) more.seen,
+)
+
 pub loop-index-preserved-then-not-leave_sealed : goal.loop-index-preserved-then-not-leave_sealed
 loop-index-preserved-then-not-leave_sealed g c =
-    let T = g.row.T.Denot in
     let i = c.loop-index.invariant in
     let now = c.args.self.now in
-    let s = c.loop-index.self in
+    let was = c.loop-index.self in
     let mid = c.take_at-taken.new.self in
     let new = c.leave_sealed.new.self in
     let took = c.take_at-taken.ensures in
     let left = c.leave_sealed.ensures in
-    let pre = subst (λ l. IsPrefix l new.seen) (ap (λ (v : Generations T). v.seen) took.same) left.later.seen in
+    let on = goes-on now was mid new i.same i.later took.same left.same left.later in
     record {
-      same = left.same ∙ ap (λ (v : Generations T). with_older (with_seen v new.seen) new.older)
-          (took.same ∙ ap (λ (v : Generations T). with_older v mid.older) i.same);
-      later = later-trans now s new i.later
-          (later-trans s mid new (later-older s mid mid.older took.same) left.later);
-      empty = one-kept g.K.Kind.takes g.K.Kind.seals s.seen new.seen now.older s.older mid.older c.loop-index.index
-          c.take_at-taken.result c.take_at-taken.new.is_sealed pre i.empty took.takes new.older c.in_default.is
+      same = on.0;
+      later = on.1;
+      empty = one-kept g.K.Kind.takes g.K.Kind.seals was.seen new.seen now.older was.older mid.older c.loop-index.index
+          c.take_at-taken.result c.take_at-taken.new.is_sealed on.2 i.empty took.takes new.older c.in_default.is
           c.if-not-leave_sealed.ensures.left;
     }
 
 pub loop-index-preserved : goal.loop-index-preserved
 loop-index-preserved g c =
-    let T = g.row.T.Denot in
     let i = c.loop-index.invariant in
     let now = c.args.self.now in
-    let s = c.loop-index.self in
+    let was = c.loop-index.self in
     let mid = c.take_at-taken.new.self in
     let new = c.leave_sealed.new.self in
     let took = c.take_at-taken.ensures in
-    let left = c.leave_sealed.ensures in
-    let pre = subst (λ l. IsPrefix l new.seen) (ap (λ (v : Generations T). v.seen) took.same) left.later.seen in
+    let on = goes-on now was mid new i.same i.later took.same c.leave_sealed.ensures.same c.leave_sealed.ensures.later in
     record {
-      same = left.same ∙ ap (λ (v : Generations T). with_older (with_seen v new.seen) new.older)
-          (took.same ∙ ap (λ (v : Generations T). with_older v mid.older) i.same);
-      later = later-trans now s new i.later
-          (later-trans s mid new (later-older s mid mid.older took.same) left.later);
-      empty = one-left g.K.Kind.takes g.K.Kind.seals s.seen new.seen now.older s.older mid.older c.loop-index.index
-          c.take_at-taken.result c.take_at-taken.new.is_sealed pre i.empty took.takes new.older c.in_default.is
+      same = on.0;
+      later = on.1;
+      empty = one-left g.K.Kind.takes g.K.Kind.seals was.seen new.seen now.older was.older mid.older c.loop-index.index
+          c.take_at-taken.result c.take_at-taken.new.is_sealed on.2 i.empty took.takes new.older c.in_default.is
           c.if-not-leave_sealed.ensures.left;
     }
 
