@@ -40,7 +40,7 @@ pub struct Sealed {
 
 /// An entry of the history of a queue's generations.
 pub enum Change {
-    /// A generation was made. That of the first one says whether the queue may open further generations.
+    /// A generation was made. In the first entry the flag is true if the queue may open further generations.
     Made(Made, bool),
     /// The generation with this number became the newest.
     Newest(u32),
