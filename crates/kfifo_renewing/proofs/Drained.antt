@@ -1,5 +1,6 @@
 -- The older generations of a handle, while it takes from one after the other.
-use Rattle.std.proofs.Common.{◌≡◌, ◌≢◌, ◌≤◌, ◌+◌, ℕ, Bool, true, List, [], ◌∷◌, ◌++◌, None, Option, append_assoc, arith, ap}
+use Rattle.std.proofs.Common.{◌≡◌, ◌≢◌, ◌≤◌, ◌+◌, ℕ, Bool, true, List, [], ◌∷◌}
+use Rattle.std.proofs.Common.{◌++◌, None, Option, append_assoc, arith, ap}
 use Rattle.std.proofs.Common.{inl, inr, length, length-append, refl, sym, ◌∙◌, subst}
 use Rattle.std.proofs.lemmas.List.{append-nil, nil_from_length}
 use mathlib.Core.List.{IsPrefix}

@@ -1,6 +1,7 @@
 -- One generation more is closed, and the parts of the other handles are in those that are left.
 use Rattle.std.proofs.Common.{◌≡◌, ◌==◌, ◌≤◌, ◌+◌, ◌⊎◌, ⊎_elim, ℕ, Bool, true, false, not, List, [], ◌∷◌, ◌++◌}
-use Rattle.std.proofs.Common.{All, map, filter, cond, append_assoc, arith, ap, eqb-true, inl, inr, refl, sym, ◌∙◌, subst}
+use Rattle.std.proofs.Common.{All, map, filter, cond, append_assoc, arith, ap, eqb-true, inl}
+use Rattle.std.proofs.Common.{inr, refl, sym, ◌∙◌, subst}
 use Rattle.std.specs.List.{Contains}
 use Rattle.std.proofs.lemmas.List.{append-nil, map-append}
 use Rattle.std.proofs.lemmas.List.Elements.{All-contains, All-filter, All-map, All-weaker, Contains-append_left}
@@ -73,7 +74,8 @@ module _ {T : Type 0} where
       (contains-filter (λ (q : PartView T). q.number == n) kept p (keeps p at-part.1 (omega (arith, up, number))) same))
 
   pub own-among : (log : List Change) (handles : List (Generations T)) (all kept : List (PartView T)) (least n : ℕ)
-      → HaveParts log handles all → KeepsFrom least all kept → least ≤ n → HaveOwnAmong log handles n (handles_at n kept)
+      → HaveParts log handles all → KeepsFrom least all kept → least ≤ n → HaveOwnAmong log handles n (handles_at n
+      kept)
   own-among log handles all kept least n have keeps up g h among of at =
       ⊎_elim inl (λ there. inr (own-at all kept least n h there keeps up at)) (have g h among of)
 
@@ -84,7 +86,8 @@ module _ {T : Type 0} where
       contains-filter (λ (q : PartView T). not (q.number == n)) kept p (keeps p of (omega (arith, up, above)))
       (ap not other)
 
-  one-beside : (log : List Change) (o : Opening) (h p : PartView T) → IsPart log h → IsOpenedAs o h.handle → IsPart log p
+  one-beside : (log : List Change) (o : Opening) (h p : PartView T) → IsPart log h → IsOpenedAs o h.handle → IsPart
+      log p
       → IsOpenedAs o p.handle → (p.number == h.number) ≡ true → IsBeside h.handle p.handle
   one-beside log o h p part opened other other-opened test =
       let same : p.number ≡ h.number = grind (arith, nat_tests) in
@@ -114,7 +117,8 @@ module _ {T : Type 0} where
       ⊎_elim (λ left. inl (left-later xs ys h pre left)) inr (have g h among of)
 
   -- the parts of one handle more, but for those that have left
-  pub have-more : (log : List Change) (handles : List (Generations T)) (g : Generations T) (parts more : List (PartView T))
+  pub have-more : (log : List Change) (handles : List (Generations T)) (g : Generations T) (parts more : List
+      (PartView T))
       → HaveParts log handles parts → EndsGone log (all_of g) (held_by more)
       → HaveParts log (handles ++ g ∷ []) (parts ++ more)
   have-more log handles g parts more have ends other h among of =
@@ -125,7 +129,8 @@ module _ {T : Type 0} where
       (λ before. ⊎_elim inl (λ there. inr (back (Contains-append_left (held_by parts) (held_by more) h there)))
       (have other h before of))
       (λ same. ⊎_elim inl (λ there. inr (back (Contains-append_right (held_by parts) (held_by more) h there)))
-      (ends-each log (all_of g) (held_by more) h ends (subst (λ (x : Generations T). Contains (all_of x) h) (sym same) of)))
+      (ends-each log (all_of g) (held_by more) h ends (subst (λ (x : Generations T). Contains (all_of x) h) (sym
+      same) of)))
       (Contains-push_cases handles g other among)
 
   -- a part more that is in the generation
@@ -211,7 +216,8 @@ module _ {T : Type 0} where
   -- number in one history
   pub record AreLeft (o : Opening) (all : List (PartView T)) (least : ℕ) (done rest theirs : List (PartView T)) : Type 0
     where
-      pub opened : All (λ (p : PartView T). IsOpenedAs o p.handle) rest × All (λ (p : PartView T). IsOpenedAs o p.handle)
+      pub opened : All (λ (p : PartView T). IsOpenedAs o p.handle) rest × All (λ (p : PartView T). IsOpenedAs o
+          p.handle)
           theirs
       pub parts : (log : List Change) × All (IsPart log) rest × All (IsPart log) theirs
       pub keeps : KeepsFrom least all theirs
@@ -247,7 +253,8 @@ module _ {T : Type 0} where
             subst (All (IsPart left.parts.0)) (sym are) (All-filter test (IsPart left.parts.0) theirs left.parts.2),
           );
           keeps = subst (λ l. KeepsFrom after all l) (sym are)
-              (subst (λ k. KeepsFrom k all (others_than n theirs)) (sym is) (keeps-more all theirs least n left.keeps up));
+              (subst (λ k. KeepsFrom k all (others_than n theirs)) (sym is) (keeps-more all theirs least n
+              left.keeps up));
           each = subst (λ l. KeptOrIn all l (done ++ here ∷ []))
               (sym (are ∙ ap (λ k. others_than k theirs) number)) (kept-more all theirs done here left.each);
         }
@@ -259,7 +266,8 @@ module _ {T : Type 0} where
     pub left-beside : (found : List (Pooled T)) → found ≡ handles_at n theirs → All (λ k. IsBeside here.handle k) found
     left-beside found are =
         subst (All (λ k. IsBeside here.handle k)) (sym (are ∙ ap (λ k. handles_at k theirs) number))
-        (beside left.parts.0 o here theirs (all-next (IsPart left.parts.0) here more rest next left.parts.1).0 left-opened
+        (beside left.parts.0 o here theirs (all-next (IsPart left.parts.0) here more rest next left.parts.1).0
+        left-opened
         left.parts.2 left.opened.1)
 
     -- and those of all other handles are among them

@@ -26,7 +26,8 @@ use Rattle.kfifo_renewing.specs.History.{Looks, LooksThere, Fills, TellsNext, Te
 use Rattle.kfifo_renewing.specs.History.{key_of, left_of, made, making_of, newest_of, next_in, place_count, label_of}
 use Rattle.kfifo_renewing.specs.History.{shows}
 use Rattle.kfifo_renewing.proofs.Histories.{contains-later, contains-more, gone-later, left-append, made-append}
-use Rattle.kfifo_renewing.proofs.Histories.{newest-append, one-stays, risen-more, risen-none, risen-was, was-later, was-less}
+use Rattle.kfifo_renewing.proofs.Histories.{newest-append, one-stays, risen-more, risen-none}
+use Rattle.kfifo_renewing.proofs.Histories.{risen-was, was-later, was-less}
 use Rattle.kfifo_renewing.proofs.Histories.{was-made}
 
 abbrev pub shown : List Change → List Change
@@ -124,7 +125,8 @@ goes-by k v p f then cs after log more c a at set valid kept told = (
 )
 
 first-only : (t : TableId) (b : Bool) (e : Change) → Contains (making_of t b ∷ []) e → (e ≡ making_of t b → ⊥) → ⊥
-first-only t b e has other = ⊎_elim (λ none. absurd (omega (arith, none.1))) other (contains-more [] (making_of t b) e has)
+first-only t b e has other = ⊎_elim (λ none. absurd (omega (arith, none.1))) other (contains-more [] (making_of t
+    b) e has)
 
 -- an even number
 abbrev pub IsEven : ℕ → Type 0

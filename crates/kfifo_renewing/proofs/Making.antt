@@ -97,7 +97,10 @@ numbers-goes v log p t old g labels nexts all h room true found =
 numbers-goes v log p t old g labels nexts all h room false found =
     let none : log ++ [] ≡ log = append-nil log in
     let other : g ≡ old → ⊥ = λ is. grind (arith, nat_tests) in
-    goes-by 0 v p (λ n. either (n == old) (old + 1) n) (GivesNumber (step 0 old (old + 1) (making_of t true)) (v, (p, None)))
+    goes-by 0 v p (λ n. either (n == old) (old + 1) n) (GivesNumber (step 0 old (old + 1) (making_of t true)) (
+      v,
+      (p, None),
+    ))
     (words-of g labels nexts) (words-of g labels nexts) log [] (g, true) keeps refl (rw found refl) tt
     (subst (IsKept (words-of g labels nexts)) (sym none) (kept-of g labels nexts log all h)) (λ is. absurd (other is))
 

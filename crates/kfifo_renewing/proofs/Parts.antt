@@ -1,6 +1,7 @@
 -- Lists: what holds of all their elements, and lists of threads.
 use Rattle.std.proofs.Common.{◌≡◌, ◌==◌, ◌+◌, ◌⊎◌, ⊎_elim, ℕ, zero, suc, not, List, [], ◌∷◌, ◌++◌, All, take, drop}
-use Rattle.std.proofs.Common.{Bool, true, false, Some, arith, cond, filter, inl, inr, length, map, refl, slice_get, slice_set}
+use Rattle.std.proofs.Common.{Bool, true, false, Some, arith, cond, filter, inl, inr}
+use Rattle.std.proofs.Common.{length, map, refl, slice_get, slice_set}
 use Rattle.std.proofs.Common.{slice_index_or, sym, ap, ◌∙◌, subst}
 use Rattle.std.specs.List.{Contains}
 use Rattle.kfifo_renewing.specs.Joining.{PartView}

@@ -1,5 +1,6 @@
 -- What a handle of a renewing queue has joined: parts in generations.
-use Rattle.std.specs.Prelude.{◌≡◌, ◌⊎◌, ◌<◌, ◌++◌, ℕ, Bool, true, List, [], ◌∷◌, All, Option, Some, length, map, slice_get}
+use Rattle.std.specs.Prelude.{◌≡◌, ◌⊎◌, ◌<◌, ◌++◌, ℕ, Bool, true, List, [], ◌∷◌}
+use Rattle.std.specs.Prelude.{All, Option, Some, length, map, slice_get}
 use Rattle.std.specs.List.{Contains}
 use Rattle.logbook.specs.Pages.{Book}
 use Rattle.kfifo_pool.specs.Pooled.{Pooled, no_cells}
@@ -8,7 +9,8 @@ use Rattle.kfifo_live.specs.declared.payload.Taken.{Taken}
 use Rattle.kfifo_live.specs.declared.payload.sealing.TakenOrSealed.{TakenOrSealed}
 use Rattle.kfifo_live.specs.declared.view.Opening.{Opening}
 use Rattle.kfifo_renewing.specs.History.{HasRisen, IsGone, IsMade, IsPlaced, WasNewest, newest_of, place_count}
-use Rattle.kfifo_renewing.specs.Renewing.{Generations, HasLeft, HeldIn, IsFresh, IsOpenedAs, Numbered, TakesOlder, all_of}
+use Rattle.kfifo_renewing.specs.Renewing.{Generations, HasLeft, HeldIn, IsFresh, IsOpenedAs}
+use Rattle.kfifo_renewing.specs.Renewing.{Numbered, TakesOlder, all_of}
 use Rattle.kfifo_renewing.specs.declared.change.Change.{Change}
 
 -- a pass has seen its queue sealed empty, in a schedule that keeps the promise
@@ -138,7 +140,8 @@ module _ {T G : Type 0} (takes : Taken G → Pooled T → Pooled T → Type 0)
     (seals : TakenOrSealed G → Pooled T → Pooled T → Type 0) where
   -- A take from the generation at this index of some came to this. Where `is_sealed` is true, the handle has then seen
   -- it sealed empty. The others are as before
-  pub record TakesAt (index : ℕ) (answer : Option (Taken G)) (is_sealed : Bool) (old new : List (HeldIn T)) : Type 0 where
+  pub record TakesAt (index : ℕ) (answer : Option (Taken G)) (is_sealed : Bool) (old new : List (HeldIn T)) : Type
+      0 where
     pub before : List (HeldIn T)
     pub after : List (HeldIn T)
     pub handle : HeldIn T

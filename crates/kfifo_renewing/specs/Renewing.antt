@@ -1,5 +1,6 @@
 -- The generations of a renewing queue, as a handle has joined them, and what its calls do to each.
-use Rattle.std.specs.Prelude.{◌≡◌, ◌≢◌, ◌⊎◌, ◌<◌, ◌≤◌, ◌==◌, ◌&&◌, ◌+◌, ◌-◌, ◌*◌, ℕ, not, false, true, List, [], ◌∷◌, ◌++◌}
+use Rattle.std.specs.Prelude.{◌≡◌, ◌≢◌, ◌⊎◌, ◌<◌, ◌≤◌, ◌==◌, ◌&&◌, ◌+◌, ◌-◌, ◌*◌, ℕ, not}
+use Rattle.std.specs.Prelude.{false, true, List, [], ◌∷◌, ◌++◌}
 use Rattle.std.specs.Prelude.{All, Bool, filter, length, map, MatchResult, Option, Result, Some, None, Vec}
 use Rattle.std.specs.List.{Contains}
 use mathlib.Core.List.{IsPrefix}

@@ -392,8 +392,8 @@ impl<T: Drop> Generation<T> {
                 (Some(departed), back)
             }
             None if is_sealed => {
-                // Others try to leave once the label is cleared. Were that done before this thread had the place of those
-                // that have left, one of the others could hold it just now, and nobody would begin.
+                // Others try to leave once the label is cleared. Were that done before this thread had the place of
+                // those that have left, one of the others could hold it just now, and nobody would begin.
                 places.retire(&part, history);
                 self.core.begin(part, history)
             }

@@ -543,8 +543,8 @@ impl<T: Drop, K: Kind<T>> RenewingHandle<T, K> {
         }
     }
 
-    /// Whether the queue may open further generations: because versions run out, or because it grows. If not, it has its
-    /// first generation alone.
+    /// Whether the queue may open further generations: because versions run out, or because it grows. If not, it has
+    /// its first generation alone.
     pub fn may_open_more(&self) -> bool
         ensures more { result ≡ opens_more self.now.seen }
         ensures one { result ≡ false → self.now.number ≡ 0 }

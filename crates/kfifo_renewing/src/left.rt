@@ -112,8 +112,8 @@ fn close_each(alloc: Global, gathered: Gathered<()>) -> Result<Vec<LeftCells>, C
 /// oldest first, with their memory, and what was seen of its history.
 ///
 /// As in `close`, each handle first leaves what has gone, and the last one follows the others. In each generation that
-/// it is then in, they are what is left after the one schedule of all calls there, in the order of `PooledQueue::close`.
-/// A cell that a handle had reserved or received is not among them.
+/// it is then in, they are what is left after the one schedule of all calls there, in the order of
+/// `PooledQueue::close`. A cell that a handle had reserved or received is not among them.
 ///
 /// The handles are of one queue. MissingPass where one of its handles is still elsewhere, or none is given; Memory
 /// where an allocation failed. The cells are then gone with their memory, and nobody reads what was in them.

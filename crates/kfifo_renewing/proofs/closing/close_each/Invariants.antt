@@ -13,6 +13,7 @@ invariant-loop-joined g l = record {
   rest : AreLeft (opening_with false l.fn.gathered.sizes) l.fn.gathered.theirs.parts.items l.theirs.least done
       l.joined-iterator.rest.items l.theirs.parts.items;
   left : (l.fn.gathered.all.items ≡ done ++ l.joined-iterator.rest.items)
-      × ((log : List Change) (handles : List (Generations g.row.T.Denot)) → HaveParts log handles l.fn.gathered.theirs.parts.items
+      × ((log : List Change) (handles : List (Generations g.row.T.Denot)) → HaveParts log handles
+      l.fn.gathered.theirs.parts.items
       → ClosesEach log handles (held_by done) l.left.items);
 }

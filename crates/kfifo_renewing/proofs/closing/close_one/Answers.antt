@@ -13,7 +13,8 @@ returns g c log handles own =
     let are = c.in_ok-queue.ensures in record {
       queue = e.queue;
       others = e.others.items;
-      by = closed-by log handles e.queue c.args.joined e.handle e.others.items c.args.theirs.items c.args.sizes.now.threads
+      by = closed-by log handles e.queue c.args.joined e.handle e.others.items c.args.theirs.items
+          c.args.sizes.now.threads
           are.handle are.of.0 are.others (ap (λ (o : Opening). o.threads) c.requires.opened) are.theirs own;
       closes = subst (λ (p : Pooled T). PayCloses e.queue p.held.pass (map (λ (o : Pooled T). o.held.pass)
           e.others.items) c.in_ok-left.left.items) are.handle c.in_ok-left.ensures.ok;

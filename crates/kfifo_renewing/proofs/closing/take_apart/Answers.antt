@@ -1,7 +1,8 @@
 -- The parts of one handle more.
 use Rattle.std.proofs.Common.{◌≡◌, ◌++◌, [], ◌∷◌, All, append_assoc, arith, ap, refl, sym, ◌∙◌, subst}
 use Rattle.std.proofs.lemmas.List.{append-nil, nil_from_length}
-use Rattle.std.proofs.lemmas.List.Elements.{All-append, All-contains, All-nil, All-push, Contains-append_left, Contains-push}
+use Rattle.std.proofs.lemmas.List.Elements.{All-append, All-contains, All-nil, All-push}
+use Rattle.std.proofs.lemmas.List.Elements.{Contains-append_left, Contains-push}
 use mathlib.Core.List.{IsPrefix}
 use Rattle.kfifo_live.specs.declared.view.Opening.{Opening}
 use Rattle.kfifo_renewing.specs.Joining.{HaveParts, IsPart, PartView, held_by}
@@ -76,7 +77,8 @@ loop-handle-preserved g c =
           (All-append (IsPart new) before kept (parts-later log new before later i.parts)
           (all-from-contains (IsPart new) kept
           (λ p of. All-contains (IsPart new) parts p
-          (parts-later seen new parts (prefix-trans seen mid new c.learn.ensures.3 gone) apart.history.2) (among p of))));
+          (parts-later seen new parts (prefix-trans seen mid new c.learn.ensures.3 gone) apart.history.2) (among p
+          of))));
       so_far = (
         done ++ handle ∷ [],
         i.so_far.1 ∙ ap (λ l. done ++ l) next ∙ sym (append_assoc done (handle ∷ []) c.next.new.self.rest.items),
@@ -113,7 +115,8 @@ returns-clause-all g c =
     let i = c.loop-handle.invariant.so_far in
     let over = nil_from_length c.loop-handle.handle-iterator.rest.items
     (omega (arith, c.in-None.ensures.steps.0, c.loop-handle.handle-iterator.rest.ok.0)) in
-    subst (λ l. HaveParts c.loop-handle.history.log l c.loop-handle.theirs.items) (sym (i.1 ∙ ap (λ l. i.0 ++ l) over ∙ append-nil i.0)) i.2
+    subst (λ l. HaveParts c.loop-handle.history.log l c.loop-handle.theirs.items) (sym (i.1 ∙ ap (λ l. i.0 ++ l)
+    over ∙ append-nil i.0)) i.2
 
 pub returns-clause-seen : goal.returns-clause-seen
 returns-clause-seen g c =

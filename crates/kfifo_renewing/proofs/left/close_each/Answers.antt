@@ -21,8 +21,10 @@ pub close_one-requires-clause-theirs : goal.close_one-requires-clause-theirs
 close_one-requires-clause-theirs c =
     let i = c.loop-joined.invariant in
     left-beside (opening_with true c.args.gathered.sizes) c.args.gathered.theirs.parts.items c.loop-joined.theirs.least
-    c.number.result i.done c.loop-joined.joined-iterator.rest.items c.next.new.self.rest.items c.loop-joined.theirs.parts.items
-    c.in-Some.joined c.in-Some.ensures.steps.0 c.number.ensures i.rest c.in_ok-here.here.items c.in_ok-here.ensures.taken
+    c.number.result i.done c.loop-joined.joined-iterator.rest.items c.next.new.self.rest.items
+    c.loop-joined.theirs.parts.items
+    c.in-Some.joined c.in-Some.ensures.steps.0 c.number.ensures i.rest c.in_ok-here.here.items
+    c.in_ok-here.ensures.taken
 
 pub loop-joined-preserved : goal.loop-joined-preserved
 loop-joined-preserved c =
@@ -52,7 +54,8 @@ loop-joined-preserved c =
             subst (λ (hs : List (HeldIn T)). LeavesCells log handles hs c.push.new.self.items)
             (sym (map-append (λ (p : PartView T). held_in p) done (here ∷ [])))
             (subst (LeavesCells log handles (held_by done ++ held_in here ∷ [])) (sym c.in-Ok.ensures.items)
-            (leaves-more log handles (held_by done) c.loop-joined.left.items (held_in here) c.in_ok-closed.closed (i.left.1 log handles have)
+            (leaves-more log handles (held_by done) c.loop-joined.left.items (held_in here) c.in_ok-closed.closed
+            (i.left.1 log handles have)
             (c.in_ok-closed.ensures log handles own))),
       );
     }

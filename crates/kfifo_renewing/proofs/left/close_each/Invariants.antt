@@ -14,6 +14,7 @@ invariant-loop-joined l = record {
   rest : AreLeft (opening_with true l.fn.gathered.sizes) l.fn.gathered.theirs.parts.items l.theirs.least done
       l.joined-iterator.rest.items l.theirs.parts.items;
   left : (l.fn.gathered.all.items ≡ done ++ l.joined-iterator.rest.items)
-      × ((log : List Change) (handles : List (Generations (Unit {0}))) → HaveParts log handles l.fn.gathered.theirs.parts.items
+      × ((log : List Change) (handles : List (Generations (Unit {0}))) → HaveParts log handles
+      l.fn.gathered.theirs.parts.items
       → LeavesCells log handles (held_by done) l.left.items);
 }

@@ -13,7 +13,8 @@ close-requires c =
     let T = Unit {0} in
     let e = c.in_ok-queue.field-0 in
     let of = c.in_ok-queue.ensures.of in
-    All-map (IsPassOf e.queue) (λ (p : PayPassView T). p.pass) (map (λ (h : Pooled T). h.held.pass) c.push.new.self.items)
+    All-map (IsPassOf e.queue) (λ (p : PayPassView T). p.pass) (map (λ (h : Pooled T). h.held.pass)
+    c.push.new.self.items)
     (All-map (λ (p : PayPassView T). IsPassOf e.queue p.pass) (λ (h : Pooled T). h.held.pass) c.push.new.self.items
     (subst (All (λ (h : Pooled T). IsPassOf e.queue h.held.pass.pass)) (sym c.in-Ok.ensures.items)
     (All-push (λ (h : Pooled T). IsPassOf e.queue h.held.pass.pass) e.others.items e.handle of.1 of.0)))
@@ -25,7 +26,8 @@ returns c log handles own =
     let are = c.in_ok-queue.ensures in record {
       queue = e.queue;
       others = e.others.items;
-      by = closed-by log handles e.queue c.args.joined e.handle e.others.items c.args.theirs.items c.args.sizes.now.threads
+      by = closed-by log handles e.queue c.args.joined e.handle e.others.items c.args.theirs.items
+          c.args.sizes.now.threads
           are.handle are.of.0 are.others (ap (λ (o : Opening). o.threads) c.requires.opened) are.theirs own;
       tokens = c.in_ok-tokens.tokens.items;
       closes = subst (λ hs. Closes e.queue (passes_in {T = T} hs) c.in_ok-tokens.tokens.items)

@@ -9,7 +9,8 @@ use Rattle.test_renewing.proofs.pages.the_queue_of_cells.Goals as goal
 
 pub close_cells-requires : goal.close_cells-requires
 close_cells-requires g c =
-    let opens = c.in_ok-handles.ensures.opens.1 in let giver = c.in-Some-Some.giver in let taker = c.in-Some-Some.taker in
+    let opens = c.in_ok-handles.ensures.opens.1 in let giver = c.in-Some-Some.giver in let taker =
+    c.in-Some-Some.taker in
     let reserved = c.reserve-reserved.new.self in let published = c.publish-given.new.self in
     let received = c.receive-received.new.self in let released = c.release-released.new.self in
     subst (λ (hs : List (Generations (Unit {0}))). AreOfOneQueue hs) (sym c.in_ok-vec.ensures.items)

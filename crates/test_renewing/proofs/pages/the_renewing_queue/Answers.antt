@@ -7,7 +7,8 @@ use Rattle.test_renewing.proofs.pages.the_renewing_queue.Goals as goal
 
 pub close-requires : goal.close-requires
 close-requires g c =
-    let opens = c.in_ok-handles.ensures.opens.1 in let giver = c.in-Some-Some.giver in let taker = c.in-Some-Some.taker in
+    let opens = c.in_ok-handles.ensures.opens.1 in let giver = c.in-Some-Some.giver in let taker =
+    c.in-Some-Some.taker in
     let gave = c.give-given.new.self in let took = c.take-taken.new.self in
     subst (λ (hs : List (Generations ℕ)). AreOfOneQueue hs) (sym c.in_ok-vec.ensures.items)
     (two_queue c.in_ok-handles.handles.items c.pop.new.self.items c.pop-2.new.self.items giver taker gave took

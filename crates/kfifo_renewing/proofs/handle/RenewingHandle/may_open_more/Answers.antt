@@ -1,7 +1,7 @@
 -- The first entry of the history says it, and by the rule a queue that may open none has the first generation alone.
 use Rattle.std.proofs.Common.{◌≡◌, ◌<◌, arith, ap, length, ◌∙◌, subst, sym}
 use mathlib.Core.List.{IsPrefix}
-use Rattle.kfifo_renewing.specs.History.{WasNewest, made, opens_more}
+use Rattle.kfifo_renewing.specs.History.{made, opens_more}
 use Rattle.kfifo_renewing.specs.Renewing.{Generations}
 use Rattle.kfifo_renewing.specs.declared.places.Lineage.{Lineage}
 use Rattle.kfifo_renewing.proofs.Histories.{made-some, opens-same, risen-was, was-later}

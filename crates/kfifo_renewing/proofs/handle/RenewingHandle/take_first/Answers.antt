@@ -52,7 +52,8 @@ loop-index-preserved g c =
     let mid = c.take_at-taken.new.self in
     let new = c.leave_sealed.new.self in
     let took = c.take_at-taken.ensures in
-    let on = goes-on now was mid new i.same i.later took.same c.leave_sealed.ensures.same c.leave_sealed.ensures.later in
+    let on = goes-on now was mid new i.same i.later took.same c.leave_sealed.ensures.same
+    c.leave_sealed.ensures.later in
     record {
       same = on.0;
       later = on.1;

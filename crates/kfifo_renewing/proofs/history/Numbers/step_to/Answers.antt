@@ -21,6 +21,12 @@ compare_exchange-requires g c =
       c.requires.book.1 ∙ sym c.self.view_is,
       offer.0,
       rw (ap (λ w. w.key) h, offer.1, offer.3) (subst (λ m. Moves IsKept shown moved 0 (log, (pen, None))
-          (λ k. either (k == n - 1) m k) (GivesNumber (step 0 (n - 1) m (making_of table true)) (log, (pen, None)))) before
+          (λ k. either (k == n - 1) m k) (GivesNumber (step 0 (n - 1) m (making_of table true)) (
+            log,
+            (
+              pen,
+              None,
+            ),
+          ))) before
           (numbers-moves log pen table (n - 1) room)),
     )
