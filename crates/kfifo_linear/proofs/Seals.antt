@@ -3,7 +3,6 @@ use Rattle.std.proofs.Common.{◌≡◌, ◌≢◌, ◌⊎◌, ℕ, ◌+◌, ◌
 use Rattle.std.proofs.Common.{refl, sym, ap, ◌∙◌, subst, inl, inr, arith, true, false, append_assoc}
 use Rattle.std.proofs.lemmas.Bool.{cases_eq, cases_Bool}
 use Rattle.std.proofs.lemmas.Bool.Decides.{nat_tests}
-use Rattle.std.proofs.lemmas.Option.{none-some}
 use Rattle.kfifo_linear.proofs.Types.{Answer, Begin, Event, Outcome, Running, Shape}
 use Rattle.kfifo_model.specs.declared.calls.Answer.TheVariants.{Empty}
 use Rattle.kfifo_model.specs.Histories.{call}
@@ -29,15 +28,15 @@ use Rattle.kfifo_machine.proofs.Versions.{no_going_seal, one_word, word_rises, r
 use Rattle.kfifo_machine.proofs.BusyIsDisturbed.{sound-ends}
 use Rattle.kfifo_machine.proofs.Calls.{first_goes, log_is}
 use Rattle.kfifo_machine.proofs.Paths.{answered, begins_from}
-use Rattle.kfifo_linear.specs.Ledger.{Ledger, Stood, action, blank, called, found_in, ledger_after, ledger_from}
+use Rattle.kfifo_linear.specs.Ledger.{Inside, Ledger, Outside, Stood, action, blank, called, found_in, ledger_after, ledger_from}
 use Rattle.kfifo_linear.specs.Ledger.{ledger_of}
 use Rattle.kfifo_linear.specs.Ledger as ledger
 use Rattle.kfifo_linear.specs.declared.action.Action.TheVariants.{RecheckEmpty}
 use Rattle.kfifo_linear.specs.Order.{ledger_after_all}
-use Rattle.kfifo_linear.specs.Seals.{IsSealed, FoundEmpty, AllSeal, SealedEmpty, StaysEmpty}
+use Rattle.kfifo_linear.specs.Seals.{AllSeal, FoundEmpty, HasPut, IsPutBy, IsSealed, SealedEmpty, StaysEmpty}
 use Rattle.kfifo_linear.proofs.Abstract.{event_at, noted-same, noted_tells, word_at-moved, words_by}
 use Rattle.kfifo_linear.proofs.Base.{InRing, Sane, ends_in_ring}
-use Rattle.kfifo_linear.proofs.Invariant.{Inv, ThreadOk}
+use Rattle.kfifo_linear.proofs.Invariant.{HasOwn, Inv, Own, ThreadOk, is_gone, is_putting}
 use Rattle.kfifo_linear.proofs.Ring.{ends_word-above}
 use Rattle.kfifo_linear.proofs.Invariance.{inv_table, inv_begin, inv_step, inv_outside, invariant}
 use Rattle.kfifo_linear.proofs.Agrees.{InvAt, end_of}
@@ -305,30 +304,65 @@ ledger-append shape world here (x ∷ xs) ys l is =
     ∙ ledger-append shape m.0 here xs ys (ledger_after shape world x l) m.1.1.1
     ∙ ap (ledger_of shape (Some here) ys) (sym (ledger_on shape world x m.0 m.1.0 xs l m.1.1.0))
 
--- with no settled item, where every thread is idle no slot is filled: each item in a slot is that of an enqueue in
--- progress
-pub none_left : (shape : Shape) (threads : ℕ) (events : List Event) (here : World) → threads ≤ 64
+-- a thread whose item is in a slot has put there what that slot has
+has_put : (shape : Shape) (w : ℕ → ℕ) (l : Ledger) (t i : ℕ) (r : Running) → ThreadOk shape w l t r
+    → l.standing (l.caller t) ≡ Inside i → HasPut r i (w i)
+has_put shape w l t i r ok inside = by_place r ok.fresh ok.own
+  where
+    owned : (index filled : ℕ) → Own shape w l t index filled → (index ≡ i) × (filled ≡ w i)
+    owned index filled own = elim (cases_eq (w index) filled) [
+      | inl same ↦
+          let here : Inside i ≡ Inside index = sym inside ∙ own.inside same in
+          let at : index ≡ i = cc in
+          (at, sym same ∙ ap w at)
+      | inr ne ↦ absurd (let gone : is_gone (Inside i) ≡ true = ap is_gone (sym inside) ∙ own.gone ne in cc)
+    ]
+
+    none : l.standing (l.caller t) ≡ Outside → ⊥
+    none outside = let differs : Inside i ≡ Outside = sym inside ∙ outside in cc
+
+    by_place : (r : Running) → (is_putting r ≡ false → l.standing (l.caller t) ≡ Outside) → HasOwn shape w l t r
+        → HasPut r i (w i)
+    by_place (R.Enqueue item start left E.LoadEnds) fresh own = absurd (none (fresh refl))
+    by_place (R.Enqueue item start left (E.ScanTail ends offset)) fresh own = absurd (none (fresh refl))
+    by_place (R.Enqueue item start left (E.Recheck ends seen)) fresh own = absurd (none (fresh refl))
+    by_place (R.Enqueue item start left (E.Put ends index empty)) fresh own = absurd (none (fresh refl))
+    by_place (R.Enqueue item start left (E.ReloadSlot ends index filled)) fresh own = owned index filled own
+    by_place (R.Enqueue item start left (E.ReloadEnds ends index filled)) fresh own = owned index filled own
+    by_place (R.Enqueue item start left (E.HoldHead ends index filled held)) fresh own = owned index filled own.0
+    by_place (R.Enqueue item start left (E.Undo index filled worn)) fresh own = owned index filled own
+    by_place (R.Enqueue item start left (E.ScanHead ends offset)) fresh own = absurd (none (fresh refl))
+    by_place (R.Enqueue item start left (E.ConfirmFull ends)) fresh own = absurd (none (fresh refl))
+    by_place (R.Enqueue item start left (E.MoveHead ends)) fresh own = absurd (none (fresh refl))
+    by_place (R.Enqueue item start left (E.MoveTail ends)) fresh own = absurd (none (fresh refl))
+    by_place (R.Dequeue start left phase) fresh own = absurd (none (fresh refl))
+
+-- with no settled item, what is in a slot was put there by an enqueue in progress
+filled_by : (shape : Shape) (threads : ℕ) (events : List Event) (here : World) → threads ≤ 64
     → after shape threads events ≡ Some here
-    → NoneSettled shape (ledger_after_all shape threads events) → ((thread : ℕ) → place_of here thread ≡ None)
-    → (i : ℕ) → IsSlotIndex shape i → value_of (word_at here i) ≡ 0
-none_left shape threads events here few is none idle i is_slot =
+    → NoneSettled shape (ledger_after_all shape threads events)
+    → (i : ℕ) → IsSlotIndex shape i → value_of (word_at here i) ≢ 0 → (thread : ℕ) × IsPutBy here thread i
+filled_by shape threads events here few is none i is_slot filled =
     let l = ledger_after_all shape threads events in
     let inv : Inv shape (word_at here) (place_of here) l = invariant shape threads events here is in
     let agrees = agreed shape threads events here is in
     let log = log_is shape threads events here few is in
-    elim (cases_eq (value_of (word_at here i)) 0) [
-      | inl empty ↦ empty
-      | inr filled ↦
-          let full = (inv.slots i is_slot).full filled in
-          let open_end : l.last (l.owner i) ≡ None = full.unsettled (none i is_slot) in
-          let made = agrees.each (l.owner i) full.known in
-          let no_end : (call (log_of shape threads events).calls (l.owner i)).end ≡ None =
-          made.end ∙ ap (λ (o : Option ℕ). end_of o (l.answer (l.owner i))) open_end
-          ∙ no_end_of (l.answer (l.owner i)) in
-          let o = log.open_calls (l.owner i) (let c = agrees.count in let k = full.known in omega arith) no_end in
-          absurd (none-some o.running (sym (idle (call (log_of shape threads events).calls (l.owner i)).thread)
-          ∙ o.there))
-    ]
+    let full = (inv.slots i is_slot).full filled in
+    let open_end : l.last (l.owner i) ≡ None = full.unsettled (none i is_slot) in
+    let no_end : (call (log_of shape threads events).calls (l.owner i)).end ≡ None =
+    (agrees.each (l.owner i) full.known).end ∙ ap (λ (o : Option ℕ). end_of o (l.answer (l.owner i))) open_end
+    ∙ no_end_of (l.answer (l.owner i)) in
+    let o = log.open_calls (l.owner i) (let c = agrees.count in let k = full.known in omega arith) no_end in
+    let t = (call (log_of shape threads events).calls (l.owner i)).thread in
+    let mine : l.caller t ≡ l.owner i = sym (agrees.latest t) ∙ o.number in (
+      t,
+      (
+        o.running,
+        o.there,
+        has_put shape (word_at here) l t i o.running (inv.threads t o.running o.there)
+            (ap l.standing mine ∙ full.inside),
+      ),
+    )
   where
     no_end_of : (answer : Option Answer) → end_of None answer ≡ None
     no_end_of None = refl
@@ -336,7 +370,7 @@ none_left shape threads events here few is none idle i is_slot =
 
 -- The law
 pub stays_empty : (shape : Shape) (threads : ℕ) → threads ≤ 64 → StaysEmpty shape threads
-stays_empty shape threads few events more here z is idle index is_slot =
+stays_empty shape threads few events more here z is index is_slot filled =
     let f = z.was_empty in
     let start : Ledger = ledger_after_all shape threads f.earlier in
     let inv : InvAt shape f.here start = inv_after shape threads f.earlier f.here f.reached in
@@ -376,4 +410,4 @@ stays_empty shape threads few events more here z is idle index is_slot =
     (run_settles_none shape z.here here more (ledger_after_all shape threads events) safe_here
     (inv_after shape threads events z.here z.reached) more_run z.sealed.together
     (run_stands shape z.here here more safe_here more_run z.sealed.last) none_sealed) in
-    none_left shape threads (events ++ more) here few is none_more idle index is_slot
+    filled_by shape threads (events ++ more) here few is none_more index is_slot filled

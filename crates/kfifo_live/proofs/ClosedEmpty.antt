@@ -4,7 +4,8 @@ use Rattle.std.proofs.Common.{true, refl, sym, ap, ◌∙◌, inl, inr, arith, c
 use Rattle.std.specs.Prelude.{◌==◌}
 use Rattle.std.proofs.Math.Nat.{mul-le-mul_right}
 use Rattle.std.specs.List.{Contains, list_any}
-use Rattle.std.proofs.lemmas.Bool.{cases_Bool, cases_lt, false≢true}
+use Rattle.std.proofs.lemmas.Bool.{cases_Bool, cases_eq, cases_lt, false≢true}
+use Rattle.std.proofs.lemmas.Option.{none-some}
 use Rattle.kfifo_live.proofs.Types.{Event, Opening, Shape}
 use Rattle.kfifo_words.specs.Words.{value_of, head_of}
 use Rattle.kfifo_words.specs.Ring.{next_segment, slot_at}
@@ -18,8 +19,9 @@ use Rattle.kfifo_linear.specs.Seals.{SealedEmpty}
 use Rattle.kfifo_linear.proofs.Seals.{stays_empty}
 use Rattle.kfifo_live.specs.Schedule.{world_after}
 use Rattle.kfifo_live.specs.Left.{item_in, slots_left, segments_left, items_left}
-use Rattle.kfifo_live.specs.Pass.{PassView, AllSeen, AllIdle, HaveAllThreads, OneSealedEmpty}
-use Rattle.kfifo_live.proofs.Balance.{get_or-replicate}
+use Rattle.kfifo_live.specs.Pass.{PassView, AllSeen, AllIdle, HaveAllThreads, HaveComeOut, OneSealedEmpty}
+use Rattle.kfifo_live.specs.Pass.{WasSealedEmpty}
+use Rattle.kfifo_live.proofs.Balance.{balance, get_or-replicate}
 
 -- the thread of a pass is idle after the whole schedule
 still_idle : (o : Opening) (p : PassView) (all : List Event) (world : World) → world_after o all ≡ Some world
@@ -39,14 +41,6 @@ idle_in o (p ∷ ps) all world thread reached seen idle (zero, inside, is) =
     ap (place_of world) (sym is) ∙ still_idle o p all world reached seen.0 idle.0
 idle_in o (p ∷ ps) all world thread reached seen idle (suc k, inside, is) =
     idle_in o ps all world thread reached seen.1 idle.1 (k, omega (arith, inside), is)
-
--- a thread without an event is idle
-pub idle_without : (o : Opening) (all : List Event) (world : World) (thread : ℕ) → world_after o all ≡ Some world
-    → own thread all ≡ [] → place_of world thread ≡ None
-unfolding opening place_of
-idle_without o all world thread reached none =
-    same_place o.shape (opening o.shape o.threads) world all thread none reached
-    ∙ get_or-replicate o.threads thread None
 
 -- where the pass of a thread is among these, its thread is idle after the whole schedule
 idle_of : (o : Opening) (ps : List PassView) (all : List Event) (world : World) (thread : ℕ)
@@ -130,8 +124,14 @@ none_left shape threads all world reached none =
 pub sealed_left : (o : Opening) (all : List Event) (world : World) → o.threads ≤ 64 → world_after o all ≡ Some world
     → Saw o all → ((thread : ℕ) → place_of world thread ≡ None) → items_left o.shape world.words ≡ []
 sealed_left o all world few reached s idle =
-    none_left o.shape o.threads all world reached
-    (stays_empty o.shape o.threads few s.events s.more world s.sealed (ap (world_after o) (sym s.split) ∙ reached) idle)
+    none_left o.shape o.threads all world reached (λ i is_slot.
+    elim (cases_eq (value_of (word_at world i)) 0) [
+      | inl empty ↦ empty
+      | inr filled ↦
+          let by = stays_empty o.shape o.threads few s.events s.more world s.sealed
+          (ap (world_after o) (sym s.split) ∙ reached) i is_slot filled in
+          absurd (none-some by.1.0 (sym (idle by.0) ∙ by.1.1))
+    ])
 
 -- and so it is with one that one of its passes saw sealed empty, when it is closed
 pub sealed_closes : (o : Opening) (ps : List PassView) (all : List Event) (world : World) → o.threads ≤ 64
@@ -140,3 +140,22 @@ pub sealed_closes : (o : Opening) (ps : List PassView) (all : List Event) (world
     → items_left o.shape world.words ≡ []
 sealed_closes o ps all world few reached seen idle complete one =
     sealed_left o all world few reached (saw o ps all seen one) (all_idle o ps all world reached seen idle complete)
+
+-- what passes that make no call put into a queue that was sealed empty has come out
+pub come_out : (p : PassView) (ps : List PassView) (world : World) → p.opened.threads ≤ 64
+    → world_after p.opened p.seen ≡ Some world → AllSeen ps p.seen → AllIdle p.opened ps → WasSealedEmpty p
+    → HaveComeOut (map (λ q. q.thread) ps) p
+come_out p ps world few reached seen idle sealed =
+    let o = p.opened in
+    record {
+      world = world;
+      reached = reached;
+      others = λ index is_slot filled.
+          let by = stays_empty o.shape o.threads few sealed.first sealed.begins.0 world sealed.empty
+          (ap (world_after o) (sym sealed.begins.1) ∙ reached) index is_slot filled in (
+            by.0,
+            λ among. none-some by.1.0 (sym (idle_in o ps p.seen world by.0 reached seen idle among) ∙ by.1.1),
+            by.1,
+          );
+      balance = λ item. balance o p.seen world item reached;
+    }

@@ -1,14 +1,13 @@
 -- A group: passes of a queue of tokens that make no call any more, and the one schedule that has what all of them did.
-use Rattle.std.specs.Prelude.{◌≡◌, ◌≢◌, ℕ, List, [], ◌∷◌, None, Option, map}
-use Rattle.std.specs.List.{Contains}
+use Rattle.std.specs.Prelude.{◌≡◌, ◌++◌, ℕ, List, [], ◌∷◌, None, Option, map}
+use Rattle.std.specs.List.{AllByRecursion}
 use Rattle.atomic_table.specs.Seated.{TableId}
 use Rattle.atomic_table.specs.Table.{Me}
-use Rattle.kfifo_machine.specs.Runs.{own}
 use Rattle.kfifo_live.specs.declared.view.Opening.{Opening}
 use Rattle.kfifo_live.specs.declared.view.Part.{Part}
 use Rattle.kfifo_live.specs.declared.view.View.{View}
-use Rattle.kfifo_live.specs.Pass.{AllIdle, EachCameOut, WasSealedEmpty}
-use Rattle.kfifo_live.specs.Payloads.{PayPassView, passes_of, pay_pass_view}
+use Rattle.kfifo_live.specs.Pass.{AllIdle, HaveComeOut, IsSamePass, PassKeepsPromise, PassView, WasSealedEmpty}
+use Rattle.kfifo_live.specs.Payloads.{EndsIn, PayPassView, passes_of, pay_pass_view}
 use Rattle.kfifo_live.specs.Schedule.{AllBegin, AllGiven, GiftsFit, IsSmall, gifts_of, hand_of, more_in, part, seen_of}
 use Rattle.kfifo_live.specs.Step.{IsAt}
 
@@ -18,15 +17,24 @@ pub record GroupView (T : Type 0) : Type 0 where
   pub others : List (PayPassView T)
 
 module _ {T : Type 0} where
-  -- each thread with an event in the schedule of a group has its pass there
-  abbrev pub HasEachThread : GroupView T → Type 0
-  HasEachThread g = (thread : ℕ) → own thread g.first.pass.seen ≢ []
-      → Contains (map (λ p. p.pass.thread) (g.first ∷ g.others)) thread
+  -- the threads of these passes
+  abbrev pub threads_of : List (PayPassView T) → List ℕ
+  threads_of ps = map (λ p. p.pass.thread) ps
 
-  -- Nothing is left in a queue that was sealed empty, where the group has each thread that made a call there: each
-  -- token that was put was undone or taken, as often as it was put
-  abbrev pub LeavesNothing : GroupView T → Type 0
-  LeavesNothing g = WasSealedEmpty g.first.pass → HasEachThread g → EachCameOut g.first.pass
+  -- in a queue that was sealed empty, what these passes put is there no more after what this one has seen
+  abbrev pub LeaveNothing : List (PayPassView T) → PassView → Type 0
+  LeaveNothing ps p = WasSealedEmpty p → HaveComeOut (threads_of ps) p
+
+  -- A group has met a pass of its queue. Its schedule keeps the promise, goes on from what it was, begins with what the
+  -- pass and each of the group had seen, and has no further event of theirs. What they put into a queue that was sealed
+  -- empty is there no more
+  pub record Meets (p : PayPassView T) (old new : GroupView T) : Type 0 where
+    pub same : IsSamePass old.first.pass new.first.pass
+    pub others : new.others ≡ old.others
+    pub later : EndsIn new.first.pass.seen new.first.gifts old.first
+    pub ends : AllByRecursion (EndsIn new.first.pass.seen new.first.gifts) (old.others ++ p ∷ [])
+    pub promise : PassKeepsPromise new.first.pass
+    pub nothing : LeaveNothing (old.first ∷ (old.others ++ p ∷ [])) new.first.pass
 
   -- the pass of a part, as its seat has it
   abbrev pub member : TableId → Opening → Part T → PayPassView T

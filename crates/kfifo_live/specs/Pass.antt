@@ -1,12 +1,14 @@
 -- A queue and its passes, as callers see them.
-use Rattle.std.specs.Prelude.{◌<◌, ◌≡◌, ◌⊎◌, ℕ, zero, suc, List, [], ◌∷◌, Option, Some, None, ◌+◌, ◌++◌, length, true}
+use Rattle.std.specs.Prelude.{◌<◌, ◌≡◌, ◌≢◌, ◌⊎◌, ℕ, zero, suc, List, [], ◌∷◌, Option, Some, None, ◌+◌, ◌++◌, length, true}
 use Rattle.std.specs.Prelude.{◌==◌}
-use Rattle.std.specs.List.{list_any}
+use Rattle.std.specs.List.{Contains, list_any}
 use Rattle.atomic_table.specs.Table.{Me}
 use Rattle.atomic_table.specs.Seated.{TableId}
 use Rattle.kfifo_machine.specs.declared.event.Event.{Event}
 use Rattle.kfifo_machine.specs.Machine.{World, word_at, place_of}
-use Rattle.kfifo_linear.specs.Seals.{SealedEmpty}
+use Rattle.kfifo_machine.specs.Places.{IsSlotIndex}
+use Rattle.kfifo_linear.specs.Seals.{IsPutBy, SealedEmpty}
+use Rattle.kfifo_words.specs.Words.{value_of}
 use Rattle.kfifo_machine.specs.Runs.{Begins, own}
 use Rattle.kfifo_live.specs.declared.view.Opening.{Opening}
 use Rattle.kfifo_live.specs.declared.view.View.{View}
@@ -112,9 +114,16 @@ pub record WasSealedEmpty (p : PassView) : Type 0 where
   pub begins : StartsWith p.seen first
   pub empty : SealedEmpty p.opened.shape p.opened.threads first
 
--- in what a pass has seen, each item that was put was undone or taken, as often as it was put
-abbrev pub EachCameOut : PassView → Type 0
-EachCameOut p = (item : ℕ) → puts item p.opened p.seen ≡ undos item p.opened p.seen + takes item p.opened p.seen
+-- What these threads put into a queue is there no more, after what a pass of it has seen: what is in a slot then was put
+-- there by another thread, whose enqueue is in progress. Each item that was put was undone or taken, or is in a slot, as
+-- often as it was put
+pub record HaveComeOut (threads : List ℕ) (p : PassView) : Type 0 where
+  pub world : World
+  pub reached : world_after p.opened p.seen ≡ Some world
+  pub others : (index : ℕ) → IsSlotIndex p.opened.shape index → value_of (word_at world index) ≢ 0
+      → (thread : ℕ) × (Contains threads thread → ⊥) × IsPutBy world thread index
+  pub balance : (item : ℕ) → puts item p.opened p.seen
+      ≡ undos item p.opened p.seen + (takes item p.opened p.seen + times item (items_left p.opened.shape world.words))
 
 -- the view w has the parts of v and what these passes saw: whatever schedule all parts of w agree with, the parts of v
 -- and each of these passes agree with it too

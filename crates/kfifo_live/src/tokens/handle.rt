@@ -1,6 +1,7 @@
 //! Calls of a queue of tokens with nothing to choose.
 ghost use Rattle.std.specs.Prelude.{◌≡◌, ◌+◌, true, false};
 ghost use Rattle.kfifo_live.specs.Calls.{IsDisturbed};
+ghost use Rattle.kfifo_live.specs.Groups.{Meets};
 ghost use Rattle.kfifo_live.specs.Handles.{cycle_at, first_of, further};
 ghost use Rattle.kfifo_live.specs.declared.handle.TheConstants.{MAX_TURNS};
 ghost use Rattle.kfifo_live.specs.Pass.{IsPassOf, IsSamePass, IsSealedEmpty, PassKeepsPromise};
@@ -13,6 +14,7 @@ use crate::payload::Taken;
 use crate::payload::sealing::TakenOrSealed;
 use crate::payload::token::{Published, Received, Token};
 use crate::round_robin::RoundRobin;
+use crate::tokens::group::TokenGroup;
 use crate::tokens::sealing::ReceivedOrSealed;
 use crate::tokens::{Put, TokenPass, TokenQueue};
 use std::marker::Model;
@@ -66,6 +68,16 @@ impl<T: Drop> TokenHandle<T> {
         ensures { result.now ≡ self.now.pass }
     {
         &self.pass
+    }
+
+    /// Has a group see what the pass has seen, as `TokenQueue::meet` does. The handle stays as it is.
+    pub fn meet(&mut self, queue: &TokenQueue<T>, group: &mut TokenGroup<T>)
+        requires of { IsPassOf queue.now self.old.pass.pass }
+        requires group { IsPassOf queue.now group.old.first.pass }
+        ensures same { self.new ≡ self.old }
+        ensures meets { Meets self.old.pass group.old group.new }
+    {
+        queue.meet(group, &mut self.pass);
     }
 
     /// Gives the pass back, for `TokenQueue::close`.
