@@ -9,6 +9,7 @@ use Rattle.kfifo_live.specs.Pass.{OpenQueue}
 use Rattle.kfifo_live.specs.Tokens.{new_token_passes}
 use Rattle.kfifo_pool.specs.Pooled.{Pooled, new_handle, new_handles}
 use Rattle.kfifo_renewing.specs.declared.change.Change.{Change}
+use Rattle.kfifo_renewing.specs.History.{queue_in}
 use Rattle.kfifo_renewing.specs.Renewing.{EndsGone, HasLeft, HeldIn, IsNew, IsUntouched, LeavesGone}
 use Rattle.kfifo_renewing.proofs.Histories.{gone-later, made-later, prefix-trans}
 use Rattle.kfifo_renewing.proofs.Parts.{all-next, contains-cons, contains-head}
@@ -114,7 +115,7 @@ module _ {T : Type 0} where
       → IsNew t n ys h
   new-later t n m xs ys h up p new = (
     let above = new.0 in omega (arith, up, above),
-    made-later xs ys h.number h.handle.held.pass.pass.table p new.1,
+    made-later xs ys h.number (queue_in h.handle.held.pass.pass) p new.1,
     new.2,
   )
 

@@ -52,8 +52,8 @@ gone-before v log n i g a new p q labels nexts inside pre h other m j number at 
 -- this entry is of the generation with this number, and a pass of it had seen it sealed empty
 pub record IsSealedAt (log : List Change) (s : Sealed) (n : ℕ) : Type 0 where
   pub number : s.number ≡ n
-  pub made : IsMade log n s.queue.table
-  pub empty : SealedEmpty s.shape s.threads s.seen
+  pub made : IsMade log n s.queue
+  pub empty : SealedEmpty s.queue.shape s.queue.threads s.seen
 
 -- with that entry it has gone
 gone-now : (v log : List Change) (s : Sealed) (n : ℕ) → IsPrefix v log → IsSealedAt v s n
@@ -62,7 +62,7 @@ gone-now v log s n pre sealed = record {
   sealed = s;
   told = Contains-push log (C.Gone s);
   number = sealed.number;
-  made = made-later v (log ++ C.Gone s ∷ []) n s.queue.table
+  made = made-later v (log ++ C.Gone s ∷ []) n s.queue
       (prefix-trans v log (log ++ C.Gone s ∷ []) pre (C.Gone s ∷ [], refl)) sealed.made;
   empty = sealed.empty;
 }

@@ -16,7 +16,7 @@ use Rattle.kfifo_live.specs.Pass.{IsPassOf, OpenQueue}
 use Rattle.kfifo_live.specs.declared.view.Opening.{Opening}
 use Rattle.kfifo_renewing.specs.declared.change.Change.{Change}
 use Rattle.kfifo_renewing.specs.Cells.{CellsWereLeft, LeavesCells}
-use Rattle.kfifo_renewing.specs.History.{IsMade}
+use Rattle.kfifo_renewing.specs.History.{IsMade, queue_in}
 use Rattle.kfifo_renewing.specs.Joining.{HaveParts, IsBeside, IsPart, PartView, held_by, held_in}
 use Rattle.kfifo_renewing.specs.Renewing.{AreOfOneQueue, ClosesEach, EndsGone, Generations, HaveEnded, HaveOwnAmong}
 use Rattle.kfifo_renewing.specs.Renewing.{HaveSeen, HeldIn, IsClosedBy, IsOpenedAs, WereLeft, all_of, other_threads}
@@ -91,7 +91,7 @@ module _ {T : Type 0} where
       → IsOpenedAs o p.handle → (p.number == h.number) ≡ true → IsBeside h.handle p.handle
   one-beside log o h p part opened other other-opened test =
       let same : p.number ≡ h.number = grind (arith, nat_tests) in
-      let made = subst (λ n. IsMade log n p.handle.held.pass.pass.table) same other.made in
+      let made = subst (λ n. IsMade log n (queue_in p.handle.held.pass.pass)) same other.made in
       let first = part.made in
       (cc, other-opened ∙ sym opened)
 

@@ -5,14 +5,14 @@ use Rattle.std.proofs.lemmas.Bool.Decides.{nat_tests}
 use Rattle.std.proofs.lemmas.List.{append-nil}
 use Rattle.std.proofs.lemmas.List.Elements.{All-append, All-nil, All-weaker}
 use mathlib.Core.List.{IsPrefix}
-use Rattle.atomic_table.specs.Seated.{TableId}
 use Rattle.logbook.specs.Pages.{Book}
 use Rattle.kfifo_pool.specs.Pooled.{Pooled}
 use Rattle.kfifo_live.specs.declared.view.Opening.{Opening}
 use Rattle.kfifo_renewing.specs.declared.change.Change.{Change}
 use Rattle.kfifo_renewing.specs.declared.change.Change.TheVariants as C
+use Rattle.kfifo_renewing.specs.declared.change.Made.{Made}
 use Rattle.kfifo_renewing.specs.declared.change.Sight.{Sight}
-use Rattle.kfifo_renewing.specs.History.{Finds, HasRisen, IsMade, NewestWas, newest_of}
+use Rattle.kfifo_renewing.specs.History.{Finds, HasRisen, IsMade, NewestWas, newest_of, queue_in}
 use Rattle.kfifo_renewing.specs.Joining.{HasJoined, IsSamePart, PartView}
 use Rattle.kfifo_renewing.specs.Renewing.{Follows, Generations, HeldIn, IsAtNewest, IsBehind, IsLater, IsNew}
 use Rattle.kfifo_renewing.specs.Renewing.{IsNumbered, LeavesGone, Numbered, all_of, sight, with_newest, with_older}
@@ -41,15 +41,15 @@ was-prefix t n a b (others, more, is, newest) =
     (others ++ C.Look t ∷ more, sym (append_assoc a others (C.Look t ∷ more)) ∙ sym is)
 
 -- A look at the word of the handle's newest generation found that there is a later one, or none
-pub found-or-newest : (found number : ℕ) (t : Sight) (old new : List Change) (table : TableId)
+pub found-or-newest : (found number : ℕ) (t : Sight) (old new : List Change) (queue : Made)
     → Finds t number found old new
-    → IsMade new number table → (b : Bool) → (found == 0) ≡ b
-    → MatchBool (not b) ((n : ℕ) × NewestWas t n old new × (n ≢ number) × IsMade new number table)
-    (NewestWas t number old new × IsMade new number table)
-found-or-newest found number t old new table finds made true e =
+    → IsMade new number queue → (b : Bool) → (found == 0) ≡ b
+    → MatchBool (not b) ((n : ℕ) × NewestWas t n old new × (n ≢ number) × IsMade new number queue)
+    (NewestWas t number old new × IsMade new number queue)
+found-or-newest found number t old new queue finds made true e =
     let none : found ≡ 0 = grind (arith, nat_tests) in
     (subst (λ n. NewestWas t n old new) (finds.same none) finds.was, made)
-found-or-newest found number t old new table finds made false e =
+found-or-newest found number t old new queue finds made false e =
     let other : found ≢ 0 = λ same. grind (arith, nat_tests) in
     (finds.number, finds.was, finds.other (omega (arith, other)), made)
 
@@ -218,7 +218,7 @@ module _ {T : Type 0} where
       → IsAtNewest g (with_seen g log)
   looked-newest found log g looked none = (
     subst (λ n. NewestWas (sight g) n g.seen log) (looked.0.same none) looked.0.was,
-    made-later g.seen log g.number g.newest.held.pass.pass.table
+    made-later g.seen log g.number (queue_in g.newest.held.pass.pass)
         (was-prefix (sight g) looked.0.number g.seen log looked.0.was) looked.1,
   )
 
@@ -229,7 +229,7 @@ module _ {T : Type 0} where
     looked.0.number,
     looked.0.was,
     looked.0.other some,
-    made-later g.seen log g.number g.newest.held.pass.pass.table
+    made-later g.seen log g.number (queue_in g.newest.held.pass.pass)
         (was-prefix (sight g) looked.0.number g.seen log looked.0.was) looked.1,
   )
 

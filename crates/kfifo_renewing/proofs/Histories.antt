@@ -10,10 +10,13 @@ use Rattle.std.proofs.lemmas.List.Elements.{Contains-append_cases, Contains-appe
 use Rattle.std.specs.List.{Contains}
 use Rattle.atomic_table.specs.Seated.{TableId}
 use mathlib.Core.List.{IsPrefix}
+use Rattle.kfifo_live.specs.Pass.{queue_of}
+use Rattle.kfifo_live.specs.declared.view.Opening.{Opening}
 use Rattle.kfifo_renewing.specs.declared.change.Change.{Change}
 use Rattle.kfifo_renewing.specs.declared.change.Change.TheVariants as C
+use Rattle.kfifo_renewing.specs.declared.change.Made.{Made}
 use Rattle.kfifo_renewing.specs.declared.change.Sight.{Sight}
-use Rattle.kfifo_renewing.specs.History.{HasRisen, IsGone, IsMade, WasNewest, left_of, made, making_of, newest_after}
+use Rattle.kfifo_renewing.specs.History.{HasRisen, IsGone, IsMade, WasNewest, left_of, made, made_by, newest_after}
 use Rattle.kfifo_renewing.specs.History.{newest_of, opens_more}
 
 pub prefix-trans : {A : Type 0} (xs ys zs : List A) → IsPrefix xs ys → IsPrefix ys zs → IsPrefix xs zs
@@ -49,7 +52,7 @@ none-of (x ∷ xs) none = absurd (omega (arith, none))
 
 pub made-append : (xs ys : List Change) → made (xs ++ ys) ≡ made xs ++ made ys
 made-append [] ys = refl
-made-append (C.Made q more ∷ xs) ys = ap (λ l. q.table ∷ l) (made-append xs ys)
+made-append (C.Made q more ∷ xs) ys = ap (λ l. q ∷ l) (made-append xs ys)
 made-append (C.Newest n ∷ xs) ys = made-append xs ys
 made-append (C.Look t ∷ xs) ys = made-append xs ys
 made-append (C.Placed n i ∷ xs) ys = made-append xs ys
@@ -91,17 +94,25 @@ left-as-many n xs ys p many =
     whole ∙ ap (λ l. left_of n xs ++ l) none ∙ append-nil (left_of n xs)
 
 -- what was made stays so
-pub made-later : (xs ys : List Change) (n : ℕ) (t : TableId) → IsPrefix xs ys → IsMade xs n t → IsMade ys n t
+pub made-later : (xs ys : List Change) (n : ℕ) (t : Made) → IsPrefix xs ys → IsMade xs n t → IsMade ys n t
 made-later xs ys n t p is =
     subst (λ l. slice_get l n ≡ Some t) (sym (made-append xs p.0) ∙ ap made p.1) (get-first (made xs) (made p.0) n t is)
 
 -- a number has one generation, whichever beginnings of the history two handles have seen
-pub made-once : (xs ys all : List Change) (n m : ℕ) (t u : TableId) → IsPrefix xs all → IsPrefix ys all → IsMade xs n t
+pub made-once : (xs ys all : List Change) (n m : ℕ) (t u : Made) → IsPrefix xs all → IsPrefix ys all → IsMade xs n t
     → IsMade ys m u → n ≡ m → t ≡ u
 made-once xs ys all n m t u p q first second same =
     let at : IsMade all n t = made-later xs all n t p first in
     let other : IsMade all n u = subst (λ k. IsMade all k u) (sym same) (made-later ys all m u q second) in
     cc (at, other)
+
+-- one queue, by the names of its table and of its opening
+pub queue-same : (t u : TableId) (o p : Opening) → t ≡ u → o ≡ p → made_by (queue_of t o) ≡ made_by (queue_of u p)
+queue-same t u o p table opened = λ i. record {
+  table = table i;
+  shape = (opened i).shape;
+  threads = (opened i).threads;
+}
 
 -- the first generation was the newest
 pub was_first : (log : List Change) → WasNewest log 0
@@ -147,13 +158,13 @@ pub was-none : (n : ℕ) → WasNewest [] n → n ≡ 0
 was-none n ([], after, is, newest) = sym newest
 was-none n (e ∷ before, after, is, newest) = absurd cc
 
-pub was-made : (t : TableId) (b : Bool) (n : ℕ) → WasNewest (making_of t b ∷ []) n → n ≡ 0
-was-made t b n was = ⊎_elim (λ before. was-none n before) (λ last. last) (was-more [] (making_of t b) n was)
+pub was-made : (t : Made) (b : Bool) (n : ℕ) → WasNewest (C.Made t b ∷ []) n → n ≡ 0
+was-made t b n was = ⊎_elim (λ before. was-none n before) (λ last. last) (was-more [] (C.Made t b) n was)
 
-pub made-some : (log : List Change) (n : ℕ) (t : TableId) → IsMade log n t → 0 < length (made log)
+pub made-some : (log : List Change) (n : ℕ) (t : Made) → IsMade log n t → 0 < length (made log)
 made-some log n t is = some (made log) n is
   where
-    some : (ts : List TableId) (k : ℕ) → slice_get ts k ≡ Some t → 0 < length ts
+    some : (ts : List Made) (k : ℕ) → slice_get ts k ≡ Some t → 0 < length ts
     some [] k is = absurd cc
     some (u ∷ ts) k is = omega arith
 
@@ -237,6 +248,6 @@ gone-later xs ys n p gone = record {
   sealed = gone.sealed;
   told = contains-later xs ys (C.Gone gone.sealed) p gone.told;
   number = gone.number;
-  made = made-later xs ys n gone.sealed.queue.table p gone.made;
+  made = made-later xs ys n gone.sealed.queue p gone.made;
   empty = gone.empty;
 }

@@ -20,13 +20,13 @@ use Rattle.kfifo_live.specs.declared.view.Opening.{Opening}
 use Rattle.kfifo_renewing.specs.declared.change.Change.{Change}
 use Rattle.kfifo_renewing.specs.declared.change.Change.TheVariants as C
 use Rattle.kfifo_renewing.specs.History.{FindsThere, HasRisen, IsGone, IsKept, IsMade, IsPlaced, WasNewest}
-use Rattle.kfifo_renewing.specs.History.{place_count}
+use Rattle.kfifo_renewing.specs.History.{place_count, queue_in}
 use Rattle.kfifo_renewing.specs.Joining.{AreAmong, AreSameParts, HasJoined, HasNumber, HasOlder, HasSealedAt}
 use Rattle.kfifo_renewing.specs.Joining.{HasSeenSealed, IsPart, IsPartOf, IsSamePart, IsSealedPart, LeavesAt}
 use Rattle.kfifo_renewing.specs.Joining.{PartView, held_by, held_in}
 use Rattle.kfifo_renewing.specs.Renewing.{Generations, HasAll, HasLeft, HeldIn, LeavesGone, Numbered}
 use Rattle.kfifo_renewing.proofs.Histories.{contains-later, gone-later, made-later, was-below, was-later}
-use Rattle.kfifo_renewing.proofs.Histories.{risen-was, was_first}
+use Rattle.kfifo_renewing.proofs.Histories.{queue-same, risen-was, was_first}
 use Rattle.kfifo_renewing.proofs.Keeping.{kept-placed}
 use Rattle.kfifo_renewing.proofs.Departures.{leaves-append, leaves-refl}
 use Rattle.kfifo_renewing.proofs.Parts.{all-next, all-without, contains-cons, contains-head, contains-map, split-get}
@@ -42,7 +42,7 @@ get-at (y ∷ xs) (suc i) x d inside is = get-at xs i x d (omega (arith, inside)
 module _ {T : Type 0} where
   pub part-later : (xs ys : List Change) (p : PartView T) → IsPrefix xs ys → IsPart xs p → IsPart ys p
   part-later xs ys p more is = record {
-    made = made-later xs ys p.number p.handle.held.pass.pass.table more is.made;
+    made = made-later xs ys p.number (queue_in p.handle.held.pass.pass) more is.made;
     inside = is.inside;
     placed = contains-later xs ys (C.Placed p.number p.place) more is.placed;
   }
@@ -56,8 +56,8 @@ module _ {T : Type 0} where
 
   pub part-same : (log : List Change) (p q : PartView T) → IsSamePart p q → IsPart log p → IsPart log q
   part-same log p q same is = record {
-    made = subst (λ n. IsMade log n q.handle.held.pass.pass.table) (sym same.0)
-        (subst (IsMade log p.number) (sym same.2.0) is.made);
+    made = subst (λ n. IsMade log n (queue_in q.handle.held.pass.pass)) (sym same.0)
+        (subst (IsMade log p.number) (queue-same _ _ _ _ (sym same.2.0) (sym same.2.1)) is.made);
     inside = let low = is.inside in let at = same.1 in omega (arith, low, at);
     placed = subst (λ n. IsPlaced log n q.place) (sym same.0) (subst (IsPlaced log p.number) (sym same.1) is.placed);
   }
@@ -211,9 +211,9 @@ module _ {T : Type 0} where
 
   -- a part in a list of parts
   made-of : (log : List Change) (ps : List (PartView T)) (p : PartView T) → All (IsPart log) ps → Contains ps p
-      → IsMade log p.number p.handle.held.pass.pass.table
-  made-of log ps p all (k, inside, is) = subst (λ (q : PartView T). IsMade log q.number q.handle.held.pass.pass.table)
-      is (all k p inside).made
+      → IsMade log p.number (queue_in p.handle.held.pass.pass)
+  made-of log ps p all (k, inside, is) =
+      subst (λ (q : PartView T). IsMade log q.number (queue_in q.handle.held.pass.pass)) is (all k p inside).made
 
   number-in : (ps qs : List (PartView T)) (n : ℕ) → ((p : PartView T) → Contains ps p → Contains qs p) → HasNumber ps n
       → HasNumber qs n
@@ -281,8 +281,8 @@ module _ {T : Type 0} where
   -- the number of the newest generation in the history
   pub numbered-by : (o : Opening) (shared book : Book) (log : List Change) (g : Numbered) (h : PartView T)
       (ps : List (PartView T))
-      → HasJoined o shared book log g h ps → IsMade log g.number h.handle.held.pass.pass.table
-  numbered-by o shared book log g h ps j = subst (λ n. IsMade log n h.handle.held.pass.pass.table) j.number
+      → HasJoined o shared book log g h ps → IsMade log g.number (queue_in h.handle.held.pass.pass)
+  numbered-by o shared book log g h ps j = subst (λ n. IsMade log n (queue_in h.handle.held.pass.pass)) j.number
       j.newest_part.made
 
   -- the handle is in each generation that has not gone
@@ -301,7 +301,7 @@ module _ {T : Type 0} where
             (Contains-append_left (held_by ps) (last ∷ []) (held_in has.0)
             (contains-map (λ (p : PartView T). held_in p) ps has.0 has.1)),
         has.2,
-        subst (λ k. IsMade v.seen k has.0.handle.held.pass.pass.table) has.2
+        subst (λ k. IsMade v.seen k (queue_in has.0.handle.held.pass.pass)) has.2
             (made-of v.seen ps has.0 j.older_parts has.1),
       ))
       (j.all n was (let at = number in omega (arith, less, at))))
@@ -311,8 +311,8 @@ module _ {T : Type 0} where
         last,
         Contains-push v.older last,
         sym same,
-        subst (λ k. IsMade v.seen k v.newest.held.pass.pass.table) (number ∙ sym same)
-            (subst (λ (x : Pooled T). IsMade v.seen g.number x.held.pass.pass.table) newest
+        subst (λ k. IsMade v.seen k (queue_in v.newest.held.pass.pass)) (number ∙ sym same)
+            (subst (λ (x : Pooled T). IsMade v.seen g.number (queue_in x.held.pass.pass)) newest
             (numbered-by o shared book v.seen g h ps j)),
       ))
       (cases_lt n v.number)

@@ -11,7 +11,6 @@ use Rattle.std.proofs.lemmas.List.Elements.{Contains-push}
 use Rattle.std.proofs.Math.Nat.{div-add-mod}
 use Rattle.std.proofs.lemmas.Nat.{mod_below}
 use Rattle.std.specs.List.{Contains}
-use Rattle.atomic_table.specs.Seated.{TableId}
 use mathlib.Core.List.{IsPrefix}
 use prog.Atomic.{either}
 use Rattle.logbook.specs.Pages.{Act, Cell, Goes, Moves, Nib, Valid, View, cell, cells_after, keeps, nib_after, no_nib}
@@ -23,7 +22,7 @@ use Rattle.kfifo_renewing.specs.declared.change.Sealed.{Sealed}
 use Rattle.kfifo_renewing.specs.declared.change.Sight.{Sight}
 use Rattle.kfifo_renewing.specs.History.{Finds, FindsThere, HasRisen, Holds, IsGone, IsKept, IsPlaced}
 use Rattle.kfifo_renewing.specs.History.{Looks, LooksThere, Fills, TellsNext, TellsPlace, WasNewest}
-use Rattle.kfifo_renewing.specs.History.{key_of, left_of, made, making_of, newest_of, next_in, place_count, label_of}
+use Rattle.kfifo_renewing.specs.History.{key_of, left_of, made, newest_of, next_in, place_count, label_of}
 use Rattle.kfifo_renewing.specs.History.{shows}
 use Rattle.kfifo_renewing.proofs.Histories.{contains-later, contains-more, gone-later, left-append, made-append}
 use Rattle.kfifo_renewing.proofs.Histories.{newest-append, one-stays, risen-more, risen-none}
@@ -124,9 +123,8 @@ goes-by k v p f then cs after log more c a at set valid kept told = (
   subst (λ w. then w.0 (log ++ more, (nib_after a p cs, None))) (sym at) told,
 )
 
-first-only : (t : TableId) (b : Bool) (e : Change) → Contains (making_of t b ∷ []) e → (e ≡ making_of t b → ⊥) → ⊥
-first-only t b e has other = ⊎_elim (λ none. absurd (omega (arith, none.1))) other (contains-more [] (making_of t
-    b) e has)
+first-only : (t : Made) (b : Bool) (e : Change) → Contains (C.Made t b ∷ []) e → (e ≡ C.Made t b → ⊥) → ⊥
+first-only t b e has other = ⊎_elim (λ none. absurd (omega (arith, none.1))) other (contains-more [] (C.Made t b) e has)
 
 -- an even number
 abbrev pub IsEven : ℕ → Type 0
@@ -136,7 +134,7 @@ pub even-by : (n : ℕ) → n % 2 ≡ 0 → IsEven n
 even-by n even = (n / 2, let whole = div-add-mod n 2 in omega (arith, whole, even))
 
 -- no generation was shown in a place
-first-place : (t : TableId) (b : Bool) (i : ℕ) → TellsPlace (making_of t b ∷ []) i 0
+first-place : (t : Made) (b : Bool) (i : ℕ) → TellsPlace (C.Made t b ∷ []) i 0
 first-place t b i = record {
   there = λ n is. absurd (omega (arith, is));
   stays = λ n is. absurd (first-only t b (C.Placed n i) is (λ same. absurd cc));
@@ -144,34 +142,34 @@ first-place t b i = record {
 }
 
 -- the rule of a queue with one generation
-first-holds : (t : TableId) (b : Bool) → Holds (making_of t b ∷ []) 0 (replicate place_count (0, true)) ((0, true) ∷ [])
+first-holds : (t : Made) (b : Bool) → Holds (C.Made t b ∷ []) 0 (replicate place_count (0, true)) ((0, true) ∷ [])
 first-holds t b = record {
   count = refl;
   each = refl;
   newest = omega arith;
-  risen = risen-more [] (making_of t b) (omega arith) risen-none;
+  risen = risen-more [] (C.Made t b) (omega arith) risen-none;
   small = omega arith;
   told = λ n was. subst
-      (λ k. ((cell ((0, true) ∷ []) k).1 ≡ true) × TellsNext (making_of t b ∷ []) k (cell ((0, true) ∷ []) k).0)
+      (λ k. ((cell ((0, true) ∷ []) k).1 ≡ true) × TellsNext (C.Made t b ∷ []) k (cell ((0, true) ∷ []) k).0)
       (sym (was-made t b n was))
       (refl, record { newest = λ none. refl; next = λ some. absurd (omega (arith, some)); left = refl });
   placed = λ n some was below. let first = was-made t b n was in absurd (omega (arith, some, first));
   newest_there = λ n i is. absurd (first-only t b (C.Placed n i) is (λ same. absurd cc));
-  labelled = λ i inside. subst (λ (c : Cell). (c.1 ≡ true) × TellsPlace (making_of t b ∷ []) i c.0)
+  labelled = λ i inside. subst (λ (c : Cell). (c.1 ≡ true) × TellsPlace (C.Made t b ∷ []) i c.0)
       (sym (get_or-replicate place_count i (0, true) (0, false) inside)) (refl, first-place t b i);
   gone = λ s is. absurd (first-only t b (C.Gone s) is (λ same. absurd cc));
   stayed = λ n up. refl;
   one = λ none. refl;
 }
 
-pub kept_first : (t : TableId) (b : Bool) → IsKept (replicate (place_count + 2) (0, true)) (making_of t b ∷ [])
+pub kept_first : (t : Made) (b : Bool) → IsKept (replicate (place_count + 2) (0, true)) (C.Made t b ∷ [])
 kept_first t b =
     let words : replicate (place_count + 2) (0, true) ≡ words-of 0 (replicate place_count (0, true)) ((0, true) ∷ []) =
     ap (λ k. replicate k (0, true)) (let e : place_count + 2 ≡ 1 + (place_count + 1) = refl in e)
     ∙ sym (replicate-append-replicate 1 (place_count + 1) (0, true))
     ∙ ap (λ l. (0, true) ∷ l) (sym (replicate-append-replicate place_count 1 (0, true))) in
-    subst (λ l. IsKept l (making_of t b ∷ [])) (sym words)
-    (kept-of 0 (replicate place_count (0, true)) ((0, true) ∷ []) (making_of t b ∷ [])
+    subst (λ l. IsKept l (C.Made t b ∷ [])) (sym words)
+    (kept-of 0 (replicate place_count (0, true)) ((0, true) ∷ []) (C.Made t b ∷ [])
     (length-replicate {A = Cell} place_count (0, true)) (first-holds t b))
 
 pub kept-risen : (cells : List Cell) (log : List Change) → IsKept cells log → HasRisen log
@@ -287,8 +285,8 @@ labelled-same g labels nexts log e other h i inside =
 pub sight-same : (n t : Sight) → C.Look n ≡ C.Look t → n ≡ t
 sight-same n t e = cc
 
-pub table-same : (t : TableId) (q : Made) (a b : Bool) → making_of t a ≡ C.Made q b → t ≡ q.table
-table-same t q a b e = cc
+pub made-same : (t q : Made) (a b : Bool) → C.Made t a ≡ C.Made q b → t ≡ q
+made-same t q a b e = cc
 
 -- what a word says is what a look finds
 found-next : (v log : List Change) (sight : Sight) (n w : ℕ) → IsPrefix v log → HasRisen log → TellsNext log n w

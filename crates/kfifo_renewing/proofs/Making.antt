@@ -8,21 +8,21 @@ use Rattle.std.proofs.lemmas.Bool.{cases_lt}
 use Rattle.std.proofs.lemmas.Bool.Decides.{nat_tests}
 use Rattle.std.proofs.Math.Nat.{div-eq_of_lt, mod-eq_of_lt}
 use Rattle.std.proofs.lemmas.List.{append-nil, get_or_append_left, get_or-set_other, get_or-set_same, length-set}
-use Rattle.atomic_table.specs.Seated.{TableId}
 use mathlib.Core.List.{IsPrefix}
 use prog.Atomic.{either}
 use Rattle.logbook.specs.Pages.{Away, Cell, Goes, Moves, Nib, adds, cell, gives, keeps, may_make, may_write, nib, step}
 use Rattle.kfifo_renewing.specs.declared.change.Change.{Change}
 use Rattle.kfifo_renewing.specs.declared.change.Change.TheVariants as C
+use Rattle.kfifo_renewing.specs.declared.change.Made.{Made}
 use Rattle.kfifo_renewing.specs.History.{GivesNumber, Holds, IsKept, IsPlaced}
-use Rattle.kfifo_renewing.specs.History.{Renews, TellsNext, WasNewest, key_of, made, making_of, opens_more}
+use Rattle.kfifo_renewing.specs.History.{Renews, TellsNext, WasNewest, key_of, made, opens_more}
 use Rattle.kfifo_renewing.specs.History.{newest_of, next_in, place_count}
 use Rattle.kfifo_renewing.proofs.Histories.{contains-later, get-last, made-append, newest-append, one-stays, opens-more}
 use Rattle.kfifo_renewing.proofs.Histories.{risen-more, risen-was, was-later, was-less}
 use Rattle.kfifo_renewing.proofs.Histories.{was-more, was-now}
 use Rattle.kfifo_renewing.proofs.Keeping.{goes-by, gone-same, kept-of, labelled-same, left-stays, load-same, moved}
 use Rattle.kfifo_renewing.proofs.Keeping.{there-same}
-use Rattle.kfifo_renewing.proofs.Keeping.{next-at, next-within, set-next, shown, table-same, tells-same}
+use Rattle.kfifo_renewing.proofs.Keeping.{made-same, next-at, next-within, set-next, shown, tells-same}
 use Rattle.kfifo_renewing.proofs.Keeping.{within, words-of}
 
 -- the pen of a word that is not at home
@@ -35,11 +35,11 @@ away-next g labels nexts n all away =
     (let below = a.0 in omega (arith, below, long, all), sym (ap (λ c. c.1) (next-at g labels nexts n all)) ∙ a.1)
 
 -- a word more, of a generation that was never the newest
-holds-made : (g : ℕ) (labels nexts : List Cell) (log : List Change) (t : TableId) → g + 1 < 2 ^ 32
+holds-made : (g : ℕ) (labels nexts : List Cell) (log : List Change) (t : Made) → g + 1 < 2 ^ 32
     → Holds log g labels nexts
-    → Holds (log ++ making_of t true ∷ []) (g + 1) labels (nexts ++ (0, false) ∷ [])
+    → Holds (log ++ C.Made t true ∷ []) (g + 1) labels (nexts ++ (0, false) ∷ [])
 holds-made g labels nexts log t room h =
-    let e = making_of t true in
+    let e = C.Made t true in
     let same : newest_of (log ++ e ∷ []) ≡ newest_of log = newest-append 0 log (e ∷ []) in
     let first : (n : ℕ) → n < length nexts → cell (nexts ++ (0, false) ∷ []) n ≡ cell nexts n =
     λ n inside. get_or_append_left nexts ((0, false) ∷ []) (0, false) n inside in
@@ -66,14 +66,14 @@ holds-made g labels nexts log t room h =
       one = one-stays g log e h.count same h.one;
     }
 
-numbers-goes : (v log : List Change) (p : Nib) (t : TableId) (old g : ℕ) (labels nexts : List Cell)
+numbers-goes : (v log : List Change) (p : Nib) (t : Made) (old g : ℕ) (labels nexts : List Cell)
     → length labels ≡ place_count
     → Holds log g labels nexts → old + 1 < 2 ^ 32 → (b : Bool) → (g == old) ≡ b
     → Goes IsKept shown moved 0 (v, (p, None)) (λ n. either (n == old) (old + 1) n)
-    (GivesNumber (step 0 old (old + 1) (making_of t true)) (v, (p, None))) (words-of g labels nexts) log
+    (GivesNumber (step 0 old (old + 1) (C.Made t true)) (v, (p, None))) (words-of g labels nexts) log
 numbers-goes v log p t old g labels nexts all h room true found =
     let here : g ≡ old = grind (arith, nat_tests) in
-    let e = making_of t true in
+    let e = C.Made t true in
     let made-is : made (log ++ e ∷ []) ≡ made log ++ t ∷ [] = made-append log (e ∷ []) in
     let at : old + 1 ≡ length (made log) = let count = h.count in omega (arith, here, count) in
     let long = length-append labels nexts in
@@ -90,14 +90,14 @@ numbers-goes v log p t old g labels nexts all h room true found =
     (holds-made g labels nexts log t (omega (arith, room, here)) h)))
     (λ is. (
       ap (λ k. nib may_make k 0) key,
-      λ q m asked. subst (λ l. slice_get l (old + 1) ≡ Some q.table) (sym made-is)
-          (subst (λ n. slice_get (made log ++ t ∷ []) n ≡ Some q.table) (sym at)
-          (get-last (made log) t ∙ ap Some (table-same t q true m asked))),
+      λ q m asked. subst (λ l. slice_get l (old + 1) ≡ Some q) (sym made-is)
+          (subst (λ n. slice_get (made log ++ t ∷ []) n ≡ Some q) (sym at)
+          (get-last (made log) t ∙ ap Some (made-same t q true m asked))),
     ))
 numbers-goes v log p t old g labels nexts all h room false found =
     let none : log ++ [] ≡ log = append-nil log in
     let other : g ≡ old → ⊥ = λ is. grind (arith, nat_tests) in
-    goes-by 0 v p (λ n. either (n == old) (old + 1) n) (GivesNumber (step 0 old (old + 1) (making_of t true)) (
+    goes-by 0 v p (λ n. either (n == old) (old + 1) n) (GivesNumber (step 0 old (old + 1) (C.Made t true)) (
       v,
       (p, None),
     ))
@@ -105,13 +105,13 @@ numbers-goes v log p t old g labels nexts all h room false found =
     (subst (IsKept (words-of g labels nexts)) (sym none) (kept-of g labels nexts log all h)) (λ is. absurd (other is))
 
 -- a generation is made, with the next number, or nothing happens
-pub numbers-moves : (v : List Change) (p : Nib) (t : TableId) (old : ℕ) → old + 1 < 2 ^ 32
+pub numbers-moves : (v : List Change) (p : Nib) (t : Made) (old : ℕ) → old + 1 < 2 ^ 32
     → Moves IsKept shown moved 0 (v, (p, None)) (λ n. either (n == old) (old + 1) n)
-    (GivesNumber (step 0 old (old + 1) (making_of t true)) (v, (p, None)))
+    (GivesNumber (step 0 old (old + 1) (C.Made t true)) (v, (p, None)))
 numbers-moves v p t old room cs log kept pre away =
     let P : List Cell → Type 0 = λ c. (0 < length c) × ((cell c 0).1 ≡ true)
     × Goes IsKept shown moved 0 (v, (p, None)) (λ n. either (n == old) (old + 1) n)
-    (GivesNumber (step 0 old (old + 1) (making_of t true)) (v, (p, None))) c log in
+    (GivesNumber (step 0 old (old + 1) (C.Made t true)) (v, (p, None))) c log in
     subst P (sym kept.words) (
       omega arith,
       refl,

@@ -5,30 +5,37 @@ use Rattle.std.specs.Prelude.{Bool, true, false, List, [], ◌∷◌, ◌++◌}
 use Rattle.std.specs.Prelude.{length}
 use Rattle.std.specs.Prelude.{if◌then◌else◌, Option, Some, slice_get}
 use Rattle.std.specs.List.{Contains}
-use Rattle.atomic_table.specs.Seated.{TableId}
 use mathlib.Core.List.{IsPrefix}
 use Rattle.logbook.specs.Pages.{Book, Cell, Named, Step, View, cell, may_make, nib}
 use Rattle.kfifo_renewing.specs.declared.change.Change.{Change}
 use Rattle.kfifo_linear.specs.Seals.{SealedEmpty}
-use Rattle.kfifo_live.specs.Pass.{PassView}
+use Rattle.kfifo_live.specs.Pass.{OpenQueue, PassView, queue_of}
 use Rattle.kfifo_renewing.specs.declared.change.Made.{Made}
 use Rattle.kfifo_renewing.specs.declared.change.Sealed.{Sealed}
 use Rattle.kfifo_renewing.specs.declared.change.Sight.{Sight}
 use Rattle.kfifo_renewing.specs.declared.change.Change.TheVariants as C
 
--- the entry for a generation whose queue has this table, and whether the queue may open further ones
-abbrev pub making_of : TableId → Bool → Change
-making_of table more = C.Made (record { table = table }) more
+-- what the history says of the queue of a generation
+abbrev pub made_by : OpenQueue → Made
+made_by q = record { table = q.table; shape = q.opened.shape; threads = q.opened.threads }
+
+-- and of the queue of a pass
+abbrev pub queue_in : PassView → Made
+queue_in p = made_by (queue_of p.table p.opened)
+
+-- the entry for a generation with this queue, and whether the queue may open further ones
+abbrev pub making_of : OpenQueue → Bool → Change
+making_of q more = C.Made (made_by q) more
 
 -- the queue may open further generations, as its first entry says
 abbrev pub opens_more : List Change → Bool
 opens_more (C.Made q more ∷ log) = more
 opens_more log = false
 
--- the generations that were made, each by the table of its queue. The number of one is how many were made before it
-abbrev pub made : List Change → List TableId
+-- the generations that were made, each by its queue. The number of one is how many were made before it
+abbrev pub made : List Change → List Made
 made [] = []
-made (C.Made q more ∷ log) = q.table ∷ made log
+made (C.Made q more ∷ log) = q ∷ made log
 made (C.Newest n ∷ log) = made log
 made (C.Look sight ∷ log) = made log
 made (C.Placed n i ∷ log) = made log
@@ -49,9 +56,9 @@ newest_after n (C.Left m sight ∷ log) = newest_after n log
 abbrev pub newest_of : List Change → ℕ
 newest_of = newest_after 0
 
--- the generation with this number has this table
-abbrev pub IsMade : List Change → ℕ → TableId → Type 0
-IsMade log n table = slice_get (made log) n ≡ Some table
+-- the generation with this number has this queue
+abbrev pub IsMade : List Change → ℕ → Made → Type 0
+IsMade log n queue = slice_get (made log) n ≡ Some queue
 
 -- the generation with this number was the newest at some moment
 abbrev pub WasNewest : List Change → ℕ → Type 0
@@ -72,8 +79,8 @@ pub record IsGone (log : List Change) (n : ℕ) : Type 0 where
   pub sealed : Sealed
   pub told : Contains log (C.Gone sealed)
   pub number : sealed.number ≡ n
-  pub made : IsMade log n sealed.queue.table
-  pub empty : SealedEmpty sealed.shape sealed.threads sealed.seen
+  pub made : IsMade log n sealed.queue
+  pub empty : SealedEmpty sealed.queue.shape sealed.queue.threads sealed.seen
 
 -- what each pass that left the generation with this number had seen, the first to leave first
 abbrev pub left_of : ℕ → List Change → List Sight
@@ -171,13 +178,7 @@ sight_of p = record { thread = p.thread; seen = p.seen }
 
 -- what the entry says of a generation with this number that was sealed, as this pass of it saw
 abbrev pub sealed_by : ℕ → PassView → Sealed
-sealed_by n p = record {
-  number = n;
-  queue = record { table = p.table };
-  shape = p.opened.shape;
-  threads = p.opened.threads;
-  seen = p.seen;
-}
+sealed_by n p = record { number = n; queue = queue_in p; seen = p.seen }
 
 -- at a look by a pass that had seen this, between these two beginnings of the history, the newest generation had this
 -- number
@@ -218,7 +219,7 @@ Leaves s v found w = (sight : Sight) (n : ℕ) (before : List Change) → s.ask 
 -- of that generation
 abbrev pub GivesNumber : Step Change → View Change ℕ → ℕ → View Change ℕ → Type 0
 GivesNumber s v found w = found ≡ s.old → (w.1.0 ≡ nib may_make (key_of s.new) 0)
-    × ((q : Made) (more : Bool) → s.ask ≡ C.Made q more → IsMade w.0 s.new q.table)
+    × ((q : Made) (more : Bool) → s.ask ≡ C.Made q more → IsMade w.0 s.new q)
 
 -- What a step tells that makes a generation the newest: where it did, that was the newest. Else the pen is as before
 abbrev pub Renews : Step Change → View Change ℕ → ℕ → View Change ℕ → Type 0

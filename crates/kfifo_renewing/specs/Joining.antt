@@ -9,6 +9,7 @@ use Rattle.kfifo_live.specs.declared.payload.Taken.{Taken}
 use Rattle.kfifo_live.specs.declared.payload.sealing.TakenOrSealed.{TakenOrSealed}
 use Rattle.kfifo_live.specs.declared.view.Opening.{Opening}
 use Rattle.kfifo_renewing.specs.History.{HasRisen, IsGone, IsMade, IsPlaced, WasNewest, newest_of, place_count}
+use Rattle.kfifo_renewing.specs.History.{queue_in}
 use Rattle.kfifo_renewing.specs.Renewing.{Generations, HasLeft, HeldIn, IsFresh, IsOpenedAs}
 use Rattle.kfifo_renewing.specs.Renewing.{Numbered, TakesOlder, all_of}
 use Rattle.kfifo_renewing.specs.declared.change.Change.{Change}
@@ -32,7 +33,7 @@ pub record OlderView (T : Type 0) : Type 0 where
 module _ {T : Type 0} where
   -- the generation of a part has its number and its place in the history
   pub record IsPart (log : List Change) (p : PartView T) : Type 0 where
-    pub made : IsMade log p.number p.handle.held.pass.pass.table
+    pub made : IsMade log p.number (queue_in p.handle.held.pass.pass)
     pub inside : p.place < place_count
     pub placed : IsPlaced log p.number p.place
 

@@ -31,7 +31,7 @@ use Rattle.kfifo_live.specs.declared.tokens.sizes.TheConstants.{SPARE_TOKENS}
 use Rattle.kfifo_live.specs.declared.view.Opening.{Opening}
 use Rattle.kfifo_pool.specs.Pooled.{GivesOne, Pooled, ReceivesOne, ReceivesOneOrSeals, new_handle, no_cells}
 use Rattle.kfifo_renewing.specs.History.{IsGone, IsMade, NewestWas, WasNewest, left_of, newest_of, place_count}
-use Rattle.kfifo_renewing.specs.History.{opens_more, sight_of}
+use Rattle.kfifo_renewing.specs.History.{opens_more, queue_in, sight_of}
 use Rattle.kfifo_renewing.specs.declared.change.Change.{Change}
 use Rattle.kfifo_renewing.specs.declared.change.Sight.{Sight}
 use Rattle.kfifo_renewing.specs.declared.fault.CapacityFault.{CapacityFault}
@@ -226,13 +226,13 @@ module _ {T : Type 0} where
 
   -- the newest generation of the handle is the one with its number in the history
   abbrev pub IsNumbered : Generations T → Type 0
-  IsNumbered g = IsMade g.seen g.number g.newest.held.pass.pass.table
+  IsNumbered g = IsMade g.seen g.number (queue_in g.newest.held.pass.pass)
 
   -- Each generation of the queue that was the newest, up to that of the handle, has gone, or the handle has joined it
   abbrev pub HasAll : Generations T → Type 0
   HasAll g = (n : ℕ) → WasNewest g.seen n → n ≤ g.number
       → IsGone g.seen n ⊎ ((h : HeldIn T) × Contains (all_of g) h × (h.number ≡ n)
-      × IsMade g.seen n h.handle.held.pass.pass.table)
+      × IsMade g.seen n (queue_in h.handle.held.pass.pass))
 
   -- what a look of the handle tells, once its newest pass has seen what it has
   abbrev pub sight : Generations T → Sight
@@ -289,7 +289,7 @@ module _ {T : Type 0} where
 
   -- such a handle of this thread, in a generation that comes after this number
   abbrev pub IsNew : ℕ → ℕ → List Change → HeldIn T → Type 0
-  IsNew thread number log h = (number < h.number) × IsMade log h.number h.handle.held.pass.pass.table
+  IsNew thread number log h = (number < h.number) × IsMade log h.number (queue_in h.handle.held.pass.pass)
       × IsFresh thread h.handle
 
   -- A handle follows others. It keeps what it has joined as it is, but for generations that have gone, and joins some

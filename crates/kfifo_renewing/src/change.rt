@@ -7,9 +7,14 @@ use kfifo_words::Shape;
 use std::collections::LinkedList;
 use std::marker::Model;
 
-/// The queue of a generation, by its table.
+/// The queue of a generation: its table, the sizes of its ring, and how many threads it has.
 pub struct Made {
+    /// Its table.
     pub ghost table: { TableId } by { table_id_coded },
+    /// The sizes of its ring.
+    pub shape: Shape,
+    /// How many threads it has.
+    pub threads: u32,
 }
 
 impl Model for Made {
@@ -30,10 +35,6 @@ pub struct Sealed {
     pub number: u32,
     /// Its queue.
     pub queue: Made,
-    /// The sizes of its ring.
-    pub shape: Shape,
-    /// How many threads its queue has.
-    pub threads: u32,
     /// The beginning of its schedule that the pass had then seen.
     pub seen: LinkedList<Event>,
 }

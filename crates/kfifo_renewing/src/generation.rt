@@ -8,7 +8,7 @@ ghost use Rattle.kfifo_pool.specs.Pooled.{Pooled};
 ghost use Rattle.kfifo_live.specs.Pass.{IsPassOf};
 ghost use mathlib.Core.List.{IsPrefix};
 ghost use Rattle.kfifo_renewing.specs.Departed.{HaveDeparted};
-ghost use Rattle.kfifo_renewing.specs.History.{IsMade};
+ghost use Rattle.kfifo_renewing.specs.History.{IsMade, made_by};
 ghost use Rattle.kfifo_renewing.specs.Joining.{IsPartIn, MayLeave, held_in};
 ghost use Rattle.kfifo_renewing.specs.Renewing.{HasLeft, IsFresh, IsUntouched, Numbered, other_threads, without};
 
@@ -83,7 +83,8 @@ impl<T: Drop> Model for Core<T> {
       seen = c.history.log;
     } };
 
-    ghost invariant = { λ c. IsMade c.history.log c.next.number c.queue.table × (c.next.book ≡ c.history.book) };
+    ghost invariant = { λ c. IsMade c.history.log c.next.number (made_by c.queue)
+        × (c.next.book ≡ c.history.book) };
 }
 
 /// A generation with the handles that wait in it, how many handles may give to it, and the passes that have left it.
@@ -213,7 +214,7 @@ impl<T: Drop> Generation<T> {
         memory: CellMemory,
     ) -> Result<Generation<T>, AllocError>
         requires handles { All (λ h. IsPassOf queue h.held.pass.pass × IsUntouched h) handles.items }
-        requires number { IsMade history.log next.number queue.table × (next.book ≡ history.book) }
+        requires number { IsMade history.log next.number (made_by queue) × (next.book ≡ history.book) }
         ensures { IfOk result (λ g. (g.queue ≡ queue) × (g.number ≡ next.number) × (g.book ≡ history.book)
             × (g.seen ≡ history.log)) }
     {
@@ -265,7 +266,7 @@ impl<T: Drop> Generation<T> {
     /// What its maker had seen of the history.
     pub(crate) fn history(&self) -> &History
         ensures book { (result.now.book ≡ self.now.book) × (result.now.log ≡ self.now.seen) }
-        ensures made { IsMade result.now.log self.now.number self.now.queue.table }
+        ensures made { IsMade result.now.log self.now.number (made_by self.now.queue) }
     {
         &self.core.history
     }

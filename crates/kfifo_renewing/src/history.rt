@@ -5,8 +5,8 @@ ghost use Rattle.std.specs.Prelude.{◌≡◌, ◌≢◌, ◌+◌, ◌++◌, ◌
 ghost use Rattle.logbook.specs.Pages.{may_make, may_write, nib};
 ghost use mathlib.Core.List.{IsPrefix};
 ghost use Rattle.kfifo_renewing.specs.History.{AreLabels, Finds, HasRisen, IsMade, IsPlaced, WasNewest, key_of};
-ghost use Rattle.kfifo_renewing.specs.History.{left_of, newest_of, next_in as next_of, opens_more, place_count};
-ghost use Rattle.kfifo_renewing.specs.History.{sight_of};
+ghost use Rattle.kfifo_renewing.specs.History.{left_of, made_by, newest_of, next_in as next_of, opens_more};
+ghost use Rattle.kfifo_renewing.specs.History.{place_count, sight_of};
 ghost use Rattle.kfifo_renewing.specs.declared.change.Change.{Change as HasChanged};
 
 use crate::change::Change;
@@ -159,7 +159,7 @@ impl<T: Drop> Plain<PooledQueue<T>, Change, u64> for Numbering {
     ghost use Rattle.kfifo_renewing.specs.History.{making_of};
     ghost use Rattle.std.specs.Prelude.{true};
 
-    ghost ask = { λ queue. making_of queue.table true };
+    ghost ask = { λ queue. making_of queue true };
 
     ghost state = { λ queue. None };
 }
@@ -182,7 +182,7 @@ impl<T: Drop> Opening<First<T>, Change> for Numbering {
     ghost use Rattle.std.specs.Prelude.{[], ◌∷◌};
     ghost use Rattle.kfifo_renewing.specs.History.{making_of};
 
-    ghost log = { λ count first. making_of first.queue.table first.opens_more ∷ [] };
+    ghost log = { λ count first. making_of first.queue first.opens_more ∷ [] };
 }
 
 /// What each pass that leaves a generation adds to its word.
@@ -361,7 +361,7 @@ impl Numbers {
         first: &First<T>,
     ) -> Result<(Numbers, Vec<Label>, Next, History), AllocError>
         ensures books { IfOk result (λ r. (r.3.book ≡ r.0) × AreLabels r.0 r.1.items × (r.2.book ≡ r.0)) }
-        ensures first { IfOk result (λ r. (r.2.number ≡ 0) × IsMade r.3.log 0 first.now.queue.table
+        ensures first { IfOk result (λ r. (r.2.number ≡ 0) × IsMade r.3.log 0 (made_by first.now.queue)
             × WasNewest r.3.log 0) }
         ensures more { IfOk result (λ r. opens_more r.3.log ≡ first.now.opens_more) }
     {
@@ -417,7 +417,8 @@ impl Numbers {
     ) -> Option<(Next, Pen)>
         requires { history.old.book ≡ self.now }
         ensures book { history.new.book ≡ history.old.book }
-        ensures made { IfSome result (λ r. (r.0.book ≡ self.now) × IsMade history.new.log r.0.number queue.now.table) }
+        ensures made { IfSome result (λ r. (r.0.book ≡ self.now)
+            × IsMade history.new.log r.0.number (made_by queue.now)) }
         ensures pen { IfSome result (λ r. (r.1.book ≡ self.now) × (r.1.nib ≡ nib may_write (key_of r.0.number) 0)) }
     {
         let mut last = 0u32;
@@ -444,7 +445,7 @@ impl Numbers {
         requires book { (history.old.book ≡ self.now) × (pen.old.book ≡ self.now) }
         requires number { 1 ≤ number }
         ensures book { (history.new.book ≡ history.old.book) × (pen.new.book ≡ pen.old.book) }
-        ensures made { result + 1 ≡ number → IsMade history.new.log number queue.now.table }
+        ensures made { result + 1 ≡ number → IsMade history.new.log number (made_by queue.now) }
         ensures pen { result + 1 ≡ number → pen.new.nib ≡ nib may_make (key_of number) 0 }
     {
         let mut offer: Offer<Change, u64, HistoryRule, NoGain> = history.plain::<

@@ -1,9 +1,9 @@
 -- The first generation has the number 0, and is in its place.
 use Rattle.std.proofs.Common.{◌≡◌, ◌<◌, sym, ap, ◌∙◌, subst, rules}
 use Rattle.kfifo_renewing.specs.declared.change.Change.TheVariants as C
-use Rattle.kfifo_renewing.specs.History.{IsMade, IsPlaced, opens_more, place_count}
+use Rattle.kfifo_renewing.specs.History.{IsMade, IsPlaced, made_by, opens_more, place_count, queue_in}
 use Rattle.kfifo_renewing.specs.Renewing.{Numbered}
-use Rattle.kfifo_renewing.proofs.Histories.{contains-later, made-later, made-some, opens-same}
+use Rattle.kfifo_renewing.proofs.Histories.{contains-later, made-later, made-some, opens-same, queue-same}
 use Rattle.kfifo_renewing.proofs.opening.join_first.Goals as goal
 
 pub new-requires-clause-part : goal.new-requires-clause-part
@@ -15,12 +15,14 @@ new-requires-clause-part g c =
     let number : joined.number ≡ 0 = search rules in
     let place : joined.place ≡ c.args.place = search rules in
     let table : generation.queue.table ≡ joined.handle.held.pass.pass.table = search rules in
-    let made = subst (λ (v : Numbered). IsMade c.history.result.now.log v.number v.queue.table) c.deref.ensures
+    let opened : generation.queue.opened ≡ joined.handle.held.pass.pass.opened = search rules in
+    let made = subst (λ (v : Numbered). IsMade c.history.result.now.log v.number (made_by v.queue)) c.deref.ensures
     c.history.ensures.made in
     record {
-      made = subst (λ n. IsMade log n joined.handle.held.pass.pass.table) (first ∙ sym number)
-          (subst (IsMade log generation.number) table
-          (made-later c.history.result.now.log log generation.number generation.queue.table c.learn.ensures.3 made));
+      made = subst (λ n. IsMade log n (queue_in joined.handle.held.pass.pass)) (first ∙ sym number)
+          (subst (IsMade log generation.number) (queue-same _ _ _ _ table opened)
+          (made-later c.history.result.now.log log generation.number (made_by generation.queue) c.learn.ensures.3
+          made));
       inside = subst (λ k. k < place_count) (sym place) c.requires.there.1;
       placed = subst (λ n. IsPlaced log n joined.place) (sym number) (subst (IsPlaced log 0) (sym place)
           (contains-later c.again-history.result.log log (C.Placed 0 c.args.place) c.learn.ensures.2

@@ -1,9 +1,9 @@
 -- The generation is in the place, and has its number in the history of both.
 use Rattle.std.proofs.Common.{◌≡◌, ◌<◌, rules, sym, ap, ◌∙◌, subst}
 use Rattle.kfifo_renewing.specs.declared.change.Change.TheVariants as C
-use Rattle.kfifo_renewing.specs.History.{IsMade, IsPlaced, place_count}
+use Rattle.kfifo_renewing.specs.History.{IsMade, IsPlaced, made_by, place_count, queue_in}
 use Rattle.kfifo_renewing.specs.Renewing.{Generations, Numbered}
-use Rattle.kfifo_renewing.proofs.Histories.{contains-later, made-later}
+use Rattle.kfifo_renewing.proofs.Histories.{contains-later, made-later, queue-same}
 use Rattle.kfifo_renewing.proofs.handle.RenewingHandle.enter.Goals as goal
 
 pub returns-clause-part : goal.returns-clause-part
@@ -19,10 +19,12 @@ returns-clause-part g c =
       number,
       same,
       record {
-        made = subst (λ n. IsMade log n joined.handle.held.pass.pass.table) (number ∙ sym same)
-            (subst (IsMade log generation.number) (search rules)
-            (made-later c.history.result.now.log log generation.number generation.queue.table c.learn.ensures.3
-            (subst (λ (v : Numbered). IsMade c.history.result.now.log v.number v.queue.table) c.deref-4.ensures
+        made = subst (λ n. IsMade log n (queue_in joined.handle.held.pass.pass)) (number ∙ sym same)
+            (subst (IsMade log generation.number) (queue-same generation.queue.table
+            joined.handle.held.pass.pass.table generation.queue.opened joined.handle.held.pass.pass.opened
+            (search rules) (search rules))
+            (made-later c.history.result.now.log log generation.number (made_by generation.queue) c.learn.ensures.3
+            (subst (λ (v : Numbered). IsMade c.history.result.now.log v.number (made_by v.queue)) c.deref-4.ensures
             c.history.ensures.made)));
         inside = subst (λ k. k < place_count) (sym c.in_ok-joined.ensures.at.1) c.requires.inside;
         placed = subst (λ n. IsPlaced log n joined.place) (sym same)

@@ -1,6 +1,6 @@
 use Rattle.std.proofs.Common.{ap, ◌∙◌, subst, refl, nat_eq}
 use mathlib.Core.List.{IsPrefix}
-use Rattle.kfifo_renewing.specs.History.{Finds, sight_of}
+use Rattle.kfifo_renewing.specs.History.{Finds, queue_in, sight_of}
 use Rattle.kfifo_renewing.specs.Renewing.{Generations, Numbered, opening_in}
 use Rattle.kfifo_renewing.proofs.Histories.{made-later, risen-from}
 use Rattle.kfifo_renewing.specs.Joining.{held_by}
@@ -48,8 +48,8 @@ returns-clause-newest g c =
     (subst (λ k. Finds (sight_of c.self.inside.newest.handle.held.pass.pass) k c.look-found.result
     c.self.inside.history.log log) number c.look-found.ensures.finds) in
     found-or-newest c.look-found.result n (sight_of c.self.inside.newest.handle.held.pass.pass) c.args.self.now.seen log
-    c.self.inside.newest.handle.held.pass.pass.table
-    found (made-later c.self.inside.history.log log n c.self.inside.newest.handle.held.pass.pass.table
+    (queue_in c.self.inside.newest.handle.held.pass.pass)
+    found (made-later c.self.inside.history.log log n (queue_in c.self.inside.newest.handle.held.pass.pass)
     (was-prefix (sight_of c.self.inside.newest.handle.held.pass.pass) c.look-found.ensures.finds.number
     c.self.inside.history.log log c.look-found.ensures.finds.was)
     (numbered-by (opening_in c.self.inside.shared.value) c.self.inside.shared.value.history.book

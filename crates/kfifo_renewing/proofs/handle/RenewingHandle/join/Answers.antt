@@ -4,7 +4,7 @@ use Rattle.std.proofs.lemmas.List.{append-nil, map-append}
 use Rattle.std.proofs.lemmas.List.Elements.{All-map, All-push}
 use mathlib.Core.List.{IsPrefix}
 use Rattle.kfifo_live.specs.Pass.{IsPassOf}
-use Rattle.kfifo_renewing.specs.History.{IsMade, WasNewest, newest_of}
+use Rattle.kfifo_renewing.specs.History.{IsMade, WasNewest, newest_of, queue_in}
 use Rattle.kfifo_renewing.specs.Joining.{AreAmong, IsPart, IsPartOf, PartView, held_by, held_in}
 use Rattle.kfifo_renewing.specs.Renewing.{Generations, HeldIn, IsFresh, IsNew, LeavesGone, all_of}
 use Rattle.kfifo_renewing.specs.Renewing.{opening_in}
@@ -73,7 +73,7 @@ returns g c =
     subst (λ (p : PartView T). p.number ≡ next.number) (sym c.replace-before.ensures.after) c.requires.part.0 in
     let last : P (record { handle = k.handle; number = next.number }) = (
       c.requires.later,
-      subst (λ n. IsMade log n k.handle.held.pass.pass.table) number part.made,
+      subst (λ n. IsMade log n (queue_in k.handle.held.pass.pass)) number part.made,
       subst (λ (p : PartView T). IsFresh now.thread p.handle) (sym c.replace-before.ensures.after) c.requires.unused.0,
     ) in
     follows-jump now _ (held_by between) (record {
