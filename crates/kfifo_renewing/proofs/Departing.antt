@@ -11,12 +11,16 @@ use Rattle.logbook.specs.Pages.{Cell, Goes, Moves, Nib, cell, keeps, step}
 use Rattle.kfifo_renewing.specs.declared.change.Change.{Change}
 use Rattle.kfifo_renewing.specs.declared.change.Change.TheVariants as C
 use Rattle.kfifo_renewing.specs.declared.change.Sight.{Sight}
+use Rattle.kfifo_renewing.specs.declared.change.Made.{Made}
+use Rattle.kfifo_renewing.specs.History.{AreInOne, EachLeftTogether, HaveLeftTogether, IsMade, IsNextToLeave}
 use Rattle.kfifo_renewing.specs.History.{Holds, IsKept, Leaves, TellsNext, WasNewest, key_of, left_in, left_of, made}
 use Rattle.kfifo_renewing.specs.History.{newest_of, next_in, place_count}
-use Rattle.kfifo_renewing.proofs.Histories.{contains-later, left-append, left-as-many, made-append, newest-append}
+use Rattle.kfifo_renewing.proofs.Histories.{contains-later, left-append, left-as-many, made-append, made-later}
+use Rattle.kfifo_renewing.proofs.Histories.{newest-append}
 use Rattle.kfifo_renewing.proofs.Histories.{one-stays, prefix-trans, risen-from, risen-more, was-later, was-less}
 use Rattle.kfifo_renewing.proofs.Keeping.{goes-by, gone-same, kept-of, labelled-same, left-stays, load-same, moved}
-use Rattle.kfifo_renewing.proofs.Keeping.{next-at, next-within, set-next, shown, tells-same, there-same, within}
+use Rattle.kfifo_renewing.proofs.Keeping.{next-at, next-within, set-next, shown, tells-same, there-same, together-same}
+use Rattle.kfifo_renewing.proofs.Keeping.{within}
 use Rattle.kfifo_renewing.proofs.Keeping.{words-of}
 
 -- the entry of a pass that leaves this generation, and of one that leaves another
@@ -79,11 +83,30 @@ told-left g labels nexts log t n w x h inside at was false is =
           told.1,
     )
 
+-- those that have left a generation are then in one schedule with the pass
+left-together : (log : List Change) (t : Sight) (n x : ℕ) (queue : Made) → IsMade log n queue
+    → AreInOne queue (left_of n log ++ t ∷ []) → EachLeftTogether log → (b : Bool) → (n == x) ≡ b
+    → left_of x (log ++ C.Left n t ∷ []) ≢ [] → HaveLeftTogether (log ++ C.Left n t ∷ []) x
+left-together log t n x queue here one each true is some =
+    let e = C.Left n t in
+    let same : n ≡ x = grind (arith, nat_tests) in
+    let more : left_of n (log ++ e ∷ []) ≡ left_of n log ++ t ∷ [] =
+    left-append n log (e ∷ []) ∙ ap (λ l. left_of n log ++ l) (left-here n n t (n == n) refl refl) in
+    subst (HaveLeftTogether (log ++ e ∷ [])) same (
+      queue,
+      made-later log (log ++ e ∷ []) n queue (e ∷ [], refl) here,
+      subst (AreInOne queue) (sym more) one,
+    )
+left-together log t n x queue here one each false is some =
+    let apart : n ≢ x = λ same. grind (arith, nat_tests) in
+    together-same log (C.Left n t) x (left-there n x t (n == x) refl apart) each some
+
 -- the rule once a pass has left a generation that is the newest no more
-left-holds : (g : ℕ) (labels nexts : List Cell) (log : List Change) (t : Sight) (n w : ℕ) → Holds log g labels nexts
-    → n < length nexts → n < newest_of log → (cell nexts n).0 ≡ w
+left-holds : (g : ℕ) (labels nexts : List Cell) (log : List Change) (t : Sight) (n w : ℕ) (queue : Made)
+    → Holds log g labels nexts → n < length nexts → n < newest_of log → (cell nexts n).0 ≡ w
+    → IsMade log n queue → AreInOne queue (left_of n log ++ t ∷ [])
     → Holds (log ++ C.Left n t ∷ []) g labels (slice_set nexts n (w + 2 ^ 32, true))
-left-holds g labels nexts log t n w h inside over at =
+left-holds g labels nexts log t n w queue h inside over at here one =
     let e = C.Left n t in
     let same : newest_of (log ++ e ∷ []) ≡ newest_of log = newest-append 0 log (e ∷ []) in
     record {
@@ -103,6 +126,7 @@ left-holds g labels nexts log t n w h inside over at =
       stayed = λ x up.
           let apart : n ≢ x = λ at. omega (arith, at, up, over, same) in
           left-stays x log e (left-there n x t (n == x) refl apart) ∙ h.stayed x (subst (λ k. k ≤ x) same up);
+      together = λ x. left-together log t n x queue here one h.together (n == x) refl;
       one = one-stays g log e h.count same h.one;
     }
 
@@ -124,22 +148,25 @@ left-told v log t n w pre told s m before asked begins many =
 
 depart-goes : (v log : List Change) (p : Nib) (t : Sight) (n w g : ℕ) (labels nexts : List Cell)
     → length labels ≡ place_count → n < length nexts → IsPrefix v log → WasNewest log n → n < newest_of log
-    → Holds log g labels nexts → (b : Bool) → ((cell nexts n).0 == w) ≡ b
+    → IsNextToLeave v n (left_in w) t → Holds log g labels nexts → (b : Bool) → ((cell nexts n).0 == w) ≡ b
     → Goes IsKept shown moved (key_of n) (v, (p, None)) (λ k. either (k == w) (w + 2 ^ 32) k)
     (Leaves (step (key_of n) w (w + 2 ^ 32) (C.Left n t)) (v, (p, None))) (words-of g labels nexts) log
-depart-goes v log p t n w g labels nexts all inside pre was over h true found =
+depart-goes v log p t n w g labels nexts all inside pre was over (before, queue, begins, many, here, one) h true found =
     let e = C.Left n t in
     let at : (cell nexts n).0 ≡ w = grind (arith, nat_tests) in
     let told = h.told n was in
+    let same : left_of n log ≡ left_of n before = left-as-many n before log (prefix-trans before v log begins pre)
+    (many ∙ ap left_in (sym at) ∙ told.1.left) in
     goes-by (key_of n) v p (λ k. either (k == w) (w + 2 ^ 32) k)
     (Leaves (step (key_of n) w (w + 2 ^ 32) e) (v, (p, None)))
     (words-of g labels nexts) (words-of g labels (slice_set nexts n (w + 2 ^ 32, true))) log (e ∷ []) (cell nexts n)
     keeps (next-at g labels nexts n all) (rw found (set-next g labels nexts n (w + 2 ^ 32, true) all)) tt
     (kept-of g labels (slice_set nexts n (w + 2 ^ 32, true)) (log ++ e ∷ []) all
-    (left-holds g labels nexts log t n w h inside over at))
+    (left-holds g labels nexts log t n w queue h inside over at (made-later v log n queue pre here)
+    (subst (λ l. AreInOne queue (l ++ t ∷ [])) (sym same) one)))
     (λ s m before asked key same begins many.
     left-told v log t n w pre (subst (TellsNext log n) at told.1) s m before asked begins many)
-depart-goes v log p t n w g labels nexts all inside pre was over h false found =
+depart-goes v log p t n w g labels nexts all inside pre was over next h false found =
     let none : log ++ [] ≡ log = append-nil log in
     let other : (cell nexts n).0 ≢ w = λ same. grind (arith, nat_tests) in
     let told = h.told n was in
@@ -151,11 +178,18 @@ depart-goes v log p t n w g labels nexts all inside pre was over h false found =
     (subst (IsKept (words-of g labels nexts)) (sym none) (kept-of g labels nexts log all h))
     (λ s m before asked key same begins many. absurd (other same))
 
+-- the next to leave after so many stays that as more of the history is seen
+pub next-later : (xs ys : List Change) (n count w : ℕ) (t : Sight) → IsPrefix xs ys → count ≡ left_in w
+    → IsNextToLeave xs n count t → IsNextToLeave ys n (left_in w) t
+next-later xs ys n count w t pre same (before, queue, begins, many, here, one) =
+    (before, queue, prefix-trans before xs ys begins pre, many ∙ same, made-later xs ys n queue pre here, one)
+
 -- a pass leaves a generation that is the newest no more, or nothing happens
 pub depart-moves : (v : List Change) (p : Nib) (t : Sight) (n w : ℕ) → WasNewest v n → n < newest_of v
+    → IsNextToLeave v n (left_in w) t
     → Moves IsKept shown moved (key_of n) (v, (p, None)) (λ k. either (k == w) (w + 2 ^ 32) k)
     (Leaves (step (key_of n) w (w + 2 ^ 32) (C.Left n t)) (v, (p, None)))
-depart-moves v p t n w was over cs log kept pre away =
+depart-moves v p t n w was over next cs log kept pre away =
     let g = kept.greatest in
     let P : List Cell → Type 0 = λ c. (key_of n < length c) × ((cell c (key_of n)).1 ≡ true)
     × Goes IsKept shown moved (key_of n) (v, (p, None)) (λ k. either (k == w) (w + 2 ^ 32) k)
@@ -166,6 +200,7 @@ depart-moves v p t n w was over cs log kept pre away =
     subst P (sym kept.words) (
       next-within g kept.labels kept.nexts n kept.all inside,
       ap (λ c. c.1) (next-at g kept.labels kept.nexts n kept.all) ∙ (kept.holds.told n later).0,
-      depart-goes v log p t n w g kept.labels kept.nexts kept.all inside pre later (omega (arith, over, up)) kept.holds
+      depart-goes v log p t n w g kept.labels kept.nexts kept.all inside pre later (omega (arith, over, up)) next
+          kept.holds
           ((cell kept.nexts n).0 == w) refl,
     )

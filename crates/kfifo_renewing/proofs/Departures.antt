@@ -24,14 +24,8 @@ module _ {T : Type 0} where
     before = l.before;
     gone = gone-later xs ys h.number p l.gone;
     earlier = prefix-trans l.before xs ys l.earlier p;
-    all = l.all;
-    table = l.table;
-    opened = l.opened;
     left = l.left;
-    ends = l.ends;
-    sealed = l.sealed;
-    promise = l.promise;
-    nothing = l.nothing;
+    one = l.one;
   }
 
   pub ends-later : (xs ys : List Change) (hs kept : List (HeldIn T)) → IsPrefix xs ys → EndsGone xs hs kept

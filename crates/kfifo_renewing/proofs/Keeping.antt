@@ -20,11 +20,13 @@ use Rattle.kfifo_renewing.specs.declared.change.Change.TheVariants as C
 use Rattle.kfifo_renewing.specs.declared.change.Made.{Made}
 use Rattle.kfifo_renewing.specs.declared.change.Sealed.{Sealed}
 use Rattle.kfifo_renewing.specs.declared.change.Sight.{Sight}
+use Rattle.kfifo_renewing.specs.History.{AreInOne, EachLeftTogether, HaveLeftTogether}
 use Rattle.kfifo_renewing.specs.History.{Finds, FindsThere, HasRisen, Holds, IsGone, IsKept, IsPlaced}
 use Rattle.kfifo_renewing.specs.History.{Looks, LooksThere, Fills, TellsNext, TellsPlace, WasNewest}
 use Rattle.kfifo_renewing.specs.History.{key_of, left_of, made, newest_of, next_in, place_count, label_of}
 use Rattle.kfifo_renewing.specs.History.{shows}
 use Rattle.kfifo_renewing.proofs.Histories.{contains-later, contains-more, gone-later, left-append, made-append}
+use Rattle.kfifo_renewing.proofs.Histories.{made-later}
 use Rattle.kfifo_renewing.proofs.Histories.{newest-append, one-stays, risen-more, risen-none}
 use Rattle.kfifo_renewing.proofs.Histories.{risen-was, was-later, was-less}
 use Rattle.kfifo_renewing.proofs.Histories.{was-made}
@@ -159,6 +161,7 @@ first-holds t b = record {
       (sym (get_or-replicate place_count i (0, true) (0, false) inside)) (refl, first-place t b i);
   gone = λ s is. absurd (first-only t b (C.Gone s) is (λ same. absurd cc));
   stayed = λ n up. refl;
+  together = λ n some. absurd (some refl);
   one = λ none. refl;
 }
 
@@ -201,6 +204,14 @@ pub left-stays : (n : ℕ) (log : List Change) (e : Change) → left_of n (e ∷
     → left_of n (log ++ e ∷ []) ≡ left_of n log
 left-stays n log e none =
     left-append n log (e ∷ []) ∙ ap (λ l. left_of n log ++ l) none ∙ append-nil (left_of n log)
+
+-- nor has another joined those that have left one
+pub together-same : (log : List Change) (e : Change) (n : ℕ) → left_of n (e ∷ []) ≡ [] → EachLeftTogether log
+    → left_of n (log ++ e ∷ []) ≢ [] → HaveLeftTogether (log ++ e ∷ []) n
+together-same log e n none each some =
+    let same = left-stays n log e none in
+    let (queue, here, one) = each n (λ empty. some (same ∙ empty)) in
+    (queue, made-later log (log ++ e ∷ []) n queue (e ∷ [], refl) here, subst (AreInOne queue) (sym same) one)
 
 -- what a word says stays so while an entry more leaves the newest generation as it is
 pub tells-same : (log : List Change) (e : Change) (n w : ℕ) → newest_of (log ++ e ∷ []) ≡ newest_of log
@@ -258,6 +269,7 @@ holds-entry g labels nexts labels' nexts' log e none same h long words there lab
   labelled = labelled;
   gone = λ s is. subst (λ k. s.number < k) (sym same) (gone s is);
   stayed = λ n up. left-stays n log e (left n) ∙ h.stayed n (subst (λ k. k ≤ n) same up);
+  together = λ n. together-same log e n (left n) h.together;
   one = one-stays g log e h.count same h.one;
 }
 

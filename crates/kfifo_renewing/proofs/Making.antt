@@ -20,7 +20,7 @@ use Rattle.kfifo_renewing.specs.History.{newest_of, next_in, place_count}
 use Rattle.kfifo_renewing.proofs.Histories.{contains-later, get-last, made-append, newest-append, one-stays, opens-more}
 use Rattle.kfifo_renewing.proofs.Histories.{risen-more, risen-was, was-later, was-less}
 use Rattle.kfifo_renewing.proofs.Histories.{was-more, was-now}
-use Rattle.kfifo_renewing.proofs.Keeping.{goes-by, gone-same, kept-of, labelled-same, left-stays, load-same, moved}
+use Rattle.kfifo_renewing.proofs.Keeping.{goes-by, gone-same, kept-of, labelled-same, left-stays, together-same, load-same, moved}
 use Rattle.kfifo_renewing.proofs.Keeping.{there-same}
 use Rattle.kfifo_renewing.proofs.Keeping.{made-same, next-at, next-within, set-next, shown, tells-same}
 use Rattle.kfifo_renewing.proofs.Keeping.{within, words-of}
@@ -63,6 +63,7 @@ holds-made g labels nexts log t room h =
       labelled = labelled-same g labels nexts log e (λ n i is. absurd cc) h;
       gone = λ s is. subst (λ k. s.number < k) (sym same) (gone-same g labels nexts log e (λ t is. absurd cc) h s is);
       stayed = λ n up. left-stays n log e refl ∙ h.stayed n (subst (λ k. k ≤ n) same up);
+      together = λ n. together-same log e n refl h.together;
       one = one-stays g log e h.count same h.one;
     }
 
@@ -238,6 +239,7 @@ renewed-holds g labels nexts log n m i h is above made-it inside there opens =
           let below = gone-same g labels nexts log e (λ t is. absurd cc) h s gone in
           omega (arith, below, is, above, now);
       stayed = λ x up. left-stays x log e refl ∙ h.stayed x (omega (arith, up, now, is, above));
+      together = λ x. together-same log e x refl h.together;
       one = λ none. absurd (false≢true (sym none ∙ opens-more log (log ++ e ∷ []) more opens));
     }
 

@@ -104,4 +104,4 @@ module _ {T : Type 0} where
   abbrev pub ClosesAllCells : List (Generations T) → List (List ℕ) → List Change → Type 0
   ClosesAllCells handles left log = (last : Generations T) × (others : List (Generations T))
       × (handles ≡ others ++ last ∷ []) × (all : List (HeldIn T)) × Gathers others last all log
-      × LeavesCells log others all left × HaveEnded log others all
+      × LeavesCells log others all left × HaveEnded log others all × EachLeftTogether log

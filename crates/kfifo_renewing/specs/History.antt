@@ -2,14 +2,15 @@
 -- looked.
 use Rattle.std.specs.Prelude.{◌≡◌, ◌≢◌, ◌+◌, ◌<◌, ◌≤◌, ◌^◌, ◌%◌, ◌/◌, ◌==◌, ◌⊎◌, ℕ, suc}
 use Rattle.std.specs.Prelude.{Bool, true, false, List, [], ◌∷◌, ◌++◌}
-use Rattle.std.specs.Prelude.{length}
+use Rattle.std.specs.Prelude.{All, length, map}
 use Rattle.std.specs.Prelude.{if◌then◌else◌, Option, Some, slice_get}
 use Rattle.std.specs.List.{Contains}
 use mathlib.Core.List.{IsPrefix}
 use Rattle.logbook.specs.Pages.{Book, Cell, Named, Step, View, cell, may_make, nib}
 use Rattle.kfifo_renewing.specs.declared.change.Change.{Change}
 use Rattle.kfifo_linear.specs.Seals.{SealedEmpty}
-use Rattle.kfifo_live.specs.Pass.{OpenQueue, PassView, queue_of}
+use Rattle.kfifo_live.specs.Pass.{HaveComeOut, OpenQueue, PassKeepsPromise, PassView, WasSealedEmpty, queue_of}
+use Rattle.kfifo_machine.specs.Runs.{Begins}
 use Rattle.kfifo_renewing.specs.declared.change.Made.{Made}
 use Rattle.kfifo_renewing.specs.declared.change.Sealed.{Sealed}
 use Rattle.kfifo_renewing.specs.declared.change.Sight.{Sight}
@@ -92,6 +93,30 @@ left_of n (C.Placed m i ∷ log) = left_of n log
 left_of n (C.Gone sealed ∷ log) = left_of n log
 left_of n (C.Left m sight ∷ log) = if m == n then sight ∷ left_of n log else left_of n log
 
+-- One schedule of a queue has all that these passes did there, each of which had ended its calls: it begins with what
+-- each of them had seen, and has no further event of its thread. It keeps the promise. The queue was sealed empty after
+-- a beginning of it, and what these passes put there has come out
+pub record AreInOne (queue : Made) (sights : List Sight) : Type 0 where
+  pub all : PassView
+  pub of : queue_in all ≡ queue
+  pub ends : All (λ s. Begins s.thread s.seen all.seen) sights
+  pub promise : PassKeepsPromise all
+  pub sealed : WasSealedEmpty all
+  pub come_out : HaveComeOut (map (λ s. s.thread) sights) all
+
+-- so it is with all passes that have left the generation with this number
+abbrev pub HaveLeftTogether : List Change → ℕ → Type 0
+HaveLeftTogether log n = (queue : Made) × IsMade log n queue × AreInOne queue (left_of n log)
+
+-- and of each generation, where some have left it
+abbrev pub EachLeftTogether : List Change → Type 0
+EachLeftTogether log = (n : ℕ) → left_of n log ≢ [] → HaveLeftTogether log n
+
+-- a pass that had seen this is in one schedule with the passes that had left generation n when these were so many
+abbrev pub IsNextToLeave : List Change → ℕ → ℕ → Sight → Type 0
+IsNextToLeave log n count sight = (before : List Change) × (queue : Made) × IsPrefix before log
+    × (length (left_of n before) ≡ count) × IsMade log n queue × AreInOne queue (left_of n before ++ sight ∷ [])
+
 -- how many places there are
 abbrev pub place_count : ℕ
 place_count = 130
@@ -134,6 +159,7 @@ pub record Holds (log : List Change) (greatest : ℕ) (labels nexts : List Cell)
   pub labelled : (i : ℕ) → i < place_count → ((cell labels i).1 ≡ true) × TellsPlace log i (cell labels i).0
   pub gone : (sealed : Sealed) → Contains log (C.Gone sealed) → sealed.number < newest_of log
   pub stayed : (n : ℕ) → newest_of log ≤ n → left_of n log ≡ []
+  pub together : EachLeftTogether log
   pub one : opens_more log ≡ false → newest_of log ≡ 0
 
 -- The words of a book in their order: the greatest number, the words of the places, and those of the generations

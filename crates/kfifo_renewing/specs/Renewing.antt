@@ -17,9 +17,7 @@ use Rattle.kfifo_model.specs.declared.calls.TheConstants.{MAX_THREADS}
 use Rattle.kfifo_live.specs.Calls.{IsDisturbed}
 use Rattle.kfifo_live.specs.Capacities.{HasRoom, segments_for, sizes_fault, tokens_for}
 use Rattle.kfifo_live.specs.Handles.{further}
-use Rattle.kfifo_machine.specs.Runs.{Begins, own}
-use Rattle.kfifo_live.specs.Pass.{EachCameOut, HasNoEvent, IsPassOf, IsSamePass, IsSealedEmpty, OpenQueue}
-use Rattle.kfifo_live.specs.Pass.{PassKeepsPromise, PassView, WasSealedEmpty}
+use Rattle.kfifo_live.specs.Pass.{HasNoEvent, IsPassOf, IsSamePass, IsSealedEmpty, OpenQueue, PassKeepsPromise}
 use Rattle.kfifo_live.specs.Payloads.{PayCloses}
 use Rattle.kfifo_live.specs.Refusals.{IsOutOf}
 use Rattle.kfifo_live.specs.Schedule.{count_up}
@@ -30,7 +28,8 @@ use Rattle.kfifo_live.specs.declared.tokens.sizes.SizesFault.{SizesFault}
 use Rattle.kfifo_live.specs.declared.tokens.sizes.TheConstants.{SPARE_TOKENS}
 use Rattle.kfifo_live.specs.declared.view.Opening.{Opening}
 use Rattle.kfifo_pool.specs.Pooled.{GivesOne, Pooled, ReceivesOne, ReceivesOneOrSeals, new_handle, no_cells}
-use Rattle.kfifo_renewing.specs.History.{IsGone, IsMade, NewestWas, WasNewest, left_of, newest_of, place_count}
+use Rattle.kfifo_renewing.specs.History.{AreInOne, EachLeftTogether, IsGone, IsMade, NewestWas, WasNewest, left_of}
+use Rattle.kfifo_renewing.specs.History.{newest_of, place_count}
 use Rattle.kfifo_renewing.specs.History.{opens_more, queue_in, sight_of}
 use Rattle.kfifo_renewing.specs.declared.change.Change.{Change}
 use Rattle.kfifo_renewing.specs.declared.change.Sight.{Sight}
@@ -144,10 +143,6 @@ pub record HeldIn (T : Type 0) : Type 0 where
 abbrev pub may_open_more : Renewals → Bool
 may_open_more r = not ((r.reserve == NO_RENEWAL) && (r.generations == 1))
 
--- each thread with an event in what a pass has seen is that of one of these sights
-abbrev pub HaveEachThread : List Sight → PassView → Type 0
-HaveEachThread sights p = (thread : ℕ) → own thread p.seen ≢ [] → Contains (map (λ s. s.thread) sights) thread
-
 -- The generations that the handle of a thread has joined: its handle in each. It gives to the newest, which has this
 -- number. The older ones, the oldest first, may still have payloads. Of the history of the queue, which is that of this
 -- book, it has seen this beginning
@@ -249,21 +244,13 @@ module _ {T : Type 0} where
       × IsNumbered new
 
   -- A handle has left its generation, which has gone, as the history tells. One schedule of that generation has all
-  -- that the passes that had left by then did there, this handle's among them. After a beginning of it the generation
-  -- was sealed empty. Nothing is left there once each thread that made a call has left: each token that was put was
-  -- undone or taken, as often as it was put
+  -- that the passes that had left by then did there, this handle's among them, and what they put there has come out
   pub record HasLeft (log : List Change) (h : HeldIn T) : Type 0 where
     pub gone : IsGone log h.number
     pub before : List Change
     pub earlier : IsPrefix before log
-    pub all : PassView
-    pub table : all.table ≡ h.handle.held.pass.pass.table
-    pub opened : all.opened ≡ h.handle.held.pass.pass.opened
     pub left : Contains (left_of h.number before) (sight_of h.handle.held.pass.pass)
-    pub ends : All (λ s. Begins s.thread s.seen all.seen) (left_of h.number before)
-    pub sealed : WasSealedEmpty all
-    pub promise : PassKeepsPromise all
-    pub nothing : HaveEachThread (left_of h.number before) all → EachCameOut all
+    pub one : AreInOne (queue_in h.handle.held.pass.pass) (left_of h.number before)
 
   -- Of these handles in generations, some are kept as they were, in their order. The others have no cell, and have left
   -- their generations, which have gone
@@ -529,8 +516,9 @@ module _ {T : Type 0} where
 
   -- What a close by these handles returned, with this log, the beginning of the history that the last of them had seen:
   -- each of the generations that the last was then in was closed, the oldest first. Each other handle has left each of
-  -- its generations, or all that it did there is in the one schedule by which that was closed
+  -- its generations, or all that it did there is in the one schedule by which that was closed. Of each generation that
+  -- has gone, one schedule has all that those did there that have left it, and what they put there has come out
   abbrev pub ClosesAll : List (Generations T) → List T → List Change → Type 0
   ClosesAll handles payloads log = (last : Generations T) × (others : List (Generations T))
       × (handles ≡ others ++ last ∷ []) × (all : List (HeldIn T)) × Gathers others last all log
-      × ClosesEach log others all payloads × HaveEnded log others all
+      × ClosesEach log others all payloads × HaveEnded log others all × EachLeftTogether log

@@ -6,6 +6,7 @@ ghost use mathlib.Core.List.{IsPrefix};
 ghost use Rattle.kfifo_live.specs.Pass.{IsPassOf};
 ghost use Rattle.kfifo_pool.specs.Pooled.{Pooled};
 ghost use Rattle.kfifo_live.specs.declared.view.Opening.{Opening};
+ghost use Rattle.kfifo_renewing.specs.History.{EachLeftTogether};
 ghost use Rattle.kfifo_renewing.specs.Joining.{HaveParts, IsBeside, IsPart, PartView, held_by, held_in};
 ghost use Rattle.kfifo_renewing.specs.declared.change.Change.{Change};
 ghost use Rattle.kfifo_renewing.specs.Renewing.{AreOfOneQueue, ClosesAll, ClosesEach, EndsGone, Gathers, Generations};
@@ -203,6 +204,7 @@ pub(crate) fn gather<T: Drop, K: Kind<T>>(
         × (handles.items ≡ others ++ last ∷ []) × Gathers others last (held_by r.all.items) r.history.log
         × HaveParts r.history.log others r.theirs.parts.items) }
     ensures book { IfOk result (λ r. All (λ g. g.book ≡ r.history.book) handles.items) }
+    ensures together { IfOk result (λ r. EachLeftTogether r.history.log) }
     ensures parts { IfOk result (λ r. (log : List Change) × All (IsPart log) r.all.items
         × All (IsPart log) r.theirs.parts.items) }
     ensures opened { IfOk result (λ r. All (λ p. IsOpenedAs (opening_with K.bare r.sizes) p.handle) r.all.items
@@ -227,6 +229,8 @@ pub(crate) fn gather<T: Drop, K: Kind<T>>(
     // With a cell in hand a handle stays in a generation that has gone. If others have left that generation, it cannot
     // be closed, so the last handle leaves it now.
     let parts = leave_gone(alloc, shared.places(), parts, &mut history)?;
+    let seen = history.again();
+    history.learn(&seen);
     let Some(shared) = Arc::into_inner(shared) else {
         return Err(CloseFault::MissingPass);
     };

@@ -48,6 +48,7 @@ impl<T: Drop> Core<T> {
     {
         let seen = history.again();
         history.learn(&seen);
+        part.pass().has_ended();
         if !self.next.depart(0, &part, history) {
             return (None, Some(part));
         }
@@ -63,7 +64,7 @@ impl<T: Drop> Core<T> {
     pub(crate) fn join(
         &self,
         departed: Departed<T>,
-        part: Leaving<Joined<T>>,
+        mut part: Leaving<Joined<T>>,
         history: &mut History,
     ) -> (Departed<T>, Option<Leaving<Joined<T>>>)
         requires departed { HaveDeparted self.now departed.history.book departed.history.log departed.count
@@ -81,15 +82,17 @@ impl<T: Drop> Core<T> {
             history: seen,
         } = departed;
         history.learn(&seen);
+        let mut group = passes.into_inner();
+        // The entry says that one schedule has what all of them did, so the group sees first what the pass has seen.
+        part.meet(&self.queue, &mut group);
         if !self.next.depart(count, &part, history) {
             let departed = Departed {
-                passes,
+                passes: Exclusive::new(group),
                 count,
                 history: seen,
             };
             return (departed, Some(part));
         }
-        let mut group = passes.into_inner();
         self.queue.join(&mut group, part.end());
         let departed = Departed {
             passes: Exclusive::new(group),

@@ -4,7 +4,8 @@
 ghost use Rattle.std.specs.Prelude.{◌≡◌, ◌≢◌, ◌+◌, ◌++◌, ◌^◌, ◌<◌, ◌≤◌, ℕ, List, [], ◌∷◌, IfOk, IfSome, length, true};
 ghost use Rattle.logbook.specs.Pages.{may_make, may_write, nib};
 ghost use mathlib.Core.List.{IsPrefix};
-ghost use Rattle.kfifo_renewing.specs.History.{AreLabels, Finds, HasRisen, IsMade, IsPlaced, WasNewest, key_of};
+ghost use Rattle.kfifo_renewing.specs.History.{AreLabels, Finds, HasRisen, IsMade, IsNextToLeave, IsPlaced};
+ghost use Rattle.kfifo_renewing.specs.History.{WasNewest, key_of};
 ghost use Rattle.kfifo_renewing.specs.History.{left_of, made_by, newest_of, next_in as next_of, opens_more};
 ghost use Rattle.kfifo_renewing.specs.History.{place_count, sight_of};
 ghost use Rattle.kfifo_renewing.specs.declared.change.Change.{Change as HasChanged};
@@ -307,7 +308,8 @@ impl Next {
     }
 
     /// Counts the pass of this part among those that have left the generation, if exactly `count` have left it before.
-    /// The generation is no longer the newest. Returns whether it counted the pass.
+    /// The generation is no longer the newest, and one schedule has what all these did there. Returns whether it counted
+    /// the pass.
     pub(crate) fn depart<T: Drop>(
         &self,
         count: u64,
@@ -318,6 +320,8 @@ impl Next {
         requires newest { WasNewest history.old.log self.now.number }
         requires over { self.now.number < newest_of history.old.log }
         requires number { part.now.number ≡ self.now.number }
+        requires together { IsNextToLeave history.old.log self.now.number count
+            (sight_of part.now.handle.held.pass.pass) }
         ensures later { (history.new.book ≡ history.old.book) × IsPrefix history.old.log history.new.log }
         ensures few { result ≡ true → count < 2 ^ 32 }
         ensures left { result ≡ true → (before : List HasChanged) → IsPrefix before history.old.log

@@ -1,5 +1,6 @@
 //! A generation that a handle has joined.
 ghost use Rattle.std.specs.Prelude.{◌≡◌, ◌↔◌, IfSome, MatchOption, false, true};
+ghost use Rattle.kfifo_live.specs.Groups.{Meets};
 ghost use Rattle.kfifo_live.specs.Pass.{IsPassOf};
 ghost use Rattle.kfifo_pool.specs.Pooled.{GivesOne, no_cells};
 ghost use mathlib.Core.List.{IsPrefix};
@@ -13,7 +14,7 @@ use crate::history::History;
 use crate::kind::Kind;
 use crate::leaving::{Leave, Leaving};
 use crate::places::Places;
-use kfifo_live::{Given, Taken, TakenOrSealed};
+use kfifo_live::{Given, Taken, TakenOrSealed, TokenGroup, TokenPass};
 use kfifo_pool::{PooledHandle, PooledQueue};
 use std::alloc::Global;
 use std::marker::Model;
@@ -140,6 +141,23 @@ impl<T: Drop> Leaving<Joined<T>> {
         part.end_giving();
         let (_, handle) = part.into_parts();
         handle
+    }
+
+    /// The pass in the generation.
+    pub(crate) fn pass(&self) -> &TokenPass<T>
+        ensures { result.now ≡ self.now.handle.held.pass }
+    {
+        self.part.handle.pass()
+    }
+
+    /// Has a group of the generation's queue, which is this, see what the pass has seen. The part stays as it is.
+    pub(crate) fn meet(&mut self, queue: &PooledQueue<T>, group: &mut TokenGroup<T>)
+        requires of { IsPassOf queue.now self.old.handle.held.pass.pass }
+        requires group { IsPassOf queue.now group.old.first.pass }
+        ensures same { self.new ≡ self.old }
+        ensures meets { Meets self.old.handle.held.pass group.old group.new }
+    {
+        queue.meet(group, &mut self.part.handle);
     }
 
     /// Tries to leave the generation, which is no longer the newest, as `Generation::depart` does. Returns the part if

@@ -3,12 +3,13 @@ use Rattle.std.proofs.Common.{◌≡◌, [], ◌∷◌, refl, sym, ap, ◌∙◌
 use Rattle.std.specs.List.{Contains}
 use Rattle.std.proofs.lemmas.List.{append-nil}
 use mathlib.Core.List.{IsPrefix}
-use Rattle.kfifo_live.specs.Groups.{GroupView, LeavesNothing}
+use Rattle.kfifo_live.specs.Groups.{GroupView, LeaveNothing}
+use Rattle.kfifo_live.specs.Payloads.{PayPassView}
 use Rattle.kfifo_pool.specs.Pooled.{Pooled}
-use Rattle.kfifo_renewing.specs.History.{IsGone, left_of, sight_of}
+use Rattle.kfifo_renewing.specs.History.{AreInOne, IsGone, left_of, made_by, sight_of}
 use Rattle.kfifo_renewing.specs.Renewing.{Numbered}
 use Rattle.kfifo_renewing.proofs.Histories.{gone-later, prefix-trans}
-use Rattle.kfifo_renewing.proofs.Leavers.{has-left, left-first, over-of, was-of}
+use Rattle.kfifo_renewing.proofs.Leavers.{first-one, has-left, left-first, made-there, over-of, was-of}
 use Rattle.kfifo_renewing.proofs.Parts.{contains-head}
 use Rattle.kfifo_renewing.proofs.generation.Core.begin.Goals as goal
 
@@ -25,6 +26,20 @@ depart-requires-clause-over g c =
     over-of kept.0 c.args.history.now.log c.learn.new.self.log c.args.part.number c.self.inside.next.number
     (c.requires.part.0 ∙ sym (ap (λ (v : Numbered). v.number) c.self.view_is)) kept.1 c.learn.ensures.2
     c.requires.may.over
+
+pub depart-requires-clause-together : goal.depart-requires-clause-together
+depart-requires-clause-together g c =
+    let p = c.args.part.handle.held.pass in
+    let log = c.learn.new.self.log in (
+      [],
+      made_by c.args.self.now.queue,
+      (log, refl),
+      refl,
+      made-there c.args.self.now c.args.history.now.log log c.args.part c.self.inside.next.number
+          (ap (λ (v : Numbered). v.number) c.self.view_is) c.learn.ensures.2 c.requires.part c.requires.may.part,
+      first-one c.args.self.now p c.requires.part.2 (c.requires.may.sealed refl)
+          (subst (λ (x : PayPassView g.row.T.Denot). LeaveNothing (x ∷ []) x.pass) c.pass.ensures c.has_ended.ensures),
+    )
 
 pub returns-clause-departed : goal.returns-clause-departed
 returns-clause-departed g c =
@@ -51,7 +66,6 @@ returns-clause-departed g c =
     (ap (λ (v : GroupView T). v.first) group ∙ c.into_group.ensures.first
     ∙ ap (λ (h : Pooled T). h.held.pass) c.end.ensures)
     (ap (λ (v : GroupView T). v.others) group ∙ c.into_group.ensures.alone)
-    (subst (λ (v : GroupView T). LeavesNothing v) (sym group) c.into_group.ensures.nothing)
 
 pub returns-clause-left : goal.returns-clause-left
 returns-clause-left g c =
@@ -63,6 +77,9 @@ returns-clause-left g c =
     let entry : left_of c.args.self.now.number c.again.result.log ≡ sight_of p.pass ∷ [] =
     subst (λ m. left_of m c.again.result.log ≡ sight_of p.pass ∷ []) number
     (ap (left_of n) is ∙ c.if-not-depart.ensures.left refl [] (c.learn.new.self.log, refl) refl) in
-    has-left c.args.self.now c.again.result.book c.again.result.log log 1 c.new.result.inner c.args.part
-    (returns-clause-departed g c) c.requires.part ([], append-nil c.again.result.log ∙ is)
+    has-left c.args.self.now c.again.result.log log c.args.part (returns-clause-departed g c).gone c.requires.part
+    ([], append-nil c.again.result.log ∙ is)
     (subst (λ l. Contains l (sight_of p.pass)) (sym entry) (contains-head (sight_of p.pass) []))
+    (subst (AreInOne (made_by c.args.self.now.queue)) (sym entry)
+    (first-one c.args.self.now p c.requires.part.2 (c.requires.may.sealed refl)
+    (subst (λ (x : PayPassView g.row.T.Denot). LeaveNothing (x ∷ []) x.pass) c.pass.ensures c.has_ended.ensures)))

@@ -6,9 +6,9 @@ use Rattle.std.proofs.lemmas.Nat.{div_below}
 use prog.Atomic.{either}
 use Rattle.logbook.specs.Pages.{Moves, step}
 use Rattle.kfifo_renewing.specs.declared.change.Change.TheVariants as C
-use Rattle.kfifo_renewing.specs.History.{IsKept, Leaves, NextView, WasNewest, key_of, left_in, left_of}
+use Rattle.kfifo_renewing.specs.History.{IsKept, IsNextToLeave, Leaves, NextView, WasNewest, key_of, left_in, left_of}
 use Rattle.kfifo_renewing.specs.History.{sight_of}
-use Rattle.kfifo_renewing.proofs.Departing.{depart-moves}
+use Rattle.kfifo_renewing.proofs.Departing.{depart-moves, next-later}
 use Rattle.kfifo_renewing.proofs.Histories.{prefix-trans, risen-from, was-later}
 use Rattle.kfifo_renewing.proofs.Keeping.{moved, shown}
 use Rattle.kfifo_renewing.proofs.history.Next.depart.Goals as goal
@@ -40,7 +40,9 @@ compare_exchange-found-requires g c =
           (depart-moves log pen t n w
           (was-later old log n more (subst (WasNewest old) (sym number) c.requires.newest))
           (let over = c.requires.over in let rises = risen-from old log more c.read-word.ensures.finds.risen in
-          omega (arith, over, rises, number))))),
+          omega (arith, over, rises, number))
+          (next-later old log n c.args.count w t more (sym c.if-word-count.false)
+          (subst (λ m. IsNextToLeave old m c.args.count t) (sym number) c.requires.together))))),
     )
 
 pub returns-clause-few : goal.returns-clause-few
