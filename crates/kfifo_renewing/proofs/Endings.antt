@@ -15,6 +15,7 @@ use Rattle.kfifo_pool.specs.Pooled.{Pooled}
 use Rattle.kfifo_live.specs.Pass.{IsPassOf, OpenQueue}
 use Rattle.kfifo_live.specs.declared.view.Opening.{Opening}
 use Rattle.kfifo_renewing.specs.declared.change.Change.{Change}
+use Rattle.kfifo_renewing.specs.declared.change.Made.{Made}
 use Rattle.kfifo_renewing.specs.Cells.{CellsWereLeft, LeavesCells}
 use Rattle.kfifo_renewing.specs.History.{IsMade, queue_in}
 use Rattle.kfifo_renewing.specs.Joining.{HaveParts, IsBeside, IsPart, PartView, held_by, held_in}
@@ -93,7 +94,8 @@ module _ {T : Type 0} where
       let same : p.number ≡ h.number = grind (arith, nat_tests) in
       let made = subst (λ n. IsMade log n (queue_in p.handle.held.pass.pass)) same other.made in
       let first = part.made in
-      (cc, other-opened ∙ sym opened)
+      let queue : queue_in p.handle.held.pass.pass ≡ queue_in h.handle.held.pass.pass = cc in
+      (ap (λ (q : Made). q.table) queue, other-opened ∙ sym opened)
 
   -- parts in one generation, by what the history says of it
   pub beside : (log : List Change) (o : Opening) (h : PartView T) (kept : List (PartView T)) → IsPart log h

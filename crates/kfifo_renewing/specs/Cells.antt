@@ -8,6 +8,7 @@ use Rattle.kfifo_live.specs.declared.payload.Taken.{Taken}
 use Rattle.kfifo_pool.specs.Cells.{CancelsCell, PublishesCell, ReleasesCell, ReservesCell, cell_in}
 use Rattle.kfifo_live.specs.Pass.{Closes, OpenQueue}
 use Rattle.kfifo_pool.specs.Pooled.{Pooled, passes_in}
+use Rattle.kfifo_renewing.specs.History.{EachLeftTogether}
 use Rattle.kfifo_renewing.specs.declared.cells.CellCall.{CellCall}
 use Rattle.kfifo_renewing.specs.declared.cells.CellCall.TheVariants as C
 use Rattle.kfifo_renewing.specs.declared.change.Change.{Change}

@@ -1,5 +1,6 @@
 -- The generations of the last handle are closed, by the parts of all handles.
 use Rattle.std.proofs.Common.{ap, sym, subst}
+use Rattle.kfifo_renewing.specs.History.{EachLeftTogether}
 use Rattle.kfifo_renewing.specs.Joining.{HaveParts, held_by}
 use Rattle.kfifo_renewing.specs.Renewing.{Gathers}
 use Rattle.kfifo_renewing.proofs.closing.close.Goals as goal
@@ -18,4 +19,5 @@ returns-clause-closes g c =
           log gathers,
       each.0,
       each.1,
+      subst EachLeftTogether log c.in_ok-gathered.ensures.together,
     )

@@ -4,8 +4,9 @@ use Rattle.std.proofs.lemmas.List.Elements.{All-contains, All-push}
 use mathlib.Core.List.{IsPrefix}
 use Rattle.kfifo_live.specs.declared.view.Opening.{Opening}
 use Rattle.kfifo_renewing.specs.Joining.{IsPart, PartView, held_by}
-use Rattle.kfifo_renewing.specs.Renewing.{EndsGone, IsOpenedAs, opening_in, opening_with}
+use Rattle.kfifo_renewing.specs.Renewing.{EndsGone, IsOpenedAs, all_of, opening_in, opening_with}
 use Rattle.kfifo_renewing.specs.declared.places.Lineage.{Lineage}
+use Rattle.kfifo_renewing.proofs.Departures.{ends-later}
 use Rattle.kfifo_renewing.proofs.Endings.{have-later, one-queue, seen-later}
 use Rattle.kfifo_renewing.proofs.Histories.{prefix-trans}
 use Rattle.kfifo_renewing.proofs.Joining.{parts-later}
@@ -22,10 +23,18 @@ learn-requires g c = record {
   book = c.in_ok-theirs.ensures.later.0 ∙ ap (λ h. h.book) c.again-seen.ensures ∙ c.history.ensures.0;
 }
 
+pub returns-clause-together : goal.returns-clause-together
+returns-clause-together g c = c.learn-2.ensures.4.1.holds.together
+
 pub returns-clause-all : goal.returns-clause-all
 returns-clause-all g c =
     let told = c.learn.new.self in
-    let log = c.take_apart.new.history.log in (
+    let log = c.take_apart.new.history.log in
+    let left = c.leave_gone.new.history.log in
+    let new = c.learn-2.new.self.log in
+    let later : IsPrefix c.catch_up.new.self.seen new = prefix-trans c.catch_up.new.self.seen left new
+    (subst (λ l. IsPrefix l left) c.in_ok-shared.ensures.history.1 c.leave_gone.ensures.later.1)
+    c.learn-2.ensures.2 in (
       c.in-Some.last,
       c.pop.new.self.items,
       c.in-Some.ensures.items,
@@ -38,27 +47,25 @@ returns-clause-all g c =
         c.catch_up.ensures.follows,
         c.if-not-catch_up.ensures.newest,
         c.catch_up.ensures.all,
-        subst (λ l. IsPrefix l c.leave_gone.new.history.log) c.in_ok-shared.ensures.history.1
-            c.leave_gone.ensures.later.1,
-        subst (λ hs. EndsGone c.leave_gone.new.history.log hs (held_by c.in_ok-parts.parts.items))
-            c.in_ok-shared.ensures.joined c.in_ok-parts.ensures.left,
+        later,
+        ends-later left new (all_of c.catch_up.new.self) (held_by c.in_ok-parts.parts.items) c.learn-2.ensures.2
+            (subst (λ hs. EndsGone left hs (held_by c.in_ok-parts.parts.items)) c.in_ok-shared.ensures.joined
+            c.in_ok-parts.ensures.left),
       ),
-      have-later log c.leave_gone.new.history.log c.pop.new.self.items c.in_ok-theirs.theirs.items
-          (prefix-trans log told.seen c.leave_gone.new.history.log c.learn.ensures.seen
-          (prefix-trans told.seen c.catch_up.new.self.seen c.leave_gone.new.history.log
-          c.catch_up.ensures.follows.later.seen
-          (subst (λ l. IsPrefix l c.leave_gone.new.history.log) c.in_ok-shared.ensures.history.1
-          c.leave_gone.ensures.later.1))) c.in_ok-theirs.ensures.all,
+      have-later log new c.pop.new.self.items c.in_ok-theirs.theirs.items
+          (prefix-trans log told.seen new c.learn.ensures.seen
+          (prefix-trans told.seen c.catch_up.new.self.seen new c.catch_up.ensures.follows.later.seen later))
+          c.in_ok-theirs.ensures.all,
     )
 
 pub returns-clause-book : goal.returns-clause-book
 returns-clause-book g c =
-    let same = c.leave_gone.ensures.later.0 ∙ c.in_ok-shared.ensures.history.0 ∙ c.catch_up.ensures.follows.later.book
+    let same = c.learn-2.ensures.0 ∙ c.leave_gone.ensures.later.0 ∙ c.in_ok-shared.ensures.history.0 ∙ c.catch_up.ensures.follows.later.book
     ∙ c.learn.ensures.later.book in
     let one = one-queue c.args.handles.items c.pop.new.self.items c.in-Some.last c.in-Some.ensures.items c.requires in
     let book = sym (same ∙ one.5) in
-    subst (All (λ h. h.book ≡ c.leave_gone.new.history.book)) (sym c.in-Some.ensures.items)
-    (All-push (λ h. h.book ≡ c.leave_gone.new.history.book) c.pop.new.self.items c.in-Some.last
+    subst (All (λ h. h.book ≡ c.learn-2.new.self.book)) (sym c.in-Some.ensures.items)
+    (All-push (λ h. h.book ≡ c.learn-2.new.self.book) c.pop.new.self.items c.in-Some.last
     (λ k d inside. one.3 k d inside ∙ book) (sym same))
 
 pub returns-clause-parts : goal.returns-clause-parts
