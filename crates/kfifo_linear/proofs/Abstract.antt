@@ -15,7 +15,7 @@ use Rattle.kfifo_linear.specs.Ledger.{Ledger, called, found_in, ledger_after, le
 use Rattle.kfifo_machine.specs.Machine.{World, begun, found, may_begin, may_seal, moved, place_after, place_of, run}
 use Rattle.kfifo_machine.specs.Machine.{sealed, step, step_from, ticked, word_at, words_after}
 use Rattle.kfifo_machine.specs.Program.{access, accessed, advance, sealed_word}
-use Rattle.kfifo_machine.proofs.Versions.{sealable, sealed-same, seal-above}
+use Rattle.kfifo_machine.proofs.Versions.{sealed-same, seal-above}
 use Rattle.kfifo_linear.proofs.Types.{Begin, Event, Outcome, Running, Shape}
 use Rattle.kfifo_machine.specs.declared.event.NotEnabled.{NotEnabled}
 use Rattle.kfifo_machine.specs.declared.place.Access.{Access}

@@ -20,7 +20,7 @@ use Rattle.kfifo_machine.specs.declared.place.DequeuePhase.{DequeuePhase}
 use Rattle.kfifo_machine.specs.declared.place.EnqueuePhase.{EnqueuePhase}
 use Rattle.kfifo_machine.specs.declared.place.Found.TheVariants.{Nothing, Slot}
 use Rattle.kfifo_machine.specs.declared.place.Next.TheVariants.{Answers, Goes}
-use Rattle.kfifo_words.specs.Ring.{clock_at, next_segment}
+use Rattle.kfifo_words.specs.Ring.{next_segment}
 use Rattle.kfifo_words.specs.Words.{head_of, tail_of, value_of, version_of}
 use Rattle.kfifo_machine.specs.Places.{IsSlotIndex}
 use Rattle.kfifo_machine.proofs.NoWrap.{EndsOk, head_below, tail_below, same_end, other_end, full_ring, room_in_ring}

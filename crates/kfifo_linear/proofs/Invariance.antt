@@ -23,7 +23,6 @@ use Rattle.kfifo_machine.specs.Places.{IsSlotIndex}
 use Rattle.kfifo_machine.specs.Program.{access, accessed, advance}
 use Rattle.kfifo_linear.proofs.Types.{Answer, Begin, Event, Running, Shape}
 use Rattle.kfifo_model.specs.declared.calls.Answer.TheVariants.{Got}
-use Rattle.kfifo_words.specs.Ring.{clock_at}
 use Rattle.kfifo_words.specs.Words.{value_of}
 
 -- a call's begin

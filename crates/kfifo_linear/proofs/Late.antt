@@ -26,7 +26,6 @@ use Rattle.kfifo_machine.specs.Places.{IsSlotIndex}
 use Rattle.kfifo_machine.specs.Program.{access, advance, scan_index}
 use Rattle.kfifo_linear.proofs.Types.{Begin, Event, Running, Shape}
 use Rattle.kfifo_machine.specs.declared.place.Found.TheVariants.{Nothing}
-use Rattle.kfifo_words.specs.Ring.{clock_at}
 use Rattle.kfifo_words.specs.Words.{head_of, value_of}
 
 -- the slots that a scan of the head's segment saw: what stands in one was put while the head was here, as long as the

@@ -1,29 +1,28 @@
 -- A queue that was found empty and then sealed stays empty: no item is settled any more.
-use Rattle.std.proofs.Common.{◌≡◌, ◌≢◌, ◌⊎◌, ℕ, ◌+◌, ◌<◌, ◌≤◌, List, [], ◌∷◌, ◌++◌, length, Option, Some, None, Ok}
-use Rattle.std.proofs.Common.{refl, sym, ap, ◌∙◌, subst, inl, inr, arith, true, false, append_assoc}
+use Rattle.std.proofs.Common.{◌≡◌, ◌≢◌, ℕ, ◌+◌, ◌<◌, ◌≤◌, List, [], ◌∷◌, ◌++◌, length, Option, Some, None, Ok}
+use Rattle.std.proofs.Common.{refl, sym, ap, ◌∙◌, inl, inr, arith, true, false}
 use Rattle.std.proofs.lemmas.Bool.{cases_eq, cases_Bool}
 use Rattle.std.proofs.lemmas.Bool.Decides.{nat_tests}
 use Rattle.kfifo_linear.proofs.Types.{Answer, Begin, Event, Outcome, Running, Shape}
 use Rattle.kfifo_model.specs.declared.calls.Answer.TheVariants.{Empty}
 use Rattle.kfifo_model.specs.Histories.{call}
 use Rattle.kfifo_words.specs.Words.{value_of, version_of, head_of, tail_of}
-use Rattle.kfifo_words.specs.Ring.{distance, clock_at}
+use Rattle.kfifo_words.specs.Ring.{distance}
 use Rattle.kfifo_machine.specs.declared.event.Begin.TheVariants as B
 use Rattle.kfifo_machine.specs.declared.event.Outcome.TheVariants.{Went, Ended}
 use Rattle.kfifo_machine.specs.declared.place.EnqueuePhase.TheVariants as E
 use Rattle.kfifo_machine.specs.declared.place.DequeuePhase.TheVariants as D
 use Rattle.kfifo_machine.specs.declared.place.Running.TheVariants as R
 use Rattle.kfifo_machine.specs.declared.place.Access.TheVariants.{Load}
-use Rattle.kfifo_machine.specs.declared.place.Next.TheVariants.{Goes, Answers}
+use Rattle.kfifo_machine.specs.declared.place.Next.TheVariants.{Answers}
 use Rattle.kfifo_machine.specs.Program.{access, accessed, advance}
 use Rattle.kfifo_machine.specs.Machine.{World, opening, word_at, place_of, found, moved, step, run, world_of, after}
 use Rattle.kfifo_machine.specs.Runs.{going}
 use Rattle.kfifo_machine.specs.Calls.{log_of}
 use Rattle.kfifo_machine.specs.Places.{IsSlotIndex}
-use Rattle.kfifo_machine.proofs.NoWrap.{EndsOk}
 use Rattle.kfifo_machine.proofs.Ahead.{distance-value}
-use Rattle.kfifo_machine.proofs.Schedules.{Some-injective, first_made, stepped, run_on, run_before, after-snoc}
-use Rattle.kfifo_machine.proofs.Sound.{IsSound, sound, step_sound, sound_ends}
+use Rattle.kfifo_machine.proofs.Schedules.{Some-injective, first_made, stepped, run_on}
+use Rattle.kfifo_machine.proofs.Sound.{IsSound, sound, step_sound}
 use Rattle.kfifo_machine.proofs.Versions.{no_going_seal, one_word, word_rises, run_rises}
 use Rattle.kfifo_machine.proofs.BusyIsDisturbed.{sound-ends}
 use Rattle.kfifo_machine.proofs.Calls.{first_goes, log_is}
@@ -33,7 +32,7 @@ use Rattle.kfifo_linear.specs.Ledger.{ledger_of}
 use Rattle.kfifo_linear.specs.Ledger as ledger
 use Rattle.kfifo_linear.specs.declared.action.Action.TheVariants.{RecheckEmpty}
 use Rattle.kfifo_linear.specs.Order.{ledger_after_all}
-use Rattle.kfifo_linear.specs.Seals.{AllSeal, FoundEmpty, HasPut, IsPutBy, IsSealed, SealedEmpty, StaysEmpty}
+use Rattle.kfifo_linear.specs.Seals.{AllSeal, HasPut, IsPutBy, StaysEmpty}
 use Rattle.kfifo_linear.proofs.Abstract.{event_at, noted-same, noted_tells, word_at-moved, words_by}
 use Rattle.kfifo_linear.proofs.Base.{InRing, Sane, ends_in_ring}
 use Rattle.kfifo_linear.proofs.Invariant.{HasOwn, Inv, Own, ThreadOk, is_gone, is_putting}

@@ -11,7 +11,7 @@ use Rattle.kfifo_words.specs.Words.{value_of, head_of}
 use Rattle.kfifo_words.specs.Ring.{next_segment, slot_at}
 use Rattle.kfifo_machine.specs.Machine.{World, opening, place_of, run, word_at}
 use Rattle.kfifo_machine.specs.Places.{IsSlotIndex}
-use Rattle.kfifo_machine.specs.Runs.{Begins, own}
+use Rattle.kfifo_machine.specs.Runs.{Begins}
 use Rattle.kfifo_machine.proofs.Schedules.{run_before, same_place}
 use Rattle.kfifo_machine.proofs.Sound.{sound_ends, sound_threads}
 use Rattle.kfifo_machine.proofs.Versions.{next_segment-below}
@@ -21,7 +21,7 @@ use Rattle.kfifo_live.specs.Schedule.{world_after}
 use Rattle.kfifo_live.specs.Left.{item_in, slots_left, segments_left, items_left}
 use Rattle.kfifo_live.specs.Pass.{PassView, AllSeen, AllIdle, HaveAllThreads, HaveComeOut, OneSealedEmpty}
 use Rattle.kfifo_live.specs.Pass.{WasSealedEmpty}
-use Rattle.kfifo_live.proofs.Balance.{balance, get_or-replicate}
+use Rattle.kfifo_live.proofs.Balance.{balance}
 
 -- the thread of a pass is idle after the whole schedule
 still_idle : (o : Opening) (p : PassView) (all : List Event) (world : World) → world_after o all ≡ Some world

@@ -14,7 +14,7 @@ use Rattle.kfifo_live.specs.Hands.{Gifts}
 use Rattle.kfifo_live.specs.Pass.{AllIdle, AllSeen, HaveComeOut, IsPass, PassView, pass_view}
 use Rattle.kfifo_live.specs.Payloads.{EndsIn, PayPassView, passes_of, pay_pass_view}
 use Rattle.kfifo_live.specs.Schedule.{AllBegin, AllGiven, GiftsFit, IsSmall, both_parts, first_part, gifts_of, hand_of}
-use Rattle.kfifo_live.specs.Schedule.{more_in, no_part, other_parts, part, seen_of, thread_in, thread_of, view_of}
+use Rattle.kfifo_live.specs.Schedule.{more_in, other_parts, part, seen_of, thread_in, thread_of, view_of}
 use Rattle.kfifo_live.specs.Schedule.{world_after}
 use Rattle.kfifo_live.specs.Step.{Looks}
 use Rattle.kfifo_live.specs.declared.view.Opening.{Opening}
