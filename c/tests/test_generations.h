@@ -39,6 +39,27 @@ static void stop(void) {
     atomic_fetch_add(&gone_on, 1);
 }
 
+/* The blocks of each size that an opening asks for, and those that came later. A change asks for no more blocks of a
+   size than an opening, which makes a generation and has each handle join it. */
+enum { SIZES = 64 };
+static struct {
+    size_t size;
+    unsigned long in_opening;
+    atomic_ulong later;
+} sizes[SIZES];
+static int is_opening; /* whether what is asked for is counted as an opening's: none is, unless a test says so */
+
+static void count_request(size_t size) {
+    int i = 0;
+    while (i < SIZES - 1 && sizes[i].size && sizes[i].size != size) i++;
+    if (is_opening) {
+        sizes[i].size = size;
+        sizes[i].in_opening++;
+    } else if (sizes[i].in_opening) {
+        atomic_fetch_add(&sizes[i].later, 1);
+    }
+}
+
 /* A thread that stopped within malloc might hold a lock there, for which the others would wait. So it stops before or
    after it. */
 static void enter_memory(void) {
@@ -60,6 +81,7 @@ void __real_free(void *block);
 /* The linker hands the library's calls of malloc, realloc and free to these. */
 void *__wrap_malloc(size_t size) {
     enter_memory();
+    count_request(size);
     void *block = __real_malloc(size);
     if (block) atomic_fetch_add(&blocks, 1);
     leave_memory();

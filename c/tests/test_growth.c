@@ -1,6 +1,6 @@
 /* Queues of values and of cells that grow where they have no room: one thread and several, to the bound and back, with
    a handle that makes no calls. Each value comes out once, by one thread in its order, and then there is one generation
-   again. */
+   again. And queues that grow without a reserve of versions. */
 #include "test_queues.h"
 #include <pthread.h>
 #include <sched.h>
@@ -103,6 +103,36 @@ static void to_its_bound(int kind) {
     expect(any_end(&queue), KFIFO_DONE, "an end");
 }
 
+/* With reserve 0 a queue that grows goes on where a give finds no version left. No take reaches what is left in the old
+   generation, since nothing was kept in reserve for that: a close gives it back. */
+static void without_a_reserve(int kind) {
+    enum { LAST = 16, MORE = 4 };
+    static struct any_queue queue;
+    uint64_t given = 0, taken = 0, got = 0;
+    size_t count = 0;
+    kfifo_status status = any_open(&queue, kind, 1, 8, LAST, 0, 3, 1);
+    expect(status, KFIFO_DONE, "an opening without a reserve");
+    size_t room = room_of(&queue);
+    while (status == KFIFO_DONE && given < LAST) {
+        give_all(&queue, 0, given, given + 1);
+        given++;
+        status = any_take(&queue, 0, &got);
+        if (status != KFIFO_DONE) break;
+        expect(got, taken, "a value while there are versions");
+        taken++;
+    }
+    expect(status, KFIFO_WORN, "a take of a generation with no version left");
+    expect(room_of(&queue), room, "the room of one generation");
+    give_all(&queue, 0, given, given + MORE);
+    if (kind == OF_VALUES) expect(room_of(&queue) > room, 1, "a generation that a give has opened for its versions");
+    expect(any_take(&queue, 0, &got), KFIFO_WORN, "a take while the old generation has a value");
+    uint64_t *left = any_left(&queue, given + MORE, &count, &status);
+    expect(status, KFIFO_DONE, "a close of a queue without a reserve");
+    expect(count, given + MORE - taken, "what no take has reached");
+    for (size_t i = 0; i < count && !failed; i++) expect(left[i], taken + i, "what no take has reached, in its order");
+    free(left);
+}
+
 /* One handle makes no calls while the queue grows and shrinks. It keeps the generation that it is in, and no other. */
 static void beside_an_idle_handle(int kind) {
     static struct any_queue queue;
@@ -182,6 +212,7 @@ int main(void) {
     for (int kind = OF_VALUES; kind <= OF_CELLS; kind++) {
         one_thread(kind);
         to_its_bound(kind);
+        without_a_reserve(kind);
         beside_an_idle_handle(kind);
         several_threads(kind, 1);
         several_threads(kind, 4);

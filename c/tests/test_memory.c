@@ -264,18 +264,22 @@ static int asks_for_room(struct any_queue *queue, long number) {
     return met;
 }
 
-/* Closes a queue, and expects the values from `first` to the one before `end` in their order. The request of this
-   number is refused where the room is asked for. Whether none was. */
-static int closes_few(struct any_queue *queue, uint64_t first, uint64_t end, long number) {
+/* Closes a queue, and expects the values from `first` to the one before `end` in their order. */
+static void closes_in_order(struct any_queue *queue, uint64_t first, uint64_t end) {
     size_t count = 0;
     kfifo_status status = KFIFO_DONE;
-    int met = asks_for_room(queue, number);
     uint64_t *left = any_left(queue, MOST, &count, &status);
-    expect(status, KFIFO_DONE, "a close of a queue with few versions");
+    expect(status, KFIFO_DONE, "a close of several generations");
     expect((long)count, (long)(end - first), "values of all generations");
     for (size_t i = 0; i < count; i++) expect((long)left[i], (long)(first + i), "a value that is left");
     free(left);
-    expect(blocks, 0, "blocks left by a queue with few versions");
+    expect(blocks, 0, "blocks left by a close of several generations");
+}
+
+/* The same, with the request of this number refused where the room is asked for. Whether none was. */
+static int closes_few(struct any_queue *queue, uint64_t first, uint64_t end, long number) {
+    int met = asks_for_room(queue, number);
+    closes_in_order(queue, first, end);
     return !met;
 }
 
@@ -430,32 +434,55 @@ static void each_request(int of_cells, long *of_open, long *of_close) {
     expect(*of_open > 1 && *of_close > 1, 1, "an open and a close of values or cells ask for memory");
 }
 
-/* A queue grows with the request of this number refused: that give says so, and nothing is lost. Later ones grow it
-   after all. Whether that request was made. */
-static int grows(int of_cells, long number) {
-    static struct any_queue queue;
-    enum { GENERATIONS = 20 }; /* one of them has room for 15 to 111 */
-    uint64_t given = 0, taken = 0, value = 0, least = GENERATIONS * CAPACITY;
-    long refused = 0;
-    kfifo_status status = any_open(&queue, of_cells, 1, CAPACITY, KFIFO_LAST, KFIFO_RESERVE, GENERATIONS, THREADS);
+enum { GENERATIONS = 20, GROWN = GENERATIONS * CAPACITY }; /* one of them has room for 15 to 111 */
+
+/* Opens a queue that grows, and gives as many values as it has room for at least, with the request of this number
+   refused: that give says so, and later ones grow it after all, unless it `stops` there. Writes how many were given.
+   Whether that request was made. */
+static int gives_growing(struct any_queue *queue, int of_cells, long number, int stops, uint64_t *given) {
+    long without = 0;
+    kfifo_status status = any_open(queue, of_cells, 1, CAPACITY, KFIFO_LAST, KFIFO_RESERVE, GENERATIONS, THREADS);
     expect(status, KFIFO_DONE, "an open of a queue that grows");
     refuse(number);
-    while (given < least && refused < 10 && !failed) {
-        status = gives(&queue, 0, given);
-        if (status == KFIFO_DONE) given++;
+    for (*given = 0; *given < GROWN && without < 10 && !failed && !(stops && requests >= number);) {
+        status = gives(queue, 0, *given);
+        if (status == KFIFO_DONE) ++*given;
         if (status != KFIFO_DONE) expect(status, KFIFO_NO_MEMORY, "a give that cannot grow");
-        refused += status != KFIFO_DONE;
+        without += status != KFIFO_DONE;
     }
     int met = requests >= number;
     refuse(0);
-    expect((long)given, (long)least, "how many values a queue that grows has room for");
-    expect(refused <= met, 1, "gives that found no memory");
-    for (; taken < given && !failed; taken++) {
+    expect(without <= met, 1, "gives that found no memory");
+    return met;
+}
+
+/* A queue grows with the request of this number refused, and nothing is lost: all that was given is taken. Whether that
+   request was not made. */
+static int grows(int of_cells, long number) {
+    static struct any_queue queue;
+    uint64_t given = 0, value = 0;
+    int met = gives_growing(&queue, of_cells, number, 0, &given);
+    expect((long)given, GROWN, "how many values a queue that grows has room for");
+    for (uint64_t taken = 0; taken < given && !failed; taken++) {
         expect(takes(&queue, 1, &value), KFIFO_DONE, "a take of what has grown");
         expect((long)value, (long)taken, "a value of what has grown");
     }
     expect(any_end(&queue), KFIFO_DONE, "an end of a queue that grew");
     expect(blocks, 0, "blocks left by a queue that grew");
+    return !met || failed;
+}
+
+/* The same, but the queue is closed once the request was refused, with up to two values taken: all others come back. */
+static int grows_and_closes(int of_cells, long number) {
+    static struct any_queue queue;
+    uint64_t given = 0, taken = 0, value = 0;
+    int met = gives_growing(&queue, of_cells, number, 1, &given);
+    expect(given >= CAPACITY, 1, "values before a queue grows");
+    for (; taken < (uint64_t)number % 3; taken++) {
+        expect(takes(&queue, 1, &value), KFIFO_DONE, "a take before a close of what has grown");
+        expect((long)value, (long)taken, "a value before a close of what has grown");
+    }
+    closes_in_order(&queue, taken, given);
     return !met || failed;
 }
 
@@ -466,7 +493,10 @@ static void renewing(int of_cells) {
     for (tried = 1; !changes(of_cells, tried);) tried++;
     long of_changes = tried - 1;
     for (tried = 1; !grows(of_cells, tried);) tried++;
-    expect(tried > 5, 1, "growth asks for memory");
+    long of_growth = tried - 1;
+    for (tried = 1; !grows_and_closes(of_cells, tried);) tried++;
+    expect(tried - 1, of_growth, "requests of growth that a close follows");
+    expect(of_growth > 5, 1, "growth asks for memory");
     for (tried = 1; tried < 30; tried++) wears_out(of_cells, tried, tried % 2);
     tried = 0;
     long made = generations_go(of_cells), cases = closes_several(of_cells);

@@ -24,8 +24,9 @@ use std::sync::Arc;
 pub struct Options {
     /// The greatest version of a word, 2 to 2^40 - 1.
     pub last: u64,
-    /// With fewer versions left, the queue goes on in its next generation. It is below `last`. With 0 the queue does
-    /// not, and wears out.
+    /// With fewer versions left, the queue goes on in its next generation. It is below `last`. With 0 a queue that does
+    /// not grow wears out. One that grows goes on where a push finds no version left, but pops then come to
+    /// [`Worn`](crate::PopError::Worn) if values are left in the old generation.
     pub reserve: u64,
     /// How many generations the queue may have at a time, 1 to 129 - 2 * threads. With more than 1 a push that finds no
     /// room opens the next one, so the queue has room for as many times its capacity.
