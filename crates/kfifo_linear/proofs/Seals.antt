@@ -27,7 +27,8 @@ use Rattle.kfifo_machine.proofs.Versions.{no_going_seal, one_word, word_rises, r
 use Rattle.kfifo_machine.proofs.BusyIsDisturbed.{sound-ends}
 use Rattle.kfifo_machine.proofs.Calls.{first_goes, log_is}
 use Rattle.kfifo_machine.proofs.Paths.{answered, begins_from}
-use Rattle.kfifo_linear.specs.Ledger.{Inside, Ledger, Outside, Stood, action, blank, called, found_in, ledger_after, ledger_from}
+use Rattle.kfifo_linear.specs.Ledger.{Inside, Ledger, Outside, Stood, action, blank, called, found_in, ledger_after}
+use Rattle.kfifo_linear.specs.Ledger.{ledger_from}
 use Rattle.kfifo_linear.specs.Ledger.{ledger_of}
 use Rattle.kfifo_linear.specs.Ledger as ledger
 use Rattle.kfifo_linear.specs.declared.action.Action.TheVariants.{RecheckEmpty}

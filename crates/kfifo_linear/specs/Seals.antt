@@ -63,8 +63,8 @@ abbrev pub IsPutBy : World → ℕ → ℕ → Type 0
 IsPutBy here thread index = (running : Running) × (place_of here thread ≡ Some running)
     × HasPut running index (word_at here index)
 
--- A queue that was sealed empty stays so: however its schedule goes on, what is in a slot was put there by an enqueue in
--- progress. So wherever all calls have ended no item is left
+-- A queue that was sealed empty stays so: however its schedule goes on, what is in a slot was put there by an enqueue
+-- in progress. So wherever all calls have ended no item is left
 abbrev pub StaysEmpty : Shape → ℕ → Type 0
 StaysEmpty shape threads = (events more : List Event) (here : World) → SealedEmpty shape threads events
     → after shape threads (events ++ more) ≡ Some here

@@ -67,9 +67,10 @@ pub fn every_schedule_has_a_legal_order()
     ensures in_time { (shape : Shape) (threads : ℕ) → TakesInTime shape threads }
 {}
 
-/// A queue that was found empty and then sealed stays empty, whatever calls were in progress or begin later: what is in a
-/// slot was put there by an enqueue in progress, so where all calls have ended, no slot holds an item. Found empty means
-/// that a dequeue returned Empty; and the ends word did not change from the last load of that dequeue to the seal.
+/// A queue that was found empty and then sealed stays empty, whatever calls were in progress or begin later: what is in
+/// a slot was put there by an enqueue in progress, so where all calls have ended, no slot holds an item. Found empty
+/// means that a dequeue returned Empty; and the ends word did not change from the last load of that dequeue to the
+/// seal.
 pub fn a_queue_sealed_empty_stays_empty()
     ensures stays { (shape : Shape) (threads : ℕ) → threads ≤ MAX_THREADS → StaysEmpty shape threads }
 {}

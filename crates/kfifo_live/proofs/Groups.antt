@@ -1,5 +1,6 @@
 -- A group meets a pass, and the pass joins it.
-use Rattle.std.proofs.Common.{◌≡◌, ◌++◌, ◌<◌, ℕ, List, [], ◌∷◌, None, Option, Some, ap, drop, length, map, refl, sym, take}
+use Rattle.std.proofs.Common.{◌≡◌, ◌++◌, ◌<◌, ℕ, List, [], ◌∷◌, None, Option, Some, ap, drop, length, map, refl}
+use Rattle.std.proofs.Common.{sym, take}
 use Rattle.std.proofs.Common.{◌∙◌, subst}
 use Rattle.std.specs.List.{AllByRecursion}
 use Rattle.std.proofs.lemmas.List.{append-nil, map-append}
@@ -63,8 +64,8 @@ module _ {T : Type 0} where
       new_is ∙ (λ i. both_parts (first_part (view i)) (other_parts (back_is i)))
       ∙ ap (λ (v : View T). both_parts (first_part whole) (other_parts (other_parts v))) view
 
-  -- A group has seen what a pass has: its schedule begins with what the pass, its first one and the others had seen, and
-  -- has no further event of theirs
+  -- A group has seen what a pass has: its schedule begins with what the pass, its first one and the others had seen,
+  -- and has no further event of theirs
   pub record HasMet (thread other : ℕ) (table : TableId) (old mine new : Me (Option T) (View T)) : Type 0 where
     pub group : IsGroup thread table new
     pub opened : new.0.opened ≡ old.0.opened

@@ -1,6 +1,6 @@
 -- A queue and its passes, as callers see them.
-use Rattle.std.specs.Prelude.{◌<◌, ◌≡◌, ◌≢◌, ◌⊎◌, ℕ, zero, suc, List, [], ◌∷◌, Option, Some, None, ◌+◌, ◌++◌, length, true}
-use Rattle.std.specs.Prelude.{◌==◌}
+use Rattle.std.specs.Prelude.{◌<◌, ◌≡◌, ◌≢◌, ◌⊎◌, ℕ, zero, suc, List, [], ◌∷◌, Option, Some, None, ◌+◌, ◌++◌}
+use Rattle.std.specs.Prelude.{◌==◌, length, true}
 use Rattle.std.specs.List.{Contains, list_any}
 use Rattle.atomic_table.specs.Table.{Me}
 use Rattle.atomic_table.specs.Seated.{TableId}
@@ -114,9 +114,9 @@ pub record WasSealedEmpty (p : PassView) : Type 0 where
   pub begins : StartsWith p.seen first
   pub empty : SealedEmpty p.opened.shape p.opened.threads first
 
--- What these threads put into a queue is there no more, after what a pass of it has seen: what is in a slot then was put
--- there by another thread, whose enqueue is in progress. Each item that was put was undone or taken, or is in a slot, as
--- often as it was put
+-- What these threads put into a queue is there no more, after what a pass of it has seen: what is in a slot then was
+-- put there by another thread, whose enqueue is in progress. Each item that was put was undone or taken, or is in a
+-- slot, as often as it was put
 pub record HaveComeOut (threads : List ℕ) (p : PassView) : Type 0 where
   pub world : World
   pub reached : world_after p.opened p.seen ≡ Some world

@@ -20,7 +20,8 @@ use Rattle.kfifo_renewing.specs.History.{newest_of, next_in, place_count}
 use Rattle.kfifo_renewing.proofs.Histories.{contains-later, get-last, made-append, newest-append, one-stays, opens-more}
 use Rattle.kfifo_renewing.proofs.Histories.{risen-more, risen-was, was-later, was-less}
 use Rattle.kfifo_renewing.proofs.Histories.{was-more, was-now}
-use Rattle.kfifo_renewing.proofs.Keeping.{goes-by, gone-same, kept-of, labelled-same, left-stays, together-same, load-same, moved}
+use Rattle.kfifo_renewing.proofs.Keeping.{goes-by, gone-same, kept-of, labelled-same, left-stays, load-same, moved}
+use Rattle.kfifo_renewing.proofs.Keeping.{together-same}
 use Rattle.kfifo_renewing.proofs.Keeping.{there-same}
 use Rattle.kfifo_renewing.proofs.Keeping.{made-same, next-at, next-within, set-next, shown, tells-same}
 use Rattle.kfifo_renewing.proofs.Keeping.{within, words-of}

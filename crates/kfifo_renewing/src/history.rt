@@ -308,8 +308,8 @@ impl Next {
     }
 
     /// Counts the pass of this part among those that have left the generation, if exactly `count` have left it before.
-    /// The generation is no longer the newest, and one schedule has what all these did there. Returns whether it counted
-    /// the pass.
+    /// The generation is no longer the newest, and one schedule has what all these did there. Returns whether it
+    /// counted the pass.
     pub(crate) fn depart<T: Drop>(
         &self,
         count: u64,

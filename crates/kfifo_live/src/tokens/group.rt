@@ -27,8 +27,8 @@ impl<T: Drop> Model for TokenGroup<T> {
 }
 
 impl<T: Drop> TokenPass<T> {
-    /// What the clause says: between two calls a pass has nothing of its own in a queue that was sealed empty, since all
-    /// that it put there has come out. It makes no step.
+    /// What the clause says: between two calls a pass has nothing of its own in a queue that was sealed empty, since
+    /// all that it put there has come out. It makes no step.
     pub fn has_ended(&self)
         ensures { LeaveNothing (self.now ∷ []) self.now.pass }
     {
@@ -46,8 +46,8 @@ impl<T: Drop> TokenPass<T> {
 }
 
 impl<T: Drop> TokenQueue<T> {
-    /// Has a group see what a pass of its queue has seen, by one load of the ends word, which is no event. The pass stays
-    /// as it is, and may then join the group.
+    /// Has a group see what a pass of its queue has seen, by one load of the ends word, which is no event. The pass
+    /// stays as it is, and may then join the group.
     pub fn meet(&self, group: &mut TokenGroup<T>, pass: &mut TokenPass<T>)
         requires group { IsPassOf self.now group.old.first.pass }
         requires pass { IsPassOf self.now pass.old.pass }

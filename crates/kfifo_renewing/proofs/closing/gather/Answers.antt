@@ -60,8 +60,8 @@ returns-clause-all g c =
 
 pub returns-clause-book : goal.returns-clause-book
 returns-clause-book g c =
-    let same = c.learn-2.ensures.0 ∙ c.leave_gone.ensures.later.0 ∙ c.in_ok-shared.ensures.history.0 ∙ c.catch_up.ensures.follows.later.book
-    ∙ c.learn.ensures.later.book in
+    let same = c.learn-2.ensures.0 ∙ c.leave_gone.ensures.later.0 ∙ c.in_ok-shared.ensures.history.0
+    ∙ c.catch_up.ensures.follows.later.book ∙ c.learn.ensures.later.book in
     let one = one-queue c.args.handles.items c.pop.new.self.items c.in-Some.last c.in-Some.ensures.items c.requires in
     let book = sym (same ∙ one.5) in
     subst (All (λ h. h.book ≡ c.learn-2.new.self.book)) (sym c.in-Some.ensures.items)

@@ -15,7 +15,8 @@ loop-part-preserved-then-number g c =
       number = refl;
       so_far = (
         i.0 ++ part ∷ [],
-        i.1 ∙ ap (λ l. i.0 ++ l) c.in-Some.ensures.steps.0 ∙ sym (append_assoc i.0 (part ∷ []) c.next.new.self.rest.items),
+        i.1 ∙ ap (λ l. i.0 ++ l) c.in-Some.ensures.steps.0
+            ∙ sym (append_assoc i.0 (part ∷ []) c.next.new.self.rest.items),
         c.in_ok-push.ensures.items ∙ ap (λ l. l ++ c.into_handle.result ∷ []) i.2
             ∙ ap (λ h. handles_at n i.0 ++ h ∷ []) c.into_handle.ensures ∙ sym next.0,
         i.3 ∙ sym next.1,
@@ -32,7 +33,8 @@ loop-part-preserved g c =
       number = refl;
       so_far = (
         i.0 ++ part ∷ [],
-        i.1 ∙ ap (λ l. i.0 ++ l) c.in-Some.ensures.steps.0 ∙ sym (append_assoc i.0 (part ∷ []) c.next.new.self.rest.items),
+        i.1 ∙ ap (λ l. i.0 ++ l) c.in-Some.ensures.steps.0
+            ∙ sym (append_assoc i.0 (part ∷ []) c.next.new.self.rest.items),
         i.2 ∙ sym next.0,
         c.in_ok-push-2.ensures.items ∙ ap (λ l. l ++ part ∷ []) i.3 ∙ sym next.1,
       );

@@ -11,6 +11,7 @@ returns-then-thread-clause-others g c h of =
     let i = c.loop-index.index in
     ⊎_elim
     (λ stays. inl (subst (λ l. Contains l h) (sym c.remove.ensures.by_index.2) stays))
-    (λ at. inr (sym (get-at before i c.remove.result c.remove.result (omega (arith, c.loop-index-test.true, c.len.ensures))
+    (λ at. inr (sym (get-at before i c.remove.result c.remove.result
+    (omega (arith, c.loop-index-test.true, c.len.ensures))
     c.remove.ensures.value) ∙ at))
     (contains-without before i h (subst (λ l. Contains l h) (sym (ap (λ v. v.items) c.loop-index.invariant.same)) of))

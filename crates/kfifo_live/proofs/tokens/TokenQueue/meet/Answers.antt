@@ -52,7 +52,8 @@ returns-clause-meets g c =
     let q = pay_pass_view c.pass.inside.seat.table_id c.pass.inside.thread c.pass.inside.seat.me.0 in
     let same = ap (λ (p : PayPassView T). p.pass.opened) c.pass.view_is ∙ c.requires.pass.1 ∙ sym c.requires.group.1
     ∙ sym (ap (λ (v : GroupView T). v.first.pass.opened) c.group.view_is) in
-    subst (λ (x : GroupView T × PayPassView T). Meets x.1 x.0 (group_view c.join_seats-4.new.seat.table_id thread new.0))
+    subst (λ (x : GroupView T × PayPassView T).
+    Meets x.1 x.0 (group_view c.join_seats-4.new.seat.table_id thread new.0))
     (λ i. (c.group.view_is i, c.pass.view_is i))
     (subst (λ t. Meets q v (group_view t thread new.0)) (sym (home g c)) (record {
       same = (refl, m.opened, refl);

@@ -117,4 +117,5 @@ returns-clause-left g c =
     c.requires.part ([], append-nil c.again.result.log ∙ ap (λ h. h.log) c.again.ensures)
     (subst (λ l. Contains l t) (sym here) (Contains-push (left_of c.args.self.now.number d.history.log) t))
     (subst (AreInOne (made_by c.args.self.now.queue)) (sym here)
-    (in-one c.args.self.now d.history.book d.history.log d.count d.passes.inner c.meet.new.group p c.requires.departed m))
+    (in-one c.args.self.now d.history.book d.history.log d.count d.passes.inner c.meet.new.group p
+    c.requires.departed m))

@@ -20,7 +20,8 @@ pub returns-clause-of : goal.returns-clause-of
 returns-clause-of g c =
     let P : PartView g.row.T.Denot
     → Type 0 = λ (p : PartView g.row.T.Denot). IsOpenedAs (opening_in c.self.inside.shared.value) p.handle in
-    subst (All P) (sym (c.in_ok-push.ensures.items ∙ ap (λ l. l ++ c.self.inside.newest ∷ []) c.into_parts-parts.ensures))
+    subst (All P)
+    (sym (c.in_ok-push.ensures.items ∙ ap (λ l. l ++ c.self.inside.newest ∷ []) c.into_parts-parts.ensures))
     (All-push P c.self.inside.older.items c.self.inside.newest
     (λ k d inside. (c.self.invariant.0.older_opened k d inside).0) c.self.invariant.0.newest_opened.0)
 

@@ -17,7 +17,8 @@ compare_exchange-requires g c =
     let pen = c.no_pen-pen.result.nib in
     let place = c.self.inside.place in
     let s = sealed_by n c.args.part.now.handle.held.pass.pass in
-    let sealed : IsSealedAt log s n = record { number = refl; made = c.requires.part.made; empty = c.requires.empty.0 } in
+    let sealed : IsSealedAt log s n =
+    record { number = refl; made = c.requires.part.made; empty = c.requires.empty.0 } in
     let up : shows n ≡ c.showing-shown.result = omega (arith, c.showing-shown.ensures.0, c.number.ensures) in (
       ap (λ w. w.tracked) h.0,
       c.requires.book ∙ sym book,
@@ -25,7 +26,8 @@ compare_exchange-requires g c =
       offer.0,
       rw (ap (λ w. w.key) h.0, offer.3) (subst (λ m. Moves IsKept shown moved (label_of place) (log, (pen, None))
           (λ k. either (k == m) (m + 1) k) (Empties (step (label_of place) m (m + 1) (C.Gone s)) (log, (pen, None)))) up
-          (leaves-moves log pen s n place (C.Gone s) h.1 (omega (arith, c.showing-shown.ensures.1, up)) c.requires.over sealed)),
+          (leaves-moves log pen s n place (C.Gone s) h.1 (omega (arith, c.showing-shown.ensures.1, up)) c.requires.over
+          sealed)),
     )
 
 pub returns-clause-gone : goal.returns-clause-gone
