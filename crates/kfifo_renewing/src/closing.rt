@@ -229,6 +229,7 @@ pub(crate) fn gather<T: Drop, K: Kind<T>>(
     // With a cell in hand a handle stays in a generation that has gone. If others have left that generation, it cannot
     // be closed, so the last handle leaves it now.
     let parts = leave_gone(alloc, shared.places(), parts, &mut history)?;
+    // To learn anything of a history tells its rule, which has one schedule for those that have left a generation.
     let seen = history.again();
     history.learn(&seen);
     let Some(shared) = Arc::into_inner(shared) else {
@@ -333,7 +334,7 @@ fn close_each<T: Drop>(alloc: Global, gathered: Gathered<T>) -> Result<Vec<T>, C
 /// Each handle first leaves what has gone. The last one learns what the others have seen, and follows them. Of each
 /// generation that it is then in, these payloads are what is left after the one schedule of all calls there, in the
 /// order of `PayQueue::close`. All that the handles that are given did there is in that schedule. Each of them has left
-/// each of its other generations, which have gone.
+/// each of its other generations, which have gone: what it gave there has come out.
 ///
 /// The handles are of one queue. MissingPass where one of its handles is still elsewhere, or none is given; Memory
 /// where an allocation failed. The payloads are then dropped.
