@@ -41,7 +41,7 @@ typedef enum kfifo_status {
     KFIFO_DONE = 0,      /* done; of a put: the item is in the queue, or was already taken; of a take: one was taken */
     KFIFO_FULL = 1,      /* there is no room, or no free cell; nothing was put or reserved */
     KFIFO_EMPTY = 3,     /* the queue was empty */
-    KFIFO_BUSY = 4,      /* the call used up its rounds, and nothing was done: see kfifo_put and kfifo_enqueue */
+    KFIFO_BUSY = 4,      /* the call reached its retry limit, and nothing was done: see kfifo_put and kfifo_enqueue */
     KFIFO_WORN = 5,      /* the versions are used up, and were not renewed; close this queue and open another */
     KFIFO_BAD_CALL = 6,  /* a null pointer, an argument out of range, a handle closed, missing or of another kind, or
                             one that has no cell to publish, cancel or release; nothing done */
@@ -103,7 +103,7 @@ static inline const char *kfifo_status_text(kfifo_status status) {
     case KFIFO_DONE: return "done";
     case KFIFO_FULL: return "the queue was full";
     case KFIFO_EMPTY: return "the queue was empty";
-    case KFIFO_BUSY: return "the call used up its rounds";
+    case KFIFO_BUSY: return "the call reached its retry limit";
     case KFIFO_WORN: return "the versions of the queue are used up: close it and open another";
     case KFIFO_BAD_CALL:
         return "a pointer is null, an argument is out of range, or a handle is closed, missing, of another kind or "
@@ -691,8 +691,8 @@ KFIFO_MUST_USE static inline kfifo_status kfifo_get(kfifo_handle *handle, uint32
 }
 
 /* As kfifo_put_once, with a start and turns of your own: the scan begins at slot `start`, below k, and the call makes
-   at most `turns` rounds, at least 1. With fewer than segments + 2 a thread may get BUSY by moves of its own, without
-   any other.
+   at most `turns` rounds, at least 1. With fewer than segments + 2 a thread may get BUSY even if no other thread
+   is active.
    Cost: as kfifo_put.
 
        kfifo_status enqueued = kfifo_enqueue(&handles[0], 9, 0, 100);
@@ -763,8 +763,8 @@ KFIFO_MUST_USE static inline kfifo_status kfifo_close(kfifo_handle *handles, siz
 
    A queue does not wear out: before the versions of its words are used up, it goes on in a new *generation*, a queue of
    the same sizes. docs/C.md says what that costs, and how far values may then overtake others. A give that opens a
-   generation asks for memory, and another call only where nine old ones are there that growth has not opened. Where
-   there is none, later gives ask again. When the reserve is used up too, calls return WORN: close the queue then to
+   generation asks for memory, and another call only if nine old generations, not counting growth, are in use. If there
+   is none, later gives ask again. When the reserve is used up too, calls return WORN: close the queue then to
    have what is left, and open another. */
 
 /* Opens a queue of values with versions up to `last`, 2 to KFIFO_LAST, and a `reserve`, KFIFO_RESERVE unless you test
@@ -969,8 +969,8 @@ static inline void *kfifo_bare_place(const kfifo_cell_at *at, uint32_t size, uin
 
 /* Opens a queue of cells of this size, at least 1, and this alignment, both in bytes: a power of two up to 4,096 that
    divides the size. `last`, `reserve` and `generations` are as in kfifo_open_values_with. The queue has 32 cells more
-   for each thread, which that one may keep for itself. Returns what kfifo_open_values_with does; BAD_LAYOUT of a size
-   or an alignment that there is not.
+   for each thread, which that one may keep for itself. Returns what kfifo_open_values_with does; BAD_LAYOUT if
+   size or alignment is out of range.
    Cost: the memory of a generation is asked for here: that of (capacity + 32 * threads) cells, some 30 bytes for each
    of these, and 4,000 for each thread. A reserve that opens a generation asks for as much again.
 

@@ -6,8 +6,8 @@
 // the value is the node's address. The worker that has done the task keeps the node, and lists that grow too long go
 // round in chains, so that nodes are asked for about as often as the backlog grows.
 //
-// The order. When a task is begun, all tasks given before it have been begun but k - 1 at most, and one for each other
-// worker. While the queue changes its generation, as it does when it grows, it may be one more for each other worker.
+// The order. When a task is begun, at most k - 1 earlier tasks, plus one for each other worker, have not begun. While
+// the queue changes its generation, as it does when it grows, it may be one more for each other worker.
 // What finds no room, since the queue has no more generations or there is no memory for one, waits in a list under a
 // lock, first in, first out. While it has tasks, what is given goes there too, and workers move the oldest into the
 // queue, whenever they find it empty and after each 16th take. So the order is that of the queue first, and then that

@@ -135,7 +135,7 @@ impl<T> PushError<T> {
         match self {
             PushError::Full(_) => "the queue was full",
             PushError::OutOfMemory(_) => "there was no memory for the queue to grow",
-            PushError::Busy(_) => "the call used up its rounds",
+            PushError::Busy(_) => "the call reached its retry limit",
             PushError::Worn(_) => "the versions of the queue are used up",
             PushError::TimedOut(_) => "the time was up",
             PushError::Finished(_) => "the queue is finished",
@@ -215,7 +215,7 @@ impl Display for PopError {
     fn fmt(&self, f: &mut Formatter<'_>) -> fmt::Result {
         f.write_str(match self {
             PopError::Empty => "the queue was empty",
-            PopError::Busy => "the call used up its rounds",
+            PopError::Busy => "the call reached its retry limit",
             PopError::Worn => "the versions of the queue are used up",
             PopError::TimedOut => "the time was up",
             PopError::Finished => "the queue is finished",

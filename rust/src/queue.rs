@@ -104,8 +104,8 @@ impl<T> Queue<T> {
         Queue::with_options(k, capacity, threads, Options::default())
     }
 
-    /// As [`Queue::new`], with options of one's own. A queue that grows has room for as many times `capacity` values as
-    /// it may have generations, while there is memory, and gives the memory of those back that are empty.
+    /// As [`Queue::new`], with options of one's own. A queue that grows holds `capacity` values in each generation,
+    /// memory permitting, and frees empty generations.
     ///
     /// Cost: as [`Queue::new`]. A push that opens a generation asks for as much again.
     ///

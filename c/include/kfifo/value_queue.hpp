@@ -174,9 +174,8 @@ template <typename T> class ValueQueue {
     ValueQueue(std::uint32_t k, std::uint32_t capacity, std::size_t threads)
         : ValueQueue(k, capacity, threads, Options()) {}
 
-    // The same with options of your own. One that grows has room for as many times `capacity` values as it may have
-    // generations, while there is memory, and gives the memory of those back that are empty. Throws Error also where
-    // there are no such options.
+    // The same with options of your own. A queue that grows holds `capacity` values in each generation, memory
+    // permitting, and frees empty generations. Throws Error also if an option is out of range.
     // Cost: the same. A give that opens a generation asks for as much again.
     //
     //     kfifo::Options options;
@@ -220,7 +219,7 @@ template <typename T> class ValueQueue {
         if (state && !state->is_closed) kfifo_caller_goes(state->waits());
     }
 
-    // A handle that nobody has. Throws Error where each was out at one moment: never where there are as many handles as
+    // A handle that nobody has. Throws Error if all handles were in use at once: never if there are as many handles as
     // threads, and no thread has two.
     // Cost: a few atomic steps, and at its end as many.
     //
