@@ -775,8 +775,8 @@ KFIFO_MUST_USE static inline kfifo_status kfifo_close(kfifo_handle *handles, siz
    The queue may grow to `generations` at a time, 1 to 129 - 2 * threads: a give that finds no room opens the next one,
    as long as there are fewer. So there is room for generations * capacity values. A generation is freed once it is
    empty and each handle that gave to it has made another call. If there is no memory for one, a give returns NO_MEMORY,
-   and a later one tries again. With reserve 0 a give that finds no version left opens the next generation too. Takes
-   then return WORN for ever if values are left in the old one: a close gives them back.
+   and a later one tries again. With reserve 0 a queue that grows also opens one where a give finds no version left, but
+   takes then return WORN for ever if values are left in the old one: a close gives them back.
 
    DONE; BAD_CALL of a null pointer, or of generations out of range; BAD_THREADS, BAD_K, BAD_LAST, BAD_CAPACITY,
    BAD_RESERVE of one that is not below `last`, NO_MEMORY, and all handles are then closed, at most the first 64.

@@ -105,8 +105,9 @@ void __wrap_free(void *block) {
 
 /* ---- Values and cells by the same calls ---- */
 
-static kfifo_status open_queue(struct any_queue *queue, int kind, uint32_t k, uint32_t capacity, uint64_t last,
-                               uint32_t threads) {
+/* With a reserve of half of the versions. */
+__attribute__((unused)) static kfifo_status open_queue(struct any_queue *queue, int kind, uint32_t k, uint32_t capacity,
+                                                       uint64_t last, uint32_t threads) {
     return any_open(queue, kind, k, capacity, last, last / 2, 1, threads);
 }
 

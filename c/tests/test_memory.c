@@ -503,9 +503,9 @@ static void renewing(int of_cells) {
     expect(of_changes > 10, 1, "changes of generations ask for memory");
     expect(cases > 0, 1, "closes of more than two generations");
     printf(
-        "memory of %s: %ld requests of an open, %ld of a close and %ld of changes refused in turn; %ld changes with no "
-        "more memory; %ld closes of more than two generations\n",
-        of_cells ? "cells" : "values", of_open, of_close, of_changes, made, cases);
+        "memory of %s: %ld requests of an open, %ld of a close, %ld of changes and %ld of growth refused in turn; %ld "
+        "changes with no more memory; %ld closes of more than two generations\n",
+        of_cells ? "cells" : "values", of_open, of_close, of_changes, of_growth, made, cases);
 }
 
 int main(void) {

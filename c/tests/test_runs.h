@@ -27,7 +27,7 @@ struct crew {
 struct plan {
     int kind;
     uint32_t k, capacity;
-    uint64_t last;
+    uint64_t last, reserve; /* a reserve of 0 stands for half of the versions */
     const struct crew *crew;
     uint64_t each; /* how many values each that gives gives, unless that has no end */
     int has_end;   /* else it goes on until it is told to end */
@@ -198,7 +198,9 @@ static void begin_run(const struct plan *of) {
     atomic_store(&left_to_take, plan.has_end ? plan.each * givers : UINT64_MAX);
     atomic_store(&most_inside, plan.most);
     atomic_store(&is_over, 0);
-    expect(open_queue(&queue, plan.kind, plan.k, plan.capacity, plan.last, threads), KFIFO_DONE, "open for threads");
+    uint64_t reserve = plan.reserve ? plan.reserve : plan.last / 2;
+    expect(any_open(&queue, plan.kind, plan.k, plan.capacity, plan.last, reserve, 1, threads), KFIFO_DONE,
+           "open for threads");
     room_of_one = room_of(&queue);
 }
 
@@ -216,7 +218,7 @@ static void join(uint32_t from, uint32_t end) {
 }
 
 /* Waits until the threads have taken that many values more. */
-static void wait_for_takes(uint64_t count) {
+__attribute__((unused)) static void wait_for_takes(uint64_t count) {
     uint64_t before = atomic_load(&left_to_take);
     while (before - atomic_load(&left_to_take) < count) sched_yield();
 }

@@ -18,8 +18,8 @@ namespace kfifo {
 // What a queue of values is opened with besides. Each word has versions up to `last`, 2 to KFIFO_LAST, and with fewer
 // left than `reserve`, which is below it, the queue goes on in its next generation. The queue has up to `grows`
 // generations at a time, 1 to 129 - 2 * threads: with more than 1 a give that finds no room opens the next one. With
-// reserve 0 a queue with `grows` of 1 wears out as a queue of items does. With more than 1 a give that finds no version
-// left opens the next generation too, but takes then answer Miss::worn if values are left in the old one.
+// reserve 0 a queue that does not grow wears out as a queue of items does. One that grows also opens the next
+// generation where a give finds no version left, but takes then answer Miss::worn if values are left in the old one.
 struct Options {
     std::uint64_t last = KFIFO_LAST;
     std::uint64_t reserve = KFIFO_RESERVE;
