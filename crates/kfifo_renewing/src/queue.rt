@@ -29,7 +29,7 @@ use std::sync::Arc;
 /// by the next one.
 pub const DEFAULT_RESERVE: u64 = 0x1_0000_0000;
 
-/// The reserve of a queue that does not renew: it returns Worn for ever once its versions are used up.
+/// The reserve of a queue that does not renew: unless it grows, it returns Worn for ever once its versions are used up.
 pub const NO_RENEWAL: u64 = 0;
 
 /// The most gives of a handle from one look at the versions that are left to the next.
@@ -209,7 +209,8 @@ impl<T: Drop> Shared<T> {
 pub struct Renewals {
     /// With fewer versions left than this, the newest generation is followed by the next one: `DEFAULT_RESERVE`, or
     /// less for tests. It has to last until the generation is empty, which takes a version for each segment and each
-    /// call that is under way. With `NO_RENEWAL` it is not followed for its versions.
+    /// call that is under way. With `NO_RENEWAL` it is followed only once its versions are used up, in a queue that
+    /// grows: takes then return Worn if payloads are left in it.
     pub reserve: u64,
     /// How many generations the queue may have at the same time because it grows: where the newest one has no room, it
     /// is followed by the next one as long as there are fewer. With 1 the queue does not grow.

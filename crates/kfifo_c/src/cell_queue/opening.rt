@@ -76,12 +76,12 @@ fn address_of_all(seats: &[Box<CellSeat, Global>]) -> *mut u8 {
 /// Opens a queue with room for so many cells, for as many threads as there are handles, as
 /// `kfifo_renewing::open_cells_with`, and puts a handle of it behind each, in their order. Each cell has memory of this
 /// size and alignment, in bytes, which stand in each handle until it is closed. With fewer versions left than the
-/// reserve, a generation is followed by the next one; with a reserve of 0 it is not. So is one with no free cell while
-/// there are fewer than `generations`. What was behind the handles is lost. A refusal does nothing: BAD_THREADS where
-/// the handles are not 1 to 64; BAD_K; BAD_LAST; BAD_CAPACITY where the capacity is 0, or greater than a queue of these
-/// handles can have; BAD_LAYOUT where the alignment is no power of two from 1 to 4,096, or the size is 0 or no multiple
-/// of it; BAD_RESERVE where the reserve is not below the greatest version; BAD_CALL where the generations are not 1 to
-/// 129 - 2 * threads; NO_MEMORY where an allocation failed.
+/// reserve, a generation is followed by the next one; with a reserve of 0 only once none are left, in a queue that
+/// grows. So is one with no free cell while there are fewer than `generations`. What was behind the handles is lost. A
+/// refusal does nothing: BAD_THREADS where the handles are not 1 to 64; BAD_K; BAD_LAST; BAD_CAPACITY where the
+/// capacity is 0, or greater than a queue of these handles can have; BAD_LAYOUT where the alignment is no power of two
+/// from 1 to 4,096, or the size is 0 or no multiple of it; BAD_RESERVE where the reserve is not below the greatest
+/// version; BAD_CALL where the generations are not 1 to 129 - 2 * threads; NO_MEMORY where an allocation failed.
 #[unsafe(no_mangle)]
 pub extern "C" fn kfifo_c_open_cells(
     alloc: Global,

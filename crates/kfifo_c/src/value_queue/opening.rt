@@ -65,11 +65,12 @@ fn address_of_all(seats: &[Box<ValueSeat, Global>]) -> *mut u8 {
 
 /// Opens a queue with room for so many values, for as many threads as there are handles, as
 /// `kfifo_renewing::open_with`, and puts a handle of it behind each, in their order. With fewer versions left than the
-/// reserve, a generation is followed by the next one; with a reserve of 0 it is not. So is one with no room while there
-/// are fewer than `generations`. What was behind the handles is lost. A refusal does nothing: BAD_THREADS where the
-/// handles are not 1 to 64; BAD_K; BAD_LAST; BAD_CAPACITY where the capacity is 0, or greater than a queue of these
-/// handles can have; BAD_RESERVE where the reserve is not below the greatest version; BAD_CALL where the generations
-/// are not 1 to 129 - 2 * threads; NO_MEMORY where an allocation failed.
+/// reserve, a generation is followed by the next one; with a reserve of 0 only once none are left, in a queue that
+/// grows. So is one with no room while there are fewer than `generations`. What was behind the handles is lost. A
+/// refusal does nothing: BAD_THREADS where the handles are not 1 to 64; BAD_K; BAD_LAST; BAD_CAPACITY where the
+/// capacity is 0, or greater than a queue of these handles can have; BAD_RESERVE where the reserve is not below the
+/// greatest version; BAD_CALL where the generations are not 1 to 129 - 2 * threads; NO_MEMORY where an allocation
+/// failed.
 #[unsafe(no_mangle)]
 pub extern "C" fn kfifo_c_open_values(
     alloc: Global,
