@@ -12,6 +12,7 @@ mod generation;
 mod handle;
 mod history;
 mod joined;
+mod keeping_up;
 mod kind;
 mod label;
 mod leaving;

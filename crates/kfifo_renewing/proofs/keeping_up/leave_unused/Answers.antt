@@ -3,7 +3,7 @@ use Rattle.std.proofs.Common.{Some}
 use Rattle.std.proofs.lemmas.List.Elements.{All-pop}
 use Rattle.kfifo_renewing.specs.Joining.{PartView}
 use Rattle.kfifo_renewing.specs.Renewing.{IsUntouched}
-use Rattle.kfifo_renewing.proofs.handle.leave_unused.Goals as goal
+use Rattle.kfifo_renewing.proofs.keeping_up.leave_unused.Goals as goal
 
 pub leave_unused-requires : goal.leave_unused-requires
 leave_unused-requires g c =

@@ -1,6 +1,6 @@
 use Rattle.std.proofs.Common.{All, length}
 use Rattle.kfifo_renewing.specs.Renewing.{IsUntouched}
-use Rattle.kfifo_renewing.proofs.handle.leave_unused.Given as goal
+use Rattle.kfifo_renewing.proofs.keeping_up.leave_unused.Given as goal
 
 abbrev pub invariant-loop-part : goal.invariant-loop-part
 invariant-loop-part g l = All (λ p. IsUntouched p.handle) l.parts.items
