@@ -205,6 +205,8 @@ uint32_t kfifo_c_open_cells(uint32_t k, uint32_t capacity, uint32_t size, uint32
 uint32_t kfifo_c_reserve(kfifo_handle *handle, kfifo_cell_at *cell);
 uint32_t kfifo_c_why_no_cell(kfifo_handle *handle);
 uint32_t kfifo_c_publish(kfifo_handle *handle);
+uint32_t kfifo_c_reserve_next(kfifo_handle *handle, kfifo_cell_at *cell);
+uint32_t kfifo_c_publish_next(kfifo_handle *handle);
 uint32_t kfifo_c_cancel(kfifo_handle *handle);
 uint32_t kfifo_c_receive(kfifo_handle *handle, kfifo_cell_at *cell);
 uint32_t kfifo_c_release(kfifo_handle *handle);
@@ -937,8 +939,8 @@ KFIFO_MUST_USE static inline kfifo_status kfifo_close_values(kfifo_handle *handl
 /* ---- A queue of cells, for values of any size ----
 
    A thread reserves a cell, writes into it and publishes it. Another receives it, reads it and releases it. So a value
-   stays where it was made, and no call copies it. The cells are the library's memory; with `capacity`, the generations,
-   growth and WORN it is as with values.
+   stays where it was made. A publish copies it only where the generation of its cell takes no more. The cells are the
+   library's memory; with `capacity`, the generations, growth and WORN it is as with values.
 
        struct frame { int width, height; unsigned char pixels[4096]; };
        struct frame *frame = NULL;
@@ -1024,6 +1026,54 @@ static inline kfifo_status kfifo_bare_publish(kfifo_handle *handle) {
     return status;
 }
 
+/* Reserves a cell of the newest generation, beside one of an older generation. */
+static inline kfifo_status kfifo_bare_reserve_next(kfifo_handle *handle, kfifo_cell_at *at) {
+    KFIFO_ENTER();
+    kfifo_status status = KFIFO_CAST(kfifo_status, kfifo_c_reserve_next(handle, at));
+    if (status == KFIFO_FULL) status = KFIFO_CAST(kfifo_status, kfifo_c_why_no_cell(handle));
+    KFIFO_LEAVE();
+    KFIFO_AFTER_RESERVE(handle, status);
+    return status;
+}
+
+/* Puts that cell into the queue, and gives the older one back. If it is refused, it is given back, and the older one
+   stays reserved. */
+static inline kfifo_status kfifo_bare_publish_next(kfifo_handle *handle) {
+    KFIFO_BEFORE_PUT(handle);
+    KFIFO_BEFORE_RELEASE(handle);
+    KFIFO_ENTER();
+    kfifo_status status = KFIFO_CAST(kfifo_status, kfifo_c_publish_next(handle));
+    KFIFO_LEAVE();
+    return status;
+}
+
+/* The generation of the reserved cell takes no more. Copies what is in it into a cell of the next generation, and
+   publishes that. If it cannot, the reserved cell stays as it is. WORN comes where there is no next generation. */
+__attribute__((noinline, cold)) static inline kfifo_status kfifo_bare_move_on(kfifo_handle *handle) {
+    kfifo_cell_at from, to;
+    kfifo_status status = kfifo_bare_reserve(handle, &from); /* finds it */
+    if (status != KFIFO_DONE) return status;
+    KFIFO_BEGIN(handle, "kfifo_publish");
+    for (void *worn = from.block;; worn = to.block) {
+        status = kfifo_bare_reserve_next(handle, &to);
+        if (status != KFIFO_DONE) break;
+        status = KFIFO_WORN;
+        if (to.block == from.block) break;
+        memcpy(kfifo_bare_place(&to, handle->size, handle->alignment),
+               kfifo_bare_place(&from, handle->size, handle->alignment), handle->size);
+        status = kfifo_bare_publish_next(handle);
+        if (status != KFIFO_WORN || to.block == worn) break;
+    }
+    KFIFO_END(handle);
+    return status;
+}
+
+/* For cells whose bytes may be copied: in C++ a value is moved to the next cell by its type. */
+static inline kfifo_status kfifo_bare_publish_or_move(kfifo_handle *handle) {
+    kfifo_status status = kfifo_bare_publish(handle);
+    return __builtin_expect(status == KFIFO_WORN, 0) ? kfifo_bare_move_on(handle) : status;
+}
+
 static inline kfifo_status kfifo_bare_cancel(kfifo_handle *handle) {
     KFIFO_BEGIN(handle, "kfifo_cancel");
     KFIFO_BEFORE_RELEASE(handle);
@@ -1083,17 +1133,18 @@ KFIFO_MUST_USE static inline kfifo_status kfifo_reserve(kfifo_handle *handle, vo
 */
 KFIFO_MUST_USE static inline kfifo_status kfifo_publish_once(kfifo_handle *handle) {
     if (!KFIFO_IS_OF(handle, KFIFO_CELLS)) return KFIFO_BAD_CALL;
-    KFIFO_LOOKING_GIVE(handle, KFIFO_FINISHED, kfifo_bare_publish(handle));
+    KFIFO_LOOKING_GIVE(handle, KFIFO_FINISHED, kfifo_bare_publish_or_move(handle));
 }
 
 /* Puts the reserved cell into the queue, and wakes a thread that waits for it: DONE, and the cell is no longer the
-   handle's. Else FULL, FINISHED or WORN, and the cell is still reserved. BAD_CALL, also where none is reserved. After
-   DONE too, takes may no longer reach the cell where kfifo_give says so of a value.
+   handle's. Else FULL, NO_MEMORY of a queue that was to grow, FINISHED or WORN, and the cell is still reserved, where
+   it was. BAD_CALL, also where none is reserved. After DONE too, takes may no longer reach the cell where kfifo_give
+   says so of a value.
 
-   WORN says that the generation of the cell takes no more: while it was reserved, the others went on in the next one,
-   and used up the reserve too. Copy what is in the cell, cancel it, reserve another, and write it there. Where that
-   comes to WORN as well, the queue is worn out.
-   Cost: as kfifo_give.
+   The generation of the cell may take no more: while it was reserved, the others went on in the next one. Then the
+   call copies the bytes of the cell into one of the next generation, and publishes that. So no pointer in a cell may
+   point into the cell. WORN comes where there is no next generation.
+   Cost: as kfifo_give. A publish that copies also reserves a cell, and copies as many bytes as a cell has.
 
        if (kfifo_publish(&handles[0]) != KFIFO_DONE) puts("the cell is still reserved");
 */

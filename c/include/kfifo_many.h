@@ -45,10 +45,6 @@ static inline void kfifo_after_takes(kfifo_waits *waits, size_t taken) {
     kfifo_status status = (call);                                                                                      \
     return __builtin_expect(status == KFIFO_DONE, 1) ? status : kfifo_after_give((waits), status)
 
-static inline kfifo_status kfifo_one_publish_once(kfifo_handle *handle) {
-    KFIFO_ONE_GIVE(KFIFO_WAITS(handle), kfifo_bare_publish(handle));
-}
-
 static inline kfifo_status kfifo_one_put_once(kfifo_waits *waits, kfifo_handle *handle, uint32_t item) {
     KFIFO_ONE_GIVE(waits, kfifo_bare_put(handle, item));
 }

@@ -359,18 +359,6 @@ static void grows(void) {
     kfifo_free_left(&left);
 }
 
-/* Publishes a number. After WORN it goes on in a cell of the next generation. Returns how often that was so. */
-static int put_on(kfifo_handle *handle, uint64_t number) {
-    kfifo_status status;
-    int worn = 0;
-    while ((status = put(handle, number)) == KFIFO_WORN) {
-        expect(kfifo_cancel(handle), KFIFO_DONE, "a cancel of a cell whose generation is over");
-        worn++;
-    }
-    expect(status, KFIFO_DONE, "a publish through changes");
-    return worn;
-}
-
 /* A queue that wears out soon goes on in other memory. */
 static void renews(void) {
     kfifo_handle two[2];
@@ -378,7 +366,7 @@ static void renews(void) {
     uint64_t number = 77;
     expect(kfifo_open_cells_with(1, 4, 8, 8, 64, 16, 1, two, 2), KFIFO_DONE, "open to renew");
     for (uint64_t i = 0; i < 20000; i++) {
-        (void)put_on(&two[0], i);
+        expect(put(&two[0], i), KFIFO_DONE, "a publish through changes");
         expect(get(&two[1], &number), KFIFO_DONE, "a receive through changes");
         expect(number, i, "a number through changes");
         if (i % 2) expect(kfifo_release(&two[1]), KFIFO_DONE, "a release through changes");
@@ -387,43 +375,79 @@ static void renews(void) {
     expect(kfifo_abandon(two, 2), KFIFO_DONE, "abandon");
 }
 
-/* Cells that are reserved while another handle uses up the versions of their generation: the publishes of some are
-   worn. Their numbers move to cells of the next generation. */
+/* Cells that are reserved while another handle uses up the versions of their generation. That takes no more, so their
+   publishes copy them into cells of the next one. */
 static void moves_on(void) {
     enum { MANY = 40 };
     kfifo_handle handles[MANY], *last = &handles[MANY - 1];
     kfifo_left left = {0};
     void *cells[MANY];
     uint64_t number = 0, in = 0, out = 0;
-    int worn = 0;
+    int moved = 0;
     expect(kfifo_open_cells_with(4, 4, 8, 8, 2, 1, 1, handles, MANY), KFIFO_DONE, "open to move on");
     for (uint64_t i = 0; i < MANY - 1; i++) {
         expect(kfifo_reserve(&handles[i], &cells[i]), KFIFO_DONE, "a reserve before the other goes on");
         *(uint64_t *)cells[i] = i;
     }
     for (uint64_t i = 0; i < 40 && !failed; i++) {
-        (void)put_on(last, 1000 + i);
+        expect(put(last, 1000 + i), KFIFO_DONE, "a publish of the one that goes on");
         in += 1000 + i;
         if (get(last, &number) == KFIFO_DONE) out += number;
     }
     for (uint64_t i = 0; i < MANY - 1; i++) {
         expect(*(uint64_t *)cells[i], i, "what is in a cell that stays reserved");
-        kfifo_status status = kfifo_publish(&handles[i]);
+        kfifo_status status = kfifo_bare_publish(&handles[i]); /* the same without the copy */
         if (status == KFIFO_WORN) {
-            expect(kfifo_cancel(&handles[i]), KFIFO_DONE, "a cancel of a cell whose generation is over");
-            worn += 1 + put_on(&handles[i], i);
-        } else {
-            expect(status, KFIFO_DONE, "a publish of a cell that stayed reserved");
+            moved++;
+            status = kfifo_publish(&handles[i]);
         }
+        expect(status, KFIFO_DONE, "a publish of a cell that stayed reserved");
+        expect(kfifo_cancel(&handles[i]), KFIFO_BAD_CALL, "a cancel after that publish");
         in += i;
         if (get(last, &number) == KFIFO_DONE) out += number;
     }
-    expect(worn > 0, 1, "cells whose generation is over");
+    expect(moved > 0, 1, "cells whose generation is over");
     /* A reserve of 1 is too few versions to empty a generation, so some numbers are left in it. */
     expect(kfifo_close_cells(handles, MANY, &left), KFIFO_DONE, "a close of those that moved on");
     while (next(&left, &number) == KFIFO_DONE) out += number;
     expect(out, in, "the numbers that came out");
     kfifo_free_left(&left);
+}
+
+/* A cell whose generation takes no more, while the next one has no room: its publish is refused, and it stays reserved,
+   where it was. Once there is room the publish copies it. */
+static void waits_to_move(void) {
+    kfifo_handle two[2];
+    void *cell = NULL, *again = NULL;
+    uint64_t number = 0, in = 0, out = 0;
+    kfifo_status status = KFIFO_DONE;
+    expect(kfifo_open_cells_with(1, 4, 8, 8, 200, 2, 1, two, 2), KFIFO_DONE, "open to wait");
+    expect(kfifo_reserve(&two[0], &cell), KFIFO_DONE, "a reserve that waits");
+    *(uint64_t *)cell = 77;
+    for (uint64_t i = 0; i < 110 && !failed; i++) { /* 100 use up the versions of the first one */
+        expect(put(&two[1], i), KFIFO_DONE, "a publish until the generation is over");
+        expect(get(&two[1], &number), KFIFO_DONE, "a receive until the generation is over");
+        expect(number, i, "a number until the generation is over");
+    }
+    expect(kfifo_bare_publish(&two[0]), KFIFO_WORN, "a publish to a generation that is over, without the copy");
+    while ((status = put(&two[1], in)) == KFIFO_DONE) in++;
+    expect(status, KFIFO_FULL, "a queue without room");
+    expect(kfifo_publish(&two[0]), KFIFO_FULL, "a publish that finds no room");
+    expect(kfifo_reserve(&two[0], &again), KFIFO_DONE, "a reserve after that");
+    expect(cell == again, 1, "the cell that stays reserved");
+    expect(*(uint64_t *)cell, 77, "what is in the cell that stays reserved");
+    for (; out < in / 2; out++) {
+        expect(get(&two[1], &number), KFIFO_DONE, "a receive that makes room");
+        expect(number, out, "a number that makes room");
+    }
+    expect(kfifo_publish(&two[0]), KFIFO_DONE, "a publish that finds room");
+    expect(kfifo_cancel(&two[0]), KFIFO_BAD_CALL, "a cancel after that publish");
+    for (; out <= in; out++) {
+        expect(get(&two[1], &number), KFIFO_DONE, "a receive of all");
+        expect(number, out < in ? out : 77, "a number, and at the end the copied one");
+    }
+    expect(get(&two[1], &number), KFIFO_EMPTY, "a receive after all");
+    expect(kfifo_abandon(two, 2), KFIFO_DONE, "abandon");
 }
 
 /* A cell stays the one that is reserved, also where another handle goes on through some generations meanwhile. */
@@ -435,7 +459,7 @@ static void stays_reserved(void) {
     expect(kfifo_reserve(&two[0], &cell), KFIFO_DONE, "a reserve by one that stays");
     *(uint64_t *)cell = 5;
     for (uint64_t i = 0; i < 100; i++) {
-        (void)put_on(&two[1], i);
+        expect(put(&two[1], i), KFIFO_DONE, "a publish through changes");
         expect(get(&two[1], &number), KFIFO_DONE, "a receive beside one that stays");
         expect(number, i, "a number beside one that stays");
     }
@@ -504,6 +528,7 @@ int main(void) {
     grows();
     renews();
     moves_on();
+    waits_to_move();
     stays_reserved();
     times();
     printf("%s\n", failed ? "the queue of cells fails"

@@ -133,17 +133,13 @@ struct OfCells {
                                      handles, threads);
     }
 
-    // Where the generation of a cell takes no more, the value goes into a cell of the next one.
     static kfifo_status give(kfifo_handle *handle, std::uint32_t value) {
-        kfifo_status status = KFIFO_WORN;
-        for (int tries = 0; tries < 2 && status == KFIFO_WORN; tries++) {
-            void *cell = nullptr;
-            status = kfifo_reserve(handle, &cell);
-            if (status != KFIFO_DONE) return status;
-            *static_cast<std::uint64_t *>(cell) = value;
-            status = kfifo_publish(handle);
-            if (status != KFIFO_DONE && kfifo_cancel(handle) != KFIFO_DONE) return KFIFO_BAD_CALL;
-        }
+        void *cell = nullptr;
+        kfifo_status status = kfifo_reserve(handle, &cell);
+        if (status != KFIFO_DONE) return status;
+        *static_cast<std::uint64_t *>(cell) = value;
+        status = kfifo_publish(handle);
+        if (status != KFIFO_DONE && kfifo_cancel(handle) != KFIFO_DONE) return KFIFO_BAD_CALL;
         return status;
     }
 

@@ -100,6 +100,8 @@ EXPORT(kfifo_c_take_many, out.values, 2, &out.count)
 EXPORT(kfifo_c_close_values, THREADS, out.values, ROOM, &out.count)
 EXPORT(kfifo_c_reserve, &at)
 EXPORT(kfifo_c_publish)
+EXPORT(kfifo_c_reserve_next, &at)
+EXPORT(kfifo_c_publish_next)
 EXPORT(kfifo_c_cancel)
 EXPORT(kfifo_c_receive, &at)
 EXPORT(kfifo_c_release)
@@ -174,6 +176,8 @@ static const struct {
     ROW(kfifo_close_cells, KFIFO_CELLS),
     ROW(kfifo_c_reserve, KFIFO_CELLS),
     ROW(kfifo_c_publish, KFIFO_CELLS),
+    ROW(kfifo_c_reserve_next, KFIFO_CELLS),
+    ROW(kfifo_c_publish_next, KFIFO_CELLS),
     ROW(kfifo_c_cancel, KFIFO_CELLS),
     ROW(kfifo_c_receive, KFIFO_CELLS),
     ROW(kfifo_c_release, KFIFO_CELLS),

@@ -37,18 +37,13 @@ static kfifo_status any_reserve(kfifo_handle *handle, uint64_t value) {
     return status;
 }
 
-/* Where the generation of the cell takes no more, the value goes into a cell of the next one. Where that takes none
-   either, the queue is worn out. */
 static kfifo_status any_give(struct any_queue *queue, uint32_t thread, uint64_t value) {
     kfifo_handle *handle = &queue->handles[thread];
     if (queue->kind == OF_VALUES) return kfifo_give(handle, value);
-    kfifo_status status = KFIFO_WORN;
-    for (int tries = 0; tries < 2 && status == KFIFO_WORN; tries++) {
-        status = any_reserve(handle, value);
-        if (status != KFIFO_DONE) return status;
-        status = kfifo_publish(handle);
-        if (status != KFIFO_DONE && kfifo_cancel(handle) != KFIFO_DONE) return KFIFO_BAD_CALL;
-    }
+    kfifo_status status = any_reserve(handle, value);
+    if (status != KFIFO_DONE) return status;
+    status = kfifo_publish(handle);
+    if (status != KFIFO_DONE && kfifo_cancel(handle) != KFIFO_DONE) return KFIFO_BAD_CALL;
     return status;
 }
 

@@ -4,7 +4,7 @@ use Rattle.kfifo_live.specs.declared.payload.Given.{Given}
 use Rattle.kfifo_live.specs.declared.payload.Given.TheVariants as G
 use Rattle.kfifo_live.specs.declared.payload.Taken.{Taken}
 use Rattle.kfifo_live.specs.declared.payload.Taken.TheVariants as K
-use Rattle.kfifo_renewing.specs.Cells.{ReservesOne}
+use Rattle.kfifo_renewing.specs.Cells.{ReservesNewest, ReservesOne}
 use Rattle.kfifo_renewing.specs.Memory.{cell_reserved}
 use Rattle.kfifo_renewing.specs.declared.memory.CellAt.{CellAt}
 use Rattle.kfifo_c.specs.CellLeft.{LeftSeated}
@@ -23,6 +23,10 @@ cell_after_reserve old other = old
 -- what a `reserve` did
 abbrev pub ReservesAt : Option CellAt → CellSeated → CellSeated → Type 0
 ReservesAt answer = ReservesOne (cell_reserved answer)
+
+-- what a `reserve_next` did
+abbrev pub ReservesNextAt : Option CellAt → CellSeated → CellSeated → Type 0
+ReservesNextAt answer = ReservesNewest (cell_reserved answer)
 
 -- The number of what a call with a cell came to, and of one that was not made. There may be no such cell
 abbrev pub call_number : Option (Given (Unit {0})) → ℕ

@@ -8,7 +8,8 @@ use Rattle.kfifo_live.specs.declared.payload.Taken.{Taken}
 use Rattle.kfifo_live.specs.declared.payload.sealing.TakenOrSealed.{TakenOrSealed}
 use Rattle.kfifo_live.specs.declared.view.Opening.{Opening}
 use Rattle.kfifo_pool.specs.Pooled.{Pooled}
-use Rattle.kfifo_renewing.specs.Cells.{CallsOnce, ReceivesOldest, ReservesOne, TriesToReserve}
+use Rattle.kfifo_renewing.specs.Cells.{CallsNewest, CallsOnce, PublishesNext, ReceivesOldest, ReservesNewest}
+use Rattle.kfifo_renewing.specs.Cells.{ReservesOne, TriesToReserve}
 use Rattle.kfifo_renewing.specs.Memory.{ReceivesAt, ReceivesAtOrSeals}
 use Rattle.kfifo_renewing.specs.Renewing.{AreOfOneQueue, Follows, Generations, GivesToNewest, GoesOn}
 use Rattle.kfifo_renewing.specs.Renewing.{HasOne, HaveOne, IsOfSameQueue, TakesBy, TriesToGive}
@@ -99,13 +100,31 @@ module _ {T : Type 0} where
   reserves_queue answer old new (here, follows, inr (behind, none, same)) =
       then_queue old here new (follows_queue old here follows) (same_queue here new same)
 
+  pub reserved_next_queue : (answer : Option ℕ) (old new : Generations T) → ReservesNewest answer old new
+      → IsOfSameQueue old new
+  reserved_next_queue answer old new (first, here, tries, inl (is, same)) =
+      then_queue old here new (reserves_queue first old here tries) (same_queue here new same)
+  reserved_next_queue answer old new (first, here, tries, inr (is, again)) =
+      then_queue old here new (reserves_queue first old here tries) (reserves_queue answer here new again)
+
   pub reserved_queue : (answer : Option ℕ) (old new : Generations T) → ReservesOne answer old new
       → IsOfSameQueue old new
   reserved_queue answer old new (inl (cell, has, is, same)) = same_queue old new same
-  reserved_queue answer old new (inr (none, (first, here, tries, inl (is, same)))) =
-      then_queue old here new (reserves_queue first old here tries) (same_queue here new same)
-  reserved_queue answer old new (inr (none, (first, here, tries, inr (is, again)))) =
-      then_queue old here new (reserves_queue first old here tries) (reserves_queue answer here new again)
+  reserved_queue answer old new (inr (none, newest)) = reserved_next_queue answer old new newest
+
+  newest_queue : (call : CellCall) (answer : Given (Unit {0})) (old new : Generations T)
+      → CallsNewest call answer old new → IsOfSameQueue old new
+  newest_queue call answer old new calls =
+      record { opened = ap (λ g. g.opened) calls.others; book = ap (λ g. g.book) calls.others }
+
+  pub published_next_queue : (answer : Given (Unit {0})) (old new : Generations T) → PublishesNext answer old new
+      → IsOfSameQueue old new
+  published_next_queue answer old new (mid, calls, back, inl (done, cancels)) =
+      then_queue old mid new (newest_queue C.Publish answer old mid calls)
+      (calls_queue C.Cancel back mid new cancels)
+  published_next_queue answer old new (mid, calls, back, inr (refused, cancels)) =
+      then_queue old mid new (newest_queue C.Publish answer old mid calls)
+      (newest_queue C.Cancel back mid new cancels)
 
   pub received_queue : (answer : Taken CellAt) (old new : Generations T) → ReceivesOldest answer old new
       → IsOfSameQueue old new

@@ -48,6 +48,18 @@ module _ {T : Type 0} where
     pub newest : ((found ≢ G.NoToken tt) × (answer ≡ found) × (new.newest ≡ old.newest))
         ⊎ ((found ≡ G.NoToken tt) × CallsCell call answer old.newest new.newest)
 
+  -- such a call in the newest generation. The others stay as they are
+  pub record CallsNewest (call : CellCall) (answer : Given (Unit {0})) (old new : Generations T) : Type 0 where
+    pub others : new ≡ with_newest old new.newest
+    pub calls : CallsCell call answer old.newest new.newest
+
+  -- What `publish_next` did: it published the cell that was reserved in the newest generation. Then it gave a cell
+  -- back: if it published one, that which is reserved in an older generation, and else that of the newest one
+  abbrev pub PublishesNext : Given (Unit {0}) → Generations T → Generations T → Type 0
+  PublishesNext answer old new = (mid : Generations T) × CallsNewest C.Publish answer old mid
+      × (given_back : Given (Unit {0})) × (((answer ≡ G.Done) × CallsOnce C.Cancel given_back mid new)
+      ⊎ ((answer ≢ G.Done) × CallsNewest C.Cancel given_back mid new))
+
   -- one reserve, in the newest generation. The others stay as they are
   pub record ReservesThere (answer : Option ℕ) (old new : Generations T) : Type 0 where
     pub others : new ≡ with_newest old new.newest

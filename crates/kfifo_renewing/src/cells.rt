@@ -2,8 +2,8 @@
 ghost use Rattle.std.specs.Prelude.{◌≡◌, MatchBool, None, true};
 ghost use Rattle.kfifo_live.specs.Pass.{IsPassOf, IsSamePass};
 ghost use Rattle.kfifo_pool.specs.Cells.{ReservesCell, cell_in};
-ghost use Rattle.kfifo_renewing.specs.Cells.{CallsCell, CallsFirst, CallsOnce, ReceivesOldest, ReservesNewest};
-ghost use Rattle.kfifo_renewing.specs.Cells.{ReservesOne, TriesToReserve};
+ghost use Rattle.kfifo_renewing.specs.Cells.{CallsCell, CallsFirst, CallsNewest, CallsOnce, PublishesNext};
+ghost use Rattle.kfifo_renewing.specs.Cells.{ReceivesOldest, ReservesNewest, ReservesOne, TriesToReserve};
 ghost use Rattle.kfifo_renewing.specs.Joining.{IsSamePart};
 ghost use Rattle.kfifo_renewing.specs.Memory.{cell_reserved};
 ghost use Rattle.kfifo_renewing.specs.Renewing.{with_older};
@@ -102,13 +102,25 @@ impl RenewingHandle<(), Cells> {
         self.older.call(call)
     }
 
+    /// Makes this call in the newest generation. If that has no version left, it opens the next one.
+    #[inline(always)]
+    fn call_newest(&mut self, call: CellCall) -> Given<()>
+        ensures { CallsNewest call result self.old self.new }
+    {
+        let answer = self.newest.call(self.generation.queue(), call);
+        if let Given::Worn(()) = answer {
+            self.renew();
+        }
+        answer
+    }
+
     /// Makes this call in the generation in which the handle has such a cell.
     #[inline(always)]
     fn call(&mut self, call: CellCall) -> Given<()>
         ensures { CallsOnce call result self.old self.new }
     {
         match self.call_older(call) {
-            Given::NoToken(()) => self.newest.call(self.generation.queue(), call),
+            Given::NoToken(()) => self.call_newest(call),
             answer => answer,
         }
     }
@@ -177,14 +189,38 @@ impl RenewingHandle<(), Cells> {
     /// leaves it reserved.
     ///
     /// Returns Done, Full, Busy or Worn; NoToken, with nothing done, where no cell is reserved. Worn comes where the
-    /// generation has no version left: cancel the cell then, and reserve one of the next generation.
+    /// generation has no version left: reserve a cell of the next generation then with `reserve_next`, copy what is in
+    /// this one into it, and publish that with `publish_next`.
     #[inline(always)]
     pub fn publish(&mut self) -> Given<()>
         ensures { CallsOnce CellCall.Publish result self.old self.new }
     {
-        let answer = self.call(CellCall::Publish);
-        if let Given::Worn(()) = answer {
-            self.renew();
+        self.call(CellCall::Publish)
+    }
+
+    /// Reserves a cell of the newest generation, as `reserve` does, but beside one that is reserved in an older
+    /// generation. So that one stays as it is while what is in it is copied.
+    ///
+    /// Where a cell of the newest generation is reserved already, it is that one. Returns None where `reserve` does.
+    pub fn reserve_next(&mut self) -> Option<CellAt>
+        ensures { ReservesNewest (cell_reserved result) self.old self.new }
+    {
+        self.reserve_newest()
+    }
+
+    /// Puts the cell that is reserved in the newest generation into the queue. If that is done, it gives the cell back
+    /// that is reserved in an older generation. Otherwise it gives back that of the newest one, so the older one is
+    /// still reserved.
+    ///
+    /// Returns what `publish` does. Worn comes where the newest generation has no version left either.
+    pub fn publish_next(&mut self) -> Given<()>
+        ensures { PublishesNext result self.old self.new }
+    {
+        let answer = self.call_newest(CellCall::Publish);
+        if let Given::Done = answer {
+            self.call(CellCall::Cancel);
+        } else {
+            self.call_newest(CellCall::Cancel);
         }
         answer
     }

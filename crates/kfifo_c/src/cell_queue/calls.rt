@@ -2,14 +2,15 @@
 ghost use Rattle.std.specs.Prelude.{◌≡◌, ◌⊎◌, ℕ, ⊤, MatchOption, None, Option};
 ghost use Rattle.kfifo_live.specs.declared.payload.Given.{Given as HasGiven};
 ghost use Rattle.kfifo_live.specs.declared.payload.Taken.{Taken as HasTaken};
-ghost use Rattle.kfifo_renewing.specs.Cells.{CallsOnce, ReceivesOldest};
+ghost use Rattle.kfifo_renewing.specs.Cells.{CallsOnce, PublishesNext, ReceivesOldest};
 ghost use Rattle.kfifo_renewing.specs.Renewing.{Counts};
 ghost use Rattle.kfifo_renewing.specs.declared.cells.CellCall.TheVariants.{Cancel, Publish, Release};
 ghost use Rattle.kfifo_renewing.specs.declared.memory.CellAt.{CellAt as HasCellAt};
 ghost use Rattle.kfifo_c.specs.Behind.{Cells, cells_in};
 ghost use Rattle.kfifo_c.specs.Exports.{Tries, count_of};
 ghost use Rattle.kfifo_c.specs.Values.{taken_number};
-ghost use Rattle.kfifo_c.specs.CellCalls.{ReservesAt, call_number, cell_after, cell_after_reserve, reservation_number};
+ghost use Rattle.kfifo_c.specs.CellCalls.{ReservesAt, ReservesNextAt, call_number, cell_after, cell_after_reserve};
+ghost use Rattle.kfifo_c.specs.CellCalls.{reservation_number};
 ghost use Rattle.kfifo_c.specs.Handles.{WereClosed, fields_of};
 
 use crate::cell_queue::seat::CellSeat;
@@ -44,9 +45,9 @@ pub extern "C" fn kfifo_c_reserve(pass: &mut Handle, cell: &mut CellAt) -> u32
 }
 
 /// Puts the cell that is reserved into the queue of its generation, as `RenewingHandle::publish`, and returns its
-/// answer's number: DONE, FULL, BUSY or WORN. A refusal leaves the cell reserved. After WORN, cancel it, and reserve
-/// one of the next generation. Returns BAD_CALL, with nothing done, where none is reserved, or the handle is closed or
-/// of another kind.
+/// answer's number: DONE, FULL, BUSY or WORN. A refusal leaves the cell reserved. After WORN, reserve one of the next
+/// generation with `kfifo_c_reserve_next`, or cancel it. Returns BAD_CALL, with nothing done, where none is reserved,
+/// or the handle is closed or of another kind.
 #[unsafe(no_mangle)]
 pub extern "C" fn kfifo_c_publish(pass: &mut Handle) -> u32
     ensures answer { (answer : Option (HasGiven (Unit {0}))) × (result ≡ call_number answer)
@@ -57,6 +58,44 @@ pub extern "C" fn kfifo_c_publish(pass: &mut Handle) -> u32
         return BAD_CALL;
     }
     let given = pass.held.seat_mut::<CellSeat>().publish();
+    call_status(&given)
+}
+
+/// Reserves a cell of the newest generation, as `RenewingHandle::reserve_next`, beside one that is reserved in an older
+/// generation and stays so. Where a cell of the newest generation is reserved already, it is that one. Writes where the
+/// cell lies, and returns DONE. Returns FULL, and writes nothing, where no cell is free; BAD_CALL, with nothing done,
+/// where the handle is closed or of another kind.
+#[unsafe(no_mangle)]
+pub extern "C" fn kfifo_c_reserve_next(pass: &mut Handle, cell: &mut CellAt) -> u32
+    ensures answer { (answer : Option (Option HasCellAt)) × (result ≡ reservation_number answer)
+        × (cell.new ≡ cell_after_reserve cell.old answer)
+        × Tries Cells (λ _. ⊤) ReservesNextAt answer pass.old.held.value pass.new.held.value }
+    ensures fields { fields_of pass.new ≡ fields_of pass.old }
+{
+    if pass.kind != CELLS {
+        return BAD_CALL;
+    }
+    let Some(reserved) = pass.held.seat_mut::<CellSeat>().reserve_next() else {
+        return FULL;
+    };
+    *cell = reserved;
+    DONE
+}
+
+/// Puts the cell that is reserved in the newest generation into the queue, as `RenewingHandle::publish_next`, and
+/// returns its answer's number: DONE, and the cell that is reserved in an older generation is given back; or FULL, BUSY
+/// or WORN, and that of the newest one is given back. Returns BAD_CALL, with nothing done, where none is reserved
+/// there, or the handle is closed or of another kind.
+#[unsafe(no_mangle)]
+pub extern "C" fn kfifo_c_publish_next(pass: &mut Handle) -> u32
+    ensures answer { (answer : Option (HasGiven (Unit {0}))) × (result ≡ call_number answer)
+        × Tries Cells (λ _. ⊤) PublishesNext answer pass.old.held.value pass.new.held.value }
+    ensures fields { fields_of pass.new ≡ fields_of pass.old }
+{
+    if pass.kind != CELLS {
+        return BAD_CALL;
+    }
+    let given = pass.held.seat_mut::<CellSeat>().publish_next();
     call_status(&given)
 }
 

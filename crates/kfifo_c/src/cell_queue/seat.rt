@@ -1,6 +1,6 @@
 //! What a handle of a queue of cells stands for.
 ghost use Rattle.std.specs.Prelude.{◌≡◌};
-ghost use Rattle.kfifo_renewing.specs.Cells.{CallsOnce, ReceivesOldest, ReservesOne};
+ghost use Rattle.kfifo_renewing.specs.Cells.{CallsOnce, PublishesNext, ReceivesOldest, ReservesNewest, ReservesOne};
 ghost use Rattle.kfifo_renewing.specs.Renewing.{Counts};
 ghost use Rattle.kfifo_renewing.specs.Memory.{cell_reserved};
 ghost use Rattle.kfifo_renewing.specs.declared.cells.CellCall.TheVariants.{Cancel, Publish, Release};
@@ -88,6 +88,20 @@ impl CellSeat {
         ensures { CallsOnce Publish result self.old self.new }
     {
         self.handle.publish()
+    }
+
+    /// Reserves a cell of the newest generation, or finds the one that is reserved there.
+    pub(crate) fn reserve_next(&mut self) -> Option<CellAt>
+        ensures { ReservesNewest (cell_reserved result) self.old self.new }
+    {
+        self.handle.reserve_next()
+    }
+
+    /// Puts the cell that is reserved in the newest generation into the queue, in place of an older one.
+    pub(crate) fn publish_next(&mut self) -> Given<()>
+        ensures { PublishesNext result self.old self.new }
+    {
+        self.handle.publish_next()
     }
 
     /// Gives the cell that is reserved back.
