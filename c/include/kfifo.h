@@ -1049,7 +1049,7 @@ static inline kfifo_status kfifo_bare_publish_next(kfifo_handle *handle) {
 
 /* The generation of the reserved cell takes no more. Copies what is in it into a cell of the next generation, and
    publishes that. If it cannot, the reserved cell stays as it is. WORN comes where there is no next generation. */
-__attribute__((noinline, cold)) static inline kfifo_status kfifo_bare_move_on(kfifo_handle *handle) {
+__attribute__((cold)) static inline kfifo_status kfifo_bare_move_on(kfifo_handle *handle) {
     kfifo_cell_at from, to;
     kfifo_status status = kfifo_bare_reserve(handle, &from); /* finds it */
     if (status != KFIFO_DONE) return status;
@@ -1066,12 +1066,6 @@ __attribute__((noinline, cold)) static inline kfifo_status kfifo_bare_move_on(kf
     }
     KFIFO_END(handle);
     return status;
-}
-
-/* For cells whose bytes may be copied: in C++ a value is moved to the next cell by its type. */
-static inline kfifo_status kfifo_bare_publish_or_move(kfifo_handle *handle) {
-    kfifo_status status = kfifo_bare_publish(handle);
-    return __builtin_expect(status == KFIFO_WORN, 0) ? kfifo_bare_move_on(handle) : status;
 }
 
 static inline kfifo_status kfifo_bare_cancel(kfifo_handle *handle) {
@@ -1133,7 +1127,12 @@ KFIFO_MUST_USE static inline kfifo_status kfifo_reserve(kfifo_handle *handle, vo
 */
 KFIFO_MUST_USE static inline kfifo_status kfifo_publish_once(kfifo_handle *handle) {
     if (!KFIFO_IS_OF(handle, KFIFO_CELLS)) return KFIFO_BAD_CALL;
-    KFIFO_LOOKING_GIVE(handle, KFIFO_FINISHED, kfifo_bare_publish_or_move(handle));
+    kfifo_waits *waits = KFIFO_WAITS(handle);
+    if (__builtin_expect(kfifo_is_finished(waits), 0)) return KFIFO_FINISHED;
+    kfifo_status status = kfifo_bare_publish(handle);
+    /* One test in all: a caller that tests for BUSY need not do so after this. */
+    if (__builtin_expect(status == KFIFO_DONE, 1)) return kfifo_after_give(waits, KFIFO_DONE);
+    return kfifo_after_give(waits, status == KFIFO_WORN ? kfifo_bare_move_on(handle) : status);
 }
 
 /* Puts the reserved cell into the queue, and wakes a thread that waits for it: DONE, and the cell is no longer the

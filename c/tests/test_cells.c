@@ -421,7 +421,7 @@ static void waits_to_move(void) {
     void *cell = NULL, *again = NULL;
     uint64_t number = 0, in = 0, out = 0;
     kfifo_status status = KFIFO_DONE;
-    expect(kfifo_open_cells_with(1, 4, 8, 8, 200, 2, 1, two, 2), KFIFO_DONE, "open to wait");
+    expect(kfifo_open_cells_with(1, 4, 8, 8, 201, 2, 1, two, 2), KFIFO_DONE, "open to wait");
     expect(kfifo_reserve(&two[0], &cell), KFIFO_DONE, "a reserve that waits");
     *(uint64_t *)cell = 77;
     for (uint64_t i = 0; i < 110 && !failed; i++) { /* 100 use up the versions of the first one */

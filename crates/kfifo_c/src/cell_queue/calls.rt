@@ -75,11 +75,13 @@ pub extern "C" fn kfifo_c_reserve_next(pass: &mut Handle, cell: &mut CellAt) -> 
     if pass.kind != CELLS {
         return BAD_CALL;
     }
-    let Some(reserved) = pass.held.seat_mut::<CellSeat>().reserve_next() else {
-        return FULL;
-    };
-    *cell = reserved;
-    DONE
+    match pass.held.seat_mut::<CellSeat>().reserve_next() {
+        Some(next) => {
+            *cell = next;
+            DONE
+        }
+        None => FULL,
+    }
 }
 
 /// Puts the cell that is reserved in the newest generation into the queue, as `RenewingHandle::publish_next`, and

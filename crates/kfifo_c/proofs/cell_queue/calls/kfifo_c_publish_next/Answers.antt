@@ -10,7 +10,14 @@ pub returns-clause-answer : goal.returns-clause-answer
 returns-clause-answer c = (
   Some c.publish_next-given.result,
   c.call_status.ensures,
-  (c.seat_mut.result.now, c.publish_next-given.new.self, c.seat_mut.ensures.value, refl, tt, c.publish_next-given.ensures),
+  (
+    c.seat_mut.result.now,
+    c.publish_next-given.new.self,
+    c.seat_mut.ensures.value,
+    refl,
+    tt,
+    c.publish_next-given.ensures,
+  ),
 )
 
 pub returns-then-pass-ne-CELLS-clause-answer : goal.returns-then-pass-ne-CELLS-clause-answer

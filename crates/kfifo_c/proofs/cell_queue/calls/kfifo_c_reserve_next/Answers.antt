@@ -7,16 +7,16 @@ use Rattle.kfifo_c.proofs.cell_queue.calls.kfifo_c_reserve_next.Goals as goal
 pub seat_mut-requires : goal.seat_mut-requires
 seat_mut-requires c = cells_found _ (sym c.args.pass.now.kind_is ∙ c.if-pass-ne-CELLS.false)
 
-pub returns-in_default-clause-answer : goal.returns-in_default-clause-answer
-returns-in_default-clause-answer c = (
+pub returns-in-None-clause-answer : goal.returns-in-None-clause-answer
+returns-in-None-clause-answer c = (
   Some c.reserve_next.result,
-  ap (λ r. reservation_number (Some r)) (sym c.in_default.is),
-  ap (λ r. cell_after_reserve c.args.cell.now (Some r)) (sym c.in_default.is),
+  ap (λ r. reservation_number (Some r)) (sym c.in-None.is),
+  ap (λ r. cell_after_reserve c.args.cell.now (Some r)) (sym c.in-None.is),
   (c.seat_mut.result.now, c.reserve_next.new.self, c.seat_mut.ensures.value, refl, tt, c.reserve_next.ensures),
 )
 
-pub returns-clause-answer : goal.returns-clause-answer
-returns-clause-answer c = (
+pub returns-in-Some-clause-answer : goal.returns-in-Some-clause-answer
+returns-in-Some-clause-answer c = (
   Some c.reserve_next.result,
   ap (λ r. reservation_number (Some r)) (sym c.in-Some.is),
   ap (λ r. cell_after_reserve c.args.cell.now (Some r)) (sym c.in-Some.is),
