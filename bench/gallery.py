@@ -3,10 +3,10 @@
 
     bench/gallery.py [--program PATH] [--out FOLDER] [--runs N]
 
-Four threads alternate puts and takes, and at the end one thread takes until the queue is empty. Where a verdict is a matter of
-luck, the queue is run again, at most N times, until it comes. For each queue the script prints a row of the page's table,
-with the processor time of `kfifo judge`; FOLDER gets the logs, and a picture of each piece of evidence: of a k-relaxed queue
-that it is no queue of k - 1. The last line is 'N passed, M failed'.
+Four threads alternate puts and takes, and at the end one thread takes until the queue is empty. Where a verdict is a
+matter of luck, the queue is run again, at most N times, until it comes. For each queue the script prints a row of the
+page's table, with the processor time of `kfifo judge`; FOLDER gets the logs, and a picture of each piece of evidence:
+of a k-relaxed queue that it is no queue of k - 1. The last line is 'N passed, M failed'.
 
 It needs what bench/run.py needs, and kfifo: PATH is crates/kfifo/out/kfifo where it is left out.
 """

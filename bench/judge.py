@@ -1,14 +1,16 @@
 #!/usr/bin/env python3
 """Judges legal runs whose items repeat, and writes a table of how many `kfifo judge` decides and how long it takes.
 
-A simulated run is one of a k-relaxed queue whose calls overlap: each call takes its place at a moment between its beginning and its
-end, and a dequeue takes any of the k oldest items. A real run is one of `kfifo record`, a thread for each script. So all runs have a
-legal order, and any other verdict than `legal` is a miss. In a third of the simulated runs the last calls of some threads never end.
+A simulated run is one of a k-relaxed queue whose calls overlap: each call takes its place at a moment between its
+beginning and its end, and a dequeue takes any of the k oldest items. A real run is one of `kfifo record`, a thread for
+each script. So all runs have a legal order, and any other verdict than `legal` is a miss. In a third of the simulated
+runs the last calls of some threads never end.
 
     bench/judge.py KFIFO [--runs N] [--seed N] [--long] [--out FOLDER]
 
-KFIFO is the built program. N is 300 runs of a class where it is left out; with --long it is 5, of 65,536 calls each. --out keeps the
-records that are missed. A time is the processor time of one `kfifo judge`, reading and printing included, so other work on the machine hardly changes it.
+KFIFO is the built program. N is 300 runs of a class where it is left out; with --long it is 5, of 65,536 calls each.
+--out keeps the records that are missed. A time is the processor time of one `kfifo judge`, reading and printing
+included, so other work on the machine hardly changes it.
 """
 import argparse
 import heapq
@@ -145,7 +147,8 @@ def told(name, k, modulus, verdicts, times):
     items = f"modulo {modulus}" if modulus else "distinct"
     counts = ", ".join(f"{v} {verdicts.count(v)}" for v in sorted(set(verdicts)))
     middle = sorted(times)[len(times) // 2]
-    print(f"| {name} | {k} | {items} | {counts} of {len(verdicts)} | {1000 * middle:.0f} ms | {1000 * max(times):.0f} ms |", flush=True)
+    took = f"{1000 * middle:.0f} ms | {1000 * max(times):.0f} ms"
+    print(f"| {name} | {k} | {items} | {counts} of {len(verdicts)} | {took} |", flush=True)
 
 
 def class_told(args, name, k, modulus, recorded):

@@ -56,7 +56,10 @@ def rate(program, calls, threads, k, options):
     rates = []
     for _ in range(options.rounds):
         said = subprocess.run(
-            [program, str(calls), str(threads), str(k), str(options.seconds)], capture_output=True, text=True, check=True
+            [program, str(calls), str(threads), str(k), str(options.seconds)],
+            capture_output=True,
+            text=True,
+            check=True,
         ).stdout
         rates.append(float(said.split()[0]))
     return statistics.median(rates)

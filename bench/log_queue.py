@@ -1,5 +1,6 @@
 #!/usr/bin/env python3
-"""Logs a run of Python's queue.Queue as log_queue.cpp does. The arguments are the threads, and how often each puts and takes."""
+"""Logs a run of Python's queue.Queue as log_queue.cpp does. The arguments are the threads, and how often each puts and
+takes."""
 import pathlib
 import queue
 import sys

@@ -7,8 +7,8 @@ ROOT = pathlib.Path(__file__).resolve().parent.parent
 TYPE = re.compile(r"^(?:pub(?:\([^)]*\))? )?(?:struct|enum) (\w+)", re.M)
 FUNCTION = re.compile(r'^( *)(?:pub(?:\([^)]*\))? )?(?:const )?(?:unsafe )?(?:extern "C" )?fn (\w+)')
 BLOCK = re.compile(r"^( *)(?:pub(?:\([^)]*\))? )?(?:unsafe )?(?:impl\b|trait (\w+))")
-# A proof that says nothing: who calls the function is judged by its contract alone. A function that calls itself has its
-# statement, its proof and their folder under a name with a plus before it.
+# A proof that says nothing: who calls the function is judged by its contract alone. A function that calls itself has
+# its statement, its proof and their folder under a name with a plus before it.
 HOLE = """use Rattle.{module}.{{statement}}
 
 pub {name}_spec : {{M : Type 1}} → statement M

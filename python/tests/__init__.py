@@ -1,4 +1,5 @@
-"""Tests of kfifo_test: the check finds the fault of each faulty queue, and passes the right ones. They run in the folder above:
+"""Tests of kfifo_test: the check finds the fault of each faulty queue, and passes the right ones. They run in the
+folder above:
 
     python3 -W error -m unittest
     python3 -W error -m unittest tests.test_hangs

@@ -109,8 +109,8 @@ impl<T> Handle<T> {
         unsafe { self.shared.push(self.number, value, Looks::Once) }
     }
 
-    /// Puts a value, and sleeps while there is no room for it. It is refused as `OutOfMemory`, `Finished` or `Worn`, and
-    /// as `Finished` too where neither the queue object nor another handle is left, since nobody makes room then.
+    /// Puts a value, and sleeps while there is no room for it. It is refused as `OutOfMemory`, `Finished` or `Worn`. It
+    /// is refused as `Finished` too where neither the queue object nor another handle is left: nobody makes room then.
     ///
     /// Cost: as [`Handle::push`] where it need not sleep, and a copy of the value more for each further look.
     ///

@@ -466,7 +466,8 @@ fn push_key(text: &mut String, top: usize, whole: usize) -> Result<(), AllocErro
 fn push_beginning(text: &mut String, width: usize, height: usize) -> Result<(), AllocError> {
     writeln!(
         text,
-        "<svg xmlns=\"http://www.w3.org/2000/svg\" width=\"{width}\" height=\"{height}\" viewBox=\"0 0 {width} {height}\">"
+        "<svg xmlns=\"http://www.w3.org/2000/svg\" width=\"{width}\" height=\"{height}\" \
+         viewBox=\"0 0 {width} {height}\">"
     )?;
     text.push_str("<title>Calls of a queue</title>\n")?;
     text.push_str(STYLES)?;

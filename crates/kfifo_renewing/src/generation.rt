@@ -1,8 +1,6 @@
 //! A generation: a queue of payloads, with the handles that wait in it for their threads.
 ghost use Rattle.std.specs.Prelude.{◌≡◌, ◌<◌, ◌≤◌, ◌+◌, ◌++◌, ◌⊎◌, [], ◌∷◌, All, IfOk, IfSome, MatchOption, Some};
-ghost use Rattle.std.specs.Prelude.{length};
-ghost use Rattle.std.specs.Prelude.{map, true};
-ghost use Rattle.std.specs.Prelude.{vec_capacity};
+ghost use Rattle.std.specs.Prelude.{length, map, true, vec_capacity};
 ghost use Rattle.std.specs.List.{Contains};
 ghost use Rattle.kfifo_pool.specs.Pooled.{Pooled};
 ghost use Rattle.kfifo_live.specs.Pass.{IsPassOf};

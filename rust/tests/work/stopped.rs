@@ -102,9 +102,9 @@ fn tasks_without_errors_are_done() {
     assert_eq!(total(&done.expect("no error")), 1);
 }
 
-/// A run whose 64 threads have stacks of 300 MB where 1.4 GB can be had: some start, and one does not. It begins no task,
-/// and hands all back. With stacks of the usual size a thread that has started would run out of memory as well, and then
-/// the standard library aborts.
+/// A run whose 64 threads have stacks of 300 MB where 1.4 GB can be had: some start, and one does not. It begins no
+/// task, and hands all back. With stacks of the usual size a thread that has started would run out of memory as well,
+/// and then the standard library aborts.
 #[cfg(target_arch = "x86_64")]
 #[test]
 fn a_thread_that_is_not_started_ends_the_run() {

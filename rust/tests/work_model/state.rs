@@ -8,8 +8,8 @@ pub enum Kind {
     Other,
 }
 
-/// Where a worker is: each is one atomic step. What holds the lock of the list is one step, but for a move, during which
-/// it is held.
+/// Where a worker is: each is one atomic step. What holds the lock of the list is one step, but for a move, during
+/// which it is held.
 #[derive(Clone, Copy, Debug, PartialEq, Eq, Hash)]
 pub enum Step {
     CountGiven { depth: u8, left: u8 },
