@@ -443,11 +443,14 @@ static inline void kfifo_pause(const void *handle, uint32_t times) {
     }                                                                                                                  \
     return status
 
-/* Returns what a give comes to: `finished` if the queue was finished before. Else it wakes a thread that waits. */
+/* Returns what a give comes to: `finished` if the queue was finished before. Else it wakes a thread that waits. One
+   that is done is told apart first: a caller that tests for BUSY then need not do so. */
 #define KFIFO_LOOKING_GIVE(handle, finished, call)                                                                     \
     kfifo_waits *waits = KFIFO_WAITS(handle);                                                                          \
     if (__builtin_expect(kfifo_is_finished(waits), 0)) return (finished);                                              \
-    return kfifo_after_give(waits, (call))
+    kfifo_status status = (call);                                                                                      \
+    if (__builtin_expect(status == KFIFO_DONE, 1)) return kfifo_after_give(waits, KFIFO_DONE);                         \
+    return kfifo_after_give(waits, status)
 
 /* Returns what a take comes to, and wakes a thread that waits for room: FINISHED for EMPTY if the queue was finished,
    and then found empty. A value may have come between the look and the end. */
@@ -1068,6 +1071,13 @@ __attribute__((cold)) static inline kfifo_status kfifo_bare_move_on(kfifo_handle
     return status;
 }
 
+/* For cells whose bytes may be copied: in C++ a value is moved to the next cell by its type. */
+static inline kfifo_status kfifo_bare_publish_or_move(kfifo_handle *handle) {
+    kfifo_status status = kfifo_bare_publish(handle);
+    if (__builtin_expect(status == KFIFO_DONE, 1)) return KFIFO_DONE; /* first, as KFIFO_LOOKING_GIVE does */
+    return status == KFIFO_WORN ? kfifo_bare_move_on(handle) : status;
+}
+
 static inline kfifo_status kfifo_bare_cancel(kfifo_handle *handle) {
     KFIFO_BEGIN(handle, "kfifo_cancel");
     KFIFO_BEFORE_RELEASE(handle);
@@ -1127,12 +1137,7 @@ KFIFO_MUST_USE static inline kfifo_status kfifo_reserve(kfifo_handle *handle, vo
 */
 KFIFO_MUST_USE static inline kfifo_status kfifo_publish_once(kfifo_handle *handle) {
     if (!KFIFO_IS_OF(handle, KFIFO_CELLS)) return KFIFO_BAD_CALL;
-    kfifo_waits *waits = KFIFO_WAITS(handle);
-    if (__builtin_expect(kfifo_is_finished(waits), 0)) return KFIFO_FINISHED;
-    kfifo_status status = kfifo_bare_publish(handle);
-    /* One test in all: a caller that tests for BUSY need not do so after this. */
-    if (__builtin_expect(status == KFIFO_DONE, 1)) return kfifo_after_give(waits, KFIFO_DONE);
-    return kfifo_after_give(waits, status == KFIFO_WORN ? kfifo_bare_move_on(handle) : status);
+    KFIFO_LOOKING_GIVE(handle, KFIFO_FINISHED, kfifo_bare_publish_or_move(handle));
 }
 
 /* Puts the reserved cell into the queue, and wakes a thread that waits for it: DONE, and the cell is no longer the

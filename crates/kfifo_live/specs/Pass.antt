@@ -134,10 +134,8 @@ pub record IsJoined {T : Type 0} (v : View T) (ps : List PassView) (w : View T) 
 
 -- What is left at the end: there is one schedule, a beginning of which each pass has seen with all its own events, and
 -- the items are the ones in the filled slots after it, none where a pass saw the queue sealed empty. No item is lost
--- and
--- none comes twice: the items put in that schedule are the ones undone, the ones taken and the ones left, each as
--- often.
--- And that schedule keeps the promise
+-- and none comes twice: the items put in that schedule are the ones undone, the ones taken and the ones left, each as
+-- often. And that schedule keeps the promise
 pub record Closes (q : OpenQueue) (ps : List PassView) (items : List ℕ) : Type 0 where
   pub all : List Event
   pub world : World

@@ -35,8 +35,7 @@ abbrev pub EmptyBelow : Shape → (ℕ → ℕ) → ℕ → ℕ → Type 0
 EmptyBelow shape w segment m = (j : ℕ) → j < m → value_of (w (slot_at shape.k segment j)) ≡ 0
 
 -- Why an undisturbed enqueue has rounds enough: the tail has yet so far to go; or the head was moved on and the segment
--- that it
--- left, where the tail goes next, is empty; or the tail is there
+-- that it left, where the tail goes next, is empty; or the tail is there
 pub data Room (shape : Shape) (w : ℕ → ℕ) (left ends : ℕ) : Type 0 where
   Early : shape.n + 1 < left + ahead shape ends → Room shape w left ends
   Freed : 1 < left → next_segment shape.n (tail_of ends) ≢ head_of ends

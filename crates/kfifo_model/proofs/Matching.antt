@@ -223,8 +223,7 @@ both_tests a b p q f r e =
     and_from p (not q) (f s.0) (not_from_false q (false_from_ne_true q (λ w. false≢true (sym (not-true b s.1) ∙ r w))))
 
 -- calls c and d among ns, and i and j among ms, which do the same e and f: where d overtakes c, j overtakes i, if what
--- is put
--- after c is put after i, and what is taken, and not after j, is taken, and not after d
+-- is put after c is put after i, and what is taken, and not after j, is taken, and not after d
 overtakes_still : (act now : ℕ → Effect) (before sooner : ℕ → ℕ → Bool) (ns ms : List ℕ) (c d i j : ℕ) (e f : Effect)
     → ((y : ℕ) → some (puts_after act before c y) ns ≡ true → some (puts_after now sooner i y) ms ≡ true)
     → ((x : ℕ) → some (takes_by now sooner j x) ms ≡ true → some (takes_by act before d x) ns ≡ true)

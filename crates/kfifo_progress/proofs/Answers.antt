@@ -74,8 +74,7 @@ answers_busy (Goes q) e = absurd (cc)
 answers_busy (Answers answer) e = let z : Busy ≡ answer = cc in ap Answers (sym z)
 
 -- the turns of the calls, in a wide ring and in another one, and what all restarts cost in rounds and in steps: a wide
--- ring
--- needs none
+-- ring needs none
 abbrev turns_in : Shape → ℕ → Bool → ℕ
 turns_in shape threads wide = if wide then most_changes shape threads (2 * threads) + 2 * threads + 3
     else (threads + 1) * (most_changes shape threads threads + 1) + 2
@@ -87,8 +86,7 @@ abbrev steps_by : Shape → ℕ → Bool → ℕ → ℕ
 steps_by shape threads wide busy = if wide then 0 else busy * (most_steps shape threads threads + 1)
 
 -- a stretch with no answer but Busy, in which a thread that was in no call at its begin is watched, or none. The last
--- part
--- of it goes on without a restart
+-- part of it goes on without a restart
 record Stretched (shape : Shape) (threads : ℕ) (wide : Bool) (watched : Option ℕ) (world : World) (l : Ledger)
     (steps : ℕ) : Type 0 where
   busy : ℕ

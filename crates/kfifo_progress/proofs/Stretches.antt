@@ -28,8 +28,7 @@ use Rattle.kfifo_progress.proofs.Charges.{HasKept, HasKept-others, own_kept}
 use Rattle.kfifo_progress.proofs.Undos.{HasPassed, Undos}
 
 -- a stretch that began when the tail was in visit `from`. A thread may have a second name, threads more than its
--- number,
--- with which it is charged once, when it is no longer old
+-- number, with which it is charged once, when it is no longer old
 pub record Stretch (shape : Shape) (threads names from : ℕ) (old : ℕ → Bool) (w : ℕ → ℕ) (p : ℕ → Option Running)
     (l : Ledger) (charge : ℕ → Option ℕ) : Type 0 where
   pub kept : (v : ℕ) → from < v → l.head ≤ v → v < l.tail → Kept shape w charge Every v

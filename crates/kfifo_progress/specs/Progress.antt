@@ -73,8 +73,7 @@ round_steps shape = 2 * shape.k + 9
 
 -- The bounds of a stretch in which no call ends: how often head and tail are moved, how many words are changed, and how
 -- many steps are made. A thread puts an item into a slot or takes one out three times at most, and twice more after
--- each
--- move of the head past the visit in which the tail was first, of which there are at most `past + 1`
+-- each move of the head past the visit in which the tail was first, of which there are at most `past + 1`
 abbrev pub most_moves : Shape → ℕ → ℕ
 most_moves shape past = 2 * (past + shape.n)
 
@@ -97,9 +96,8 @@ SomeCallEnds shape threads = (events stretch : List Event) (here there : World)
 
 -- Turns that no call loses before some call answers, and the steps until then. A call loses at most one round for each
 -- word that changes, and one more, until a call ends; and each thread may have one call that ends with Busy, as it
--- began
--- before. In a ring with more than twice as many segments as threads this Busy costs two more changes of words, in a
--- smaller one all begins again
+-- began before. In a ring with more than twice as many segments as threads this Busy costs two more changes of words,
+-- in a smaller one all begins again
 abbrev pub is_wide : Shape → ℕ → Bool
 is_wide shape threads = nat_lt (2 * threads) shape.n
 

@@ -46,8 +46,7 @@ abbrev pub MakesOne : Begin → Logged → Logged → Type 0
 MakesOne begin old new = IsSamePass old.pass new.pass × ((answer : Answer) × MakesStamped begin answer old new)
 
 -- a pass makes the calls of a script in turn, and the gate says of each that it was passed with its number, from this
--- one
--- on
+-- one on
 abbrev pub MakesInTurn : (ℕ → Type 0) → ℕ → List Begin → Logged → Logged → Type 0
 MakesInTurn Passed number [] old new = new ≡ old
 MakesInTurn Passed number (begin ∷ script) old new = (next : Logged) × Passed number × MakesOne begin old next

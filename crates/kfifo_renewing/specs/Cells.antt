@@ -66,8 +66,7 @@ module _ {T : Type 0} where
     pub reserves : ReservesCell answer old.newest new.newest
 
   -- A try: the handle follows others, and reserves a cell of its newest generation, which was the newest of the queue
-  -- at
-  -- a look just before. None: no cell was free there, or at a look another generation was the newest
+  -- at a look just before. None: no cell was free there, or at a look another generation was the newest
   abbrev pub TriesToReserve : Option ℕ → Generations T → Generations T → Type 0
   TriesToReserve answer old new = (here : Generations T) × Follows old here
       × ((IsAtNewest old here × ReservesThere answer here new)

@@ -310,8 +310,7 @@ module _ {T : Type 0} where
   OpensMore more handles = All (λ g. opens_more g.seen ≡ more) handles
 
   -- a queue was opened with room for so many values, bare or with payloads, with the sizes for that capacity and
-  -- versions
-  -- up to `last`: these are its handles
+  -- versions up to `last`: these are its handles
   pub record OpensFor (bare : Bool) (k capacity last threads : ℕ) (handles : List (Generations T)) : Type 0 where
     pub sizes : Sizes
     pub k_is : sizes.shape.k ≡ k
