@@ -124,7 +124,7 @@ static inline const char *kfifo_status_text(kfifo_status status) {
     return "no status of this library";
 }
 
-/* Whether a later call may do better: true of FULL, EMPTY and BUSY. A loop that retries another status never ends.
+/* Whether a later call may do better: true of FULL, EMPTY and BUSY. A loop that retries another status may never end.
    Cost: three comparisons.
 
        while (kfifo_may_retry(put = kfifo_put(&handles[0], 7))) sched_yield();
@@ -779,7 +779,7 @@ KFIFO_MUST_USE static inline kfifo_status kfifo_close(kfifo_handle *handles, siz
 
    The queue may grow to `generations` at a time, 1 to 129 - 2 * threads: a give that finds no room opens the next one,
    as long as there are fewer. So there is room for generations * capacity values. A generation is freed once it is
-   empty and each handle that gave to it has made another call. If there is no memory for one, a give returns NO_MEMORY,
+   empty and each handle that was in it has made another call. If there is no memory for one, a give returns NO_MEMORY,
    and a later one tries again. With reserve 0 a queue that grows also opens one where a give finds no version left, but
    takes then return WORN for ever if values are left in the old one: a close gives them back.
 
@@ -942,8 +942,9 @@ KFIFO_MUST_USE static inline kfifo_status kfifo_close_values(kfifo_handle *handl
 /* ---- A queue of cells, for values of any size ----
 
    A thread reserves a cell, writes into it and publishes it. Another receives it, reads it and releases it. So a value
-   stays where it was made. A publish copies it only where the generation of its cell takes no more. The cells are the
-   library's memory; with `capacity`, the generations, growth and WORN it is as with values.
+   stays where it was made. A publish copies it only if the generation of its cell accepts no more cells: kfifo_publish
+   says when. The cells are the library's memory. What is said of `capacity`, generations, growth and WORN of a queue of
+   values holds here too.
 
        struct frame { int width, height; unsigned char pixels[4096]; };
        struct frame *frame = NULL;
@@ -1116,7 +1117,7 @@ static inline kfifo_status kfifo_bare_looking_receive(kfifo_handle *handle, kfif
 /* Reserves a cell: DONE, and writes where it is. Until kfifo_publish puts it into the queue, the cell is the handle's
    alone, and a further call writes the same one. What is in it is whatever was there before. Else FULL, where no cell
    is free, NO_MEMORY of a queue that was to grow, FINISHED or BAD_CALL, and *cell stays.
-   Cost: a few dozen instructions, without an atomic step unless it fetches cells that others have released.
+   Cost: a few dozen instructions, whose atomic steps are loads unless it fetches cells that others have released.
 
        if (kfifo_reserve(&handles[0], &cell) != KFIFO_DONE) return 1;
        frame = cell;
@@ -1142,12 +1143,12 @@ KFIFO_MUST_USE static inline kfifo_status kfifo_publish_once(kfifo_handle *handl
 
 /* Puts the reserved cell into the queue, and wakes a thread that waits for it: DONE, and the cell is no longer the
    handle's. Else FULL, NO_MEMORY of a queue that was to grow, FINISHED or WORN, and the cell is still reserved, where
-   it was. BAD_CALL, also where none is reserved. After DONE too, takes may no longer reach the cell where kfifo_give
-   says so of a value.
+   it was. BAD_CALL, also where none is reserved. Even after DONE, takes may no longer reach the cell: kfifo_give
+   says when.
 
-   The generation of the cell may take no more: while it was reserved, the others went on in the next one. Then the
-   call copies the bytes of the cell into one of the next generation, and publishes that. So no pointer in a cell may
-   point into the cell. WORN comes where there is no next generation.
+   The versions of the cell's generation may be used up while the cell is reserved. Then the call copies the bytes of
+   the cell into one of the next generation, and publishes that. So no pointer in a cell may point into the cell. WORN
+   comes if there is no next generation.
    Cost: as kfifo_give. A publish that copies also reserves a cell, and copies as many bytes as a cell has.
 
        if (kfifo_publish(&handles[0]) != KFIFO_DONE) puts("the cell is still reserved");
@@ -1156,8 +1157,8 @@ KFIFO_MUST_USE static inline kfifo_status kfifo_publish(kfifo_handle *handle) {
     KFIFO_UNLESS_BUSY(handle, kfifo_publish_once(handle));
 }
 
-/* Gives the reserved cell back: DONE, and any handle may reserve it. BAD_CALL, also where none is reserved. A cell that
-   stays reserved is one that no other handle can have.
+/* Gives the reserved cell back: DONE, and any handle may reserve it. BAD_CALL, also where none is reserved. While a
+   cell stays reserved, no other handle can have it.
    Cost: as kfifo_reserve.
 
        if (kfifo_cancel(&handles[0]) != KFIFO_DONE) return 1;
@@ -1229,9 +1230,9 @@ KFIFO_MUST_USE static inline kfifo_status kfifo_close_cells(kfifo_handle *handle
     return status;
 }
 
-/* Writes where the next one of the cells is that were left, in the queue's order, those of the oldest generation first:
-   DONE. EMPTY where there is none any more, and BAD_CALL of a null pointer or where nothing is kept: *cell stays. The
-   cells stay where they are until kfifo_free_left.
+/* Writes where the next cell is, of those that were left, in the queue's order, those of the oldest generation first:
+   DONE. EMPTY after the last one, and BAD_CALL of a null pointer or where nothing is kept: *cell stays. The cells stay
+   where they are until kfifo_free_left.
    Cost: a few dozen instructions.
 
        while (kfifo_next_left(&left, &cell) == KFIFO_DONE) show(cell);
@@ -1244,7 +1245,8 @@ KFIFO_MUST_USE static inline kfifo_status kfifo_next_left(kfifo_left *left, void
     return status;
 }
 
-/* Frees the cells that were left, and what is in them is lost. Without any, or of a null pointer, it does nothing.
+/* Frees the cells that were left, and what is in them is lost. It does nothing if there are none, or for a null
+   pointer.
    Cost: it frees the memory of each generation.
 
        kfifo_free_left(&left);

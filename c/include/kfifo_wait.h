@@ -176,7 +176,7 @@ KFIFO_MUST_USE static inline kfifo_status kfifo_reserve_wait(kfifo_handle *handl
 }
 
 /* Puts the reserved cell into the queue, and waits at most `nanoseconds` while there is no room for it: DONE; else
-   TIMED_OUT, FINISHED, WORN or BAD_CALL.
+   TIMED_OUT, NO_MEMORY of a queue that was to grow, FINISHED, WORN or BAD_CALL.
    Cost: as kfifo_publish where it need not wait.
 
        if (kfifo_publish_wait(&handles[0], KFIFO_FOREVER) != KFIFO_DONE) return 1;
