@@ -101,9 +101,10 @@ impl<T: Drop> RenewingHandle<T, Payloads> {
     /// whether memory was missing for that.
     ///
     /// Returns Done, or NoToken, Full, Busy or Worn with the payload. Busy comes where others changed the queue during
-    /// the call. Worn comes only where the generation had no version left in both tries and was still the newest:
-    /// memory is missing for the next one, old generations have all places, or the queue does not renew. It never waits
-    /// or locks, and allocates only where it opens a generation, or joins a tenth one that growth has not opened.
+    /// the call. Worn comes only where both tries went to one generation, which was still the newest, and the second
+    /// found no version left: memory is missing for the next one, old generations have all places, or the queue does
+    /// not renew. It never waits or locks, and allocates only where it opens a generation, or joins a tenth one that
+    /// growth has not opened.
     #[inline(always)]
     pub fn give(&mut self, payload: T) -> Given<T>
         ensures { GivesToNewest payload result self.old self.new }
