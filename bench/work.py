@@ -290,10 +290,7 @@ def sentences(measured):
 
 def section(measured):
     """Returns the section of the page."""
-    found = by_words(measured)
-    most = max(speed(found, it, 10000) for it in found["tree", 10000, THREADS])
-    parts = {"table": "\n".join(overview(measured)), "sentences": sentences(measured), "most": f"{most:.2f}"}
-    return pathlib.Path(SECTION).read_text().format(**parts)
+    return pathlib.Path(SECTION).read_text().format(table="\n".join(overview(measured)))
 
 
 def put_on_page(text):
